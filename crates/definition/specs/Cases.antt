@@ -1,0 +1,84 @@
+-- 01's stand cases P1 to P10, as one table under one claim: pools and holds through the calls, a start, then the requests as a plan. Assumes nothing.
+use mathlib.Core.Path.{_≡_, refl}
+use mathlib.Core.Bool.{Bool, true, false, not, _&&_, _||_}
+use mathlib.Core.List.{List, [], _∷_, _++_, map}
+use mathlib.Core.Option.{Option, none, some}
+use Prim.Native.Nat.{ℕ, zero, suc, _+_, _-_, _*_, _^_}
+use lib.Count.{onesIn}
+use lib.ListN.{length, replicate}
+use Rattle.definition.specs.Base.{anyOf, allOf, pairsOf, firstOf, lower, leastOf}
+use Rattle.definition.specs.Rows.{kinds, sameKind, sameDom, within, sameSpan, sameRow, overlap, meets, joins, clash}
+use Rattle.definition.specs.Refusal.{Refusal, tell, Answer, require}
+use Rattle.definition.specs.Sound.{tidy, fits, fitsSpan, goodRow, goodSpan, begins, inOrder, soundTable}
+use Rattle.definition.specs.Pools.{Pool, mmioPool, pioPool, hostPool, inputPool, msiPool, insert, unlessThere, addRange, rowsOf, _⊕_, room, Hold, mmioHold, hostHold, inputHold, eventHold, unreserved, allUnreserved, reserve}
+use Rattle.definition.specs.Request.{Choice, auto, at, Want, memory, ports, wire, irq, msi, Request, goodChoice, oneBit, goodWant, goodRequest, rowAt, aligned, holds, free, alignUp, candidates, lowest, allowed, unjoined, obstacle, detail, found, unopposed, Use, automatic, fixed, place, claims, resolve}
+use Rattle.definition.specs.Calls.{State, fresh, givenAt, soundAt, given, sound, pushAll, Call, pool, hold, start, addAll, serve}
+use Rattle.definition.specs.Plan.{Grant, Run, done, stopped, run, roomy, planRun}
+
+-- the pools and the holds, the requests, and for each request answered the numbers granted behind a 0, or those of the refusal
+pub record Case : Type 0 where
+  pub calls : List Call
+  pub wants : List Want
+  pub answers : List (List ℕ)
+
+abbrev case : List Call → List Want → List (List ℕ) → Case
+case c w a = record { calls = c; wants = w; answers = a }
+
+unfoldable made : List Call → State → State
+made [] s = s
+made (c ∷ cs) s = made cs (serve kinds c s)
+
+-- number, namespace, owner, detail
+unfoldable shown : Run → List (List ℕ)
+shown (done []) = []
+shown (done (g ∷ gs)) = (0 ∷ map (λ c. c .row .start) (g .rows)) ∷ shown (done gs)
+shown (stopped [] x) = (tell 0 x .number ∷ tell 0 x .namespace ∷ tell 0 x .owner ∷ tell 0 x .detail ∷ []) ∷ []
+shown (stopped (g ∷ gs) x) = (0 ∷ map (λ c. c .row .start) (g .rows)) ∷ shown (stopped gs x)
+
+abbrev asking : Want → Request
+asking w = record { requester = 3; slot = 1; want = w }
+
+pub outcome : Case → List (List ℕ)
+unfolding made shown
+outcome c = shown (planRun (map asking (c .wants)) (serve kinds start (made (c .calls) fresh)) (replicate 18 0))
+
+abbrev two64 : ℕ
+two64 = 2 ^ 64
+
+abbrev held32 : List Call → List Call
+held32 cs = hold 7 (inputHold 0 32 0 1) ∷ cs
+
+abbrev msi9 : List Call → List Call
+msi9 cs = pool automatic (msiPool 0 0 8 10 0 4 8192 8200) ∷ cs
+
+pub cases : List Case
+cases =
+    -- P1
+    case (pool automatic (mmioPool 0x1000 0x3000) ∷ hold 7 (mmioHold 0x1000 0x2000) ∷ []) (memory 0x100 0x100 auto ∷ []) ((0 ∷ 0x2000 ∷ []) ∷ [])
+    -- P2
+    ∷ case (pool automatic (mmioPool 0x1000 0x2000) ∷ pool automatic (mmioPool 0x2000 0x3000) ∷ []) (memory 0x1800 0x1000 auto ∷ []) ((7 ∷ 1 ∷ 0 ∷ 0 ∷ []) ∷ [])
+    -- P3
+    ∷ case (pool fixed (mmioPool 0 0x8000) ∷ hold 9 (mmioHold 0x3000 0x4000) ∷ hold 4 (mmioHold 0x1000 0x2000) ∷ []) (memory 0x3000 0x1000 (at 0x1000) ∷ []) ((8 ∷ 1 ∷ 9 ∷ 1 ∷ []) ∷ [])
+    -- P4
+    ∷ case (pool automatic (hostPool 40 42) ∷ hold 7 (hostHold 40 41) ∷ []) (irq auto ∷ irq auto ∷ []) ((0 ∷ 41 ∷ []) ∷ (7 ∷ 4 ∷ 0 ∷ 0 ∷ []) ∷ [])
+    -- P5
+    ∷ case (pool automatic (mmioPool (two64 - 4096) (two64 - 1)) ∷ []) (memory 4095 4096 auto ∷ []) ((0 ∷ (two64 - 4096) ∷ []) ∷ [])
+    ∷ case (pool automatic (mmioPool (two64 - 4096) (two64 - 1)) ∷ []) (memory 4096 4096 auto ∷ []) ((7 ∷ 1 ∷ 0 ∷ 0 ∷ []) ∷ [])
+    ∷ case (pool automatic (mmioPool (two64 - 4096) (two64 - 1)) ∷ []) (memory 4095 8192 auto ∷ []) ((7 ∷ 1 ∷ 0 ∷ 0 ∷ []) ∷ [])
+    -- P6
+    ∷ case (pool fixed (pioPool 0xFFF0 0xFFFF) ∷ []) (ports 1 1 (at 0xFFFE) ∷ []) ((0 ∷ 0xFFFE ∷ []) ∷ [])
+    ∷ case (pool fixed (pioPool 0xFFF0 0xFFFF) ∷ []) (ports 1 1 (at 0xFFFF) ∷ []) ((6 ∷ 2 ∷ 0 ∷ 0 ∷ []) ∷ [])
+    -- P7
+    ∷ case (pool automatic (inputPool 0 32 34) ∷ held32 []) (wire 0 0 1 auto ∷ []) ((0 ∷ 33 ∷ []) ∷ [])
+    -- P8
+    ∷ case (pool fixed (inputPool 0 32 33) ∷ held32 []) (wire 0 1 0 (at 32) ∷ []) ((8 ∷ 3 ∷ 7 ∷ 2 ∷ []) ∷ [])
+    ∷ case (pool fixed (inputPool 0 32 33) ∷ held32 []) (wire 0 0 0 (at 32) ∷ []) ((8 ∷ 3 ∷ 7 ∷ 3 ∷ []) ∷ [])
+    -- P9
+    ∷ case (msi9 (hold 7 (eventHold 0 0 8 0 4) ∷ [])) (msi 0 0 1 auto auto auto ∷ []) ((7 ∷ 5 ∷ 0 ∷ 0 ∷ []) ∷ [])
+    -- P10
+    ∷ case (msi9 []) (msi 0 0 2 auto auto auto ∷ msi 0 0 2 auto auto auto ∷ []) ((0 ∷ 8 ∷ 0 ∷ 8192 ∷ []) ∷ (0 ∷ 9 ∷ 0 ∷ 8194 ∷ []) ∷ [])
+    ∷ []
+
+pub stand-cases : map outcome cases ≡ map (λ c. c .answers) cases
+unfolding cases outcome anyOf allOf pairsOf firstOf lower leastOf sameKind sameDom within sameSpan sameRow overlap meets joins clash require tidy fits fitsSpan goodRow goodSpan begins inOrder soundTable insert unlessThere addRange rowsOf _⊕_ room unreserved allUnreserved reserve onesIn goodChoice oneBit goodWant goodRequest rowAt aligned holds free alignUp candidates lowest allowed unjoined obstacle detail found unopposed place claims resolve givenAt soundAt given sound pushAll addAll serve run roomy planRun made shown
+stand-cases = refl

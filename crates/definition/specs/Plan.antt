@@ -1,0 +1,126 @@
+-- A plan: its requests in order, up to the first refusal; its results; and its lines with their answers written back. Assumes nothing.
+use mathlib.Core.Bool.{Bool, true, false, _&&_}
+use mathlib.Core.List.{List, [], _∷_, _++_}
+use Prim.Native.Nat.{ℕ, zero, suc, _*_}
+use lib.Dec.{leb}
+use lib.ListN.{length, drop}
+use Rattle.definition.specs.Rows.{planLimit, recordSize, Kind, kinds}
+use Rattle.definition.specs.Refusal.{Refusal, malformed, short, Said, silence, tell, Answer, accepted, refused, require, _then_}
+use Rattle.definition.specs.Pools.{Holders, Claim, _⊕_}
+use Rattle.definition.specs.Request.{Choice, auto, at, Want, memory, ports, wire, irq, msi, Request, Pools, resolve}
+use Rattle.definition.specs.Calls.{State, poolsOf, ownersOf, sound, saying, granting}
+
+-- an accepted request and its rows
+pub record Grant : Type 0 where
+  pub request : Request
+  pub rows : List Claim
+
+abbrev pub grant : Request → List Claim → Grant
+grant r cs = record { request = r; rows = cs }
+
+-- ---- running
+
+pub data Run : Type 0 where
+  done : List Grant → Run  -- all accepted
+  stopped : List Grant → Refusal → Run  -- those before the refused one
+
+abbrev pub after : Grant → Run → Run
+after g (done gs) = done (g ∷ gs)
+after g (stopped gs r) = stopped (g ∷ gs) r
+
+-- each request is answered on the tables that the ones before it left
+unfoldable pub run : Pools → Holders → List Request → Run
+run P S [] = done []
+run P S (r ∷ rs) = elim (resolve P S r) [ accepted cs ↦ after (grant r cs) (run P (S ⊕ cs) rs) | refused x ↦ stopped [] x ]
+
+-- ---- the nine numbers of a result
+
+-- the first number of the i-th row
+abbrev pub baseAt : ℕ → List Claim → ℕ
+baseAt i [] = 0
+baseAt zero (c ∷ cs) = c .row .start
+baseAt (suc i) (c ∷ cs) = baseAt i cs
+
+-- kind, requester, slot, then the kind's numbers, zeros to nine
+abbrev pub record-of : ℕ → ℕ → Want → List Claim → List ℕ
+record-of q s (memory n a c) cs = 1 ∷ q ∷ s ∷ baseAt 0 cs ∷ n ∷ 0 ∷ 0 ∷ 0 ∷ 0 ∷ []
+record-of q s (ports n a c) cs = 2 ∷ q ∷ s ∷ baseAt 0 cs ∷ n ∷ 0 ∷ 0 ∷ 0 ∷ 0 ∷ []
+record-of q s (wire k t h c) cs = 3 ∷ q ∷ s ∷ k ∷ baseAt 0 cs ∷ t ∷ h ∷ 0 ∷ 0 ∷ []
+record-of q s (irq c) cs = 4 ∷ q ∷ s ∷ baseAt 0 cs ∷ 0 ∷ 0 ∷ 0 ∷ 0 ∷ 0 ∷ []
+record-of q s (msi k i n d e l) cs = 5 ∷ q ∷ s ∷ k ∷ i ∷ baseAt 0 cs ∷ baseAt 1 cs ∷ baseAt 2 cs ∷ n ∷ []
+
+unfoldable pub recordOf : Grant → List ℕ
+recordOf g = record-of (g .request .requester) (g .request .slot) (g .request .want) (g .rows)
+
+unfoldable pub records : List Grant → List ℕ
+records [] = []
+records (g ∷ gs) = recordOf g ++ records gs
+
+-- the lent list with these numbers in front: what lies past them is never written
+abbrev pub written : List ℕ → List ℕ → List ℕ
+written xs out = xs ++ drop (length xs) out
+
+-- ---- what a call hands back that is lent results
+
+pub record Lent : Type 0 where
+  pub state : State
+  pub results : List ℕ
+
+abbrev pub lent : State → List ℕ → Lent
+lent s out = record { state = s; results = out }
+
+-- one request that writes its record: 1, 11, 2 ..
+unfoldable pub allocateInto : List Kind → Request → State → List ℕ → Lent
+allocateInto ks r s out =
+    elim (require (sound ks s) malformed (require (leb recordSize (length out)) short (resolve (poolsOf s) (ownersOf s) r))) [
+      | accepted cs ↦ lent (granting cs s) (written (recordOf (grant r cs)) out)
+      | refused x ↦ lent (saying (tell 0 x) s) out
+    ]
+
+-- ---- a plan
+
+abbrev pub allRows : List Grant → List Claim
+allRows [] = []
+allRows (g ∷ gs) = g .rows ++ allRows gs
+
+-- 11: over 128 requests, or a results list shorter than 9 numbers a request
+unfoldable pub roomy : List Request → List ℕ → Bool
+roomy rs out = leb (length rs) planLimit && leb (recordSize * length rs) (length out)
+
+-- how the plan ran: 1, 11, then each request's own refusal with its index
+abbrev pub atOnce : Answer Run → Run
+atOnce (accepted v) = v
+atOnce (refused x) = stopped [] x
+
+unfoldable pub planRun : List Request → State → List ℕ → Run
+planRun rs s out =
+    atOnce (require (sound kinds s) malformed (require (roomy rs out) short (accepted (run (poolsOf s) (ownersOf s) rs))))
+
+abbrev pub grantsOf : Run → List Grant
+grantsOf (done gs) = gs
+grantsOf (stopped gs x) = gs
+
+-- a refused plan puts the tables back as they were at its start
+abbrev pub ended : State → Run → State
+ended s (done gs) = granting (allRows gs) s
+ended s (stopped gs x) = saying (tell (length gs) x) s
+
+-- .. and its results keep the records before the refused one; the call hands back those records, the filled front part
+unfoldable pub plan : List Request → State → List ℕ → Lent
+plan rs s out = let v : Run = planRun rs s out in lent (ended s v) (written (records (grantsOf v)) out)
+
+-- ---- a line with its answer written back: `auto` becomes the number granted, a number stays
+
+abbrev pub pinChoice : Choice → ℕ → Choice
+pinChoice auto b = at b
+pinChoice (at x) b = at x
+
+unfoldable pub pinWant : Want → List Claim → Want
+pinWant (memory s a c) cs = memory s a (pinChoice c (baseAt 0 cs))
+pinWant (ports s a c) cs = ports s a (pinChoice c (baseAt 0 cs))
+pinWant (wire k t s c) cs = wire k t s (pinChoice c (baseAt 0 cs))
+pinWant (irq c) cs = irq (pinChoice c (baseAt 0 cs))
+pinWant (msi k i n d e l) cs = msi k i n (pinChoice d (baseAt 0 cs)) (pinChoice e (baseAt 1 cs)) (pinChoice l (baseAt 2 cs))
+
+unfoldable pub pinned : Grant → Request
+pinned g = record { requester = g .request .requester; slot = g .request .slot; want = pinWant (g .request .want) (g .rows) }

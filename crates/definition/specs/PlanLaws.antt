@@ -1,0 +1,230 @@
+-- Laws of the calls and of a plan over the whole state: refusals change no table, an accepted plan is its requests one by one, and DEMAND 3. Assumes nothing.
+use mathlib.Core.Path.{_≡_, refl, sym, subst, ap, _∙_}
+use mathlib.Core.Logic.{_⊎_, inl, inr}
+use mathlib.Core.Bool.{Bool, true, false, not, _&&_, _||_}
+use mathlib.Core.List.{List, [], _∷_, _++_, map, List·Memᴰ}
+use Prim.Native.Nat.{ℕ, zero, suc, _+_, _*_, _≤_, _<_, min}
+use native.Mathlib.Omega.{arith}
+use lib.ListN.{length, take, drop, length-map, length-take}
+use lib.Dec.{T, leb, leb→le, le→leb}
+use Rattle.definition.specs.BaseLaws.{and-l, and-r, and-i, either}
+use Rattle.definition.specs.Rows.{rowLimit, planLimit, recordSize, Kind, kinds}
+use Rattle.definition.specs.Refusal.{Refusal, malformed, badInput, badOwner, emptyRange, full, badLine, short, reserved, fixedNotAllowed, exhausted, conflict, Said, silence, tell, Answer, accepted, refused, require, _then_}
+use Rattle.definition.specs.Sound.{used}
+use Rattle.definition.specs.Pools.{Claim, rowsOf, _⊕_, Hold, heldRows, reserve}
+use Rattle.definition.specs.Request.{Request, Pools, resolve}
+use Rattle.definition.specs.Calls.{State, state, poolsOf, heldOf, ownersOf, given, sound, saying, pushAll, holding, granting, starting, Call, pool, hold, start, want, settle, serve}
+use Rattle.definition.specs.Plan.{Grant, Run, done, stopped, run, records, written, Lent, lent, allRows, roomy, atOnce, planRun, grantsOf, ended, plan, pinned}
+use Rattle.definition.specs.RowLaws.{every-kind}
+use Rattle.definition.specs.ClaimLaws.{Fits, length-put}
+use Rattle.definition.specs.RequestLaws.{require-accepted, required, AutoInFixed, Wide, SoundRows}
+use Rattle.definition.specs.StateLaws.{Given, Sound, GivenFor, SoundFor, given-for, for-given, sound-for, for-sound, sound-saying, sound-ground, sound-fits, granting-sound, start-sound, settle-malformed}
+use Rattle.definition.specs.RunLaws.{run-take, run-stopped, run-requests, run-kept, Sounds, not-done}
+use Rattle.definition.specs.ReplayLaws.{Pick, pick-length, Ready, run-ready, kept, replay-run, kept-rows, kept-records}
+
+-- ---- refusals
+
+-- no refusal has the number of 'accepted'
+pub tell-number : (i : ℕ) (x : Refusal) → tell i x .number ≡ 0 → ⊥
+tell-number i malformed e = omega arith
+tell-number i badInput e = omega arith
+tell-number i badOwner e = omega arith
+tell-number i emptyRange e = omega arith
+tell-number i full e = omega arith
+tell-number i badLine e = omega arith
+tell-number i short e = omega arith
+tell-number i (reserved o) e = omega arith
+tell-number i (fixedNotAllowed s) e = omega arith
+tell-number i (exhausted s) e = omega arith
+tell-number i (conflict s o d) e = omega arith
+
+-- accepted, or every table as handed in
+abbrev pub AcceptedOrSame : State → State → Type 0
+AcceptedOrSame s s′ = (s′ .said .number ≡ 0) ⊎ (s′ ≡ saying (s′ .said) s)
+
+settle-same : (s : State) (a : Answer (List Claim)) (f : List Claim → State) → ((cs : List Claim) → f cs .said .number ≡ 0) → AcceptedOrSame s (settle s (a then λ cs. accepted (f cs)))
+settle-same s (accepted cs) f z = inl (z cs)
+settle-same s (refused x) f z = inr refl
+
+require-same : (s : State) (b : Bool) (a : Answer State) → AcceptedOrSame s (settle s a) → AcceptedOrSame s (settle s (require b malformed a))
+unfolding require
+require-same s true a h = h
+require-same s false a h = inr refl
+
+-- a refused request, reservation or start leaves every table as it was
+pub want-same : (ks : List Kind) (r : Request) (s : State) → AcceptedOrSame s (serve ks (want r) s)
+unfolding serve
+want-same ks r s = require-same s (sound ks s) _ (settle-same s (resolve (poolsOf s) (ownersOf s) r) (λ cs. granting cs s) (λ cs. refl))
+
+pub hold-same : (ks : List Kind) (o : ℕ) (h : Hold) (s : State) → AcceptedOrSame s (serve ks (hold o h) s)
+unfolding serve
+hold-same ks o h s = require-same s (given ks s) _ (settle-same s (reserve (heldOf s) (heldRows o h)) (λ cs. holding cs s) (λ cs. refl))
+
+pub start-same : (ks : List Kind) (s : State) → AcceptedOrSame s (serve ks start s)
+unfolding serve
+start-same ks s = require-same s (given ks s) (accepted (starting s)) (inl refl)
+
+-- a refused plan puts the tables back as they were at its start
+pub plan-same : (rs : List Request) (s : State) (out : List ℕ) → AcceptedOrSame s (plan rs s out .state)
+unfolding plan
+plan-same rs s out = go (planRun rs s out)
+  where
+    go : (v : Run) → AcceptedOrSame s (ended s v)
+    go (done gs) = inl refl
+    go (stopped gs x) = inr refl
+
+-- ---- accepted plans
+
+-- the answer's number 0 and a finished run are one and the same
+pub plan-accepted : (rs : List Request) (s : State) (out : List ℕ) → plan rs s out .state .said .number ≡ 0 → planRun rs s out ≡ done (grantsOf (planRun rs s out))
+unfolding plan
+plan-accepted rs s out e = go (planRun rs s out) e
+  where
+    go : (v : Run) → ended s v .said .number ≡ 0 → v ≡ done (grantsOf v)
+    go (done gs) h = refl
+    go (stopped gs x) h = absurd (tell-number (length gs) x h)
+
+at-once : (a : Answer Run) (gs : List Grant) → atOnce a ≡ done gs → a ≡ accepted (done gs)
+at-once (accepted v) gs e = ap accepted e
+at-once (refused x) gs e = absurd (not-done e)
+
+pub record Done (rs : List Request) (s : State) (out : List ℕ) (gs : List Grant) : Type 0 where
+  pub judged : T (sound kinds s)
+  pub has-room : T (roomy rs out)
+  pub ran : run (poolsOf s) (ownersOf s) rs ≡ done gs
+
+pub plan-says : (rs : List Request) (s : State) (out : List ℕ) (gs : List Grant) → planRun rs s out ≡ done gs → Done rs s out gs
+unfolding planRun
+plan-says rs s out gs e =
+    let e₀ = at-once (require (sound kinds s) malformed (require (roomy rs out) short (accepted (run (poolsOf s) (ownersOf s) rs)))) gs e in
+    let (j, e₁) = require-accepted (sound kinds s) malformed _ e₀ in
+    let (r, e₂) = require-accepted (roomy rs out) short (accepted (run (poolsOf s) (ownersOf s) rs)) e₁ in
+    record { judged = j; has-room = r; ran = cc }
+
+pub says-plan : (rs : List Request) (s : State) (out : List ℕ) (gs : List Grant) → Done rs s out gs → planRun rs s out ≡ done gs
+unfolding planRun
+says-plan rs s out gs d =
+    ap atOnce (required (sound kinds s) malformed _ (d .judged) ∙ required (roomy rs out) short (accepted (run (poolsOf s) (ownersOf s) rs)) (d .has-room)) ∙ d .ran
+
+roomy-fewer : (rs qs : List Request) (out out′ : List ℕ) → T (roomy rs out) → length qs ≤ length rs → recordSize * length qs ≤ length out′ → T (roomy qs out′)
+unfolding roomy
+roomy-fewer rs qs out out′ t fewer long =
+    let t₁ : T (leb (length rs) planLimit) = search (and-l, and-r) in
+    let l : length qs ≤ planLimit = omega (arith, leb→le (length rs) planLimit t₁) in
+    search (and-i, le→leb)
+
+roomy-long : (rs : List Request) (out : List ℕ) → T (roomy rs out) → recordSize * length rs ≤ length out
+unfolding roomy
+roomy-long rs out t = let t₁ : T (leb (recordSize * length rs) (length out)) = search (and-l, and-r) in leb→le (recordSize * length rs) (length out) t₁
+
+-- after its first i requests the tables are those of these i lines alone
+pub plan-take : (i : ℕ) (rs : List Request) (s : State) (out : List ℕ) (gs : List Grant) → planRun rs s out ≡ done gs → planRun (take i rs) s out ≡ done (take i gs)
+plan-take i rs s out gs e =
+    let d : Done rs s out gs = plan-says rs s out gs e in
+    let n : length (take i rs) ≡ min i (length rs) = length-take i rs in
+    says-plan (take i rs) s out (take i gs) record {
+      judged = d .judged;
+      has-room = roomy-fewer rs (take i rs) out out (d .has-room) (omega arith) (omega (arith, roomy-long rs out (d .has-room)));
+      ran = run-take (poolsOf s) i rs (ownersOf s) gs (d .ran);
+    }
+
+-- every line of an accepted plan has its grant, in order
+pub plan-requests : (rs : List Request) (s : State) (out : List ℕ) (gs : List Grant) → planRun rs s out ≡ done gs → map (λ g. g .request) gs ≡ rs
+plan-requests rs s out gs e = run-requests (poolsOf s) rs (ownersOf s) gs (plan-says rs s out gs e .ran)
+
+all-sounds : (s : State) → SoundFor kinds s → Sounds (ownersOf s)
+all-sounds s h k = (sound-ground s k (h k (every-kind k))) .1
+
+all-wide : (s : State) → SoundFor kinds s → (k : Kind) → Wide (poolsOf s) k
+all-wide s h k = (sound-ground s k (h k (every-kind k))) .0
+
+all-fits : (s : State) → SoundFor kinds s → Fits (ownersOf s)
+unfolding Fits
+all-fits s h k = sound-fits s k (h k (every-kind k))
+
+-- at the end the owner tables hold what they held, and the granted rows in order; and the state is sound
+pub plan-done : (rs : List Request) (s : State) (out : List ℕ) (gs : List Grant) → planRun rs s out ≡ done gs
+    → (k : Kind) → Sound (granting (allRows gs) s) k × (ownersOf (granting (allRows gs) s) k ≡ (ownersOf s ⊕ allRows gs) k)
+unfolding Fits
+plan-done rs s out gs e k =
+    let d : Done rs s out gs = plan-says rs s out gs e in
+    let h : SoundFor kinds s = sound-for kinds s (d .judged) in
+    let (rows, few) = run-kept (poolsOf s) (all-wide s h) rs (ownersOf s) gs (all-sounds s h) (all-fits s h) (d .ran) in
+    granting-sound s (allRows gs) k (h k (every-kind k)) (omega (arith, few k, length-put (ownersOf s) (allRows gs) k)) (rows k)
+
+-- a plan, accepted or refused, leaves a sound state sound
+pub plan-sound : (rs : List Request) (s : State) (out : List ℕ) → T (sound kinds s) → T (sound kinds (plan rs s out .state))
+unfolding plan
+plan-sound rs s out t = go (planRun rs s out) refl
+  where
+    go : (v : Run) → planRun rs s out ≡ v → T (sound kinds (ended s v))
+    go (done gs) e = for-sound kinds (granting (allRows gs) s) (λ k m. (plan-done rs s out gs e k) .0)
+    go (stopped gs x) e = for-sound kinds (saying (tell (length gs) x) s) (λ k m. sound-saying (tell (length gs) x) s k (sound-for kinds s t k m))
+
+-- ---- demand 3
+
+-- what is started from sound pools and reservations
+pub start-is : (ks : List Kind) (s : State) → T (given ks s) → serve ks start s ≡ starting s
+unfolding serve
+start-is ks s t = rw (required (given ks s) malformed (accepted (starting s)) t)
+
+-- a state that is sound after a start was started
+pub started-given : (s : State) → T (sound kinds (serve kinds start s)) → T (given kinds s)
+unfolding serve
+started-given s t = go (either (given kinds s))
+  where
+    go : T (given kinds s) ⊎ (T (given kinds s) → ⊥) → T (given kinds s)
+    go (inl g) = g
+    go (inr u) =
+        let h : SoundFor kinds (saying (tell 0 malformed) s) = sound-for kinds (saying (tell 0 malformed) s) (rw (settle-malformed (given kinds s) s (accepted (starting s)) u) at t) in
+        for-given kinds s (λ k m. record { pools = h k m .given .pools; held = h k m .given .held })
+
+given-alike : (s t : State) → t .pools ≡ s .pools → t .held ≡ s .held → T (given kinds s) → T (given kinds t)
+given-alike s t ep eh g =
+    let h : GivenFor kinds s = given-for kinds s g in
+    for-given kinds t (λ k m. record { pools = rw ep (h k m .pools); held = rw eh (h k m .held) })
+
+-- the hypotheses of demand 3: a plan was accepted from freshly started tables; each range of the automatic pools lies inside one range of the fixed
+-- pools of its kind and domain; any of its lines, each at most once, in any order; the same pools and reservations; room for their results
+pub record Again (s t : State) (rs : List Request) (out : List ℕ) (ps : List Grant) (out′ : List ℕ) : Type 0 where
+  pub was-accepted : plan rs (serve kinds start s) out .state .said .number ≡ 0
+  pub inside : AutoInFixed (poolsOf s)
+  pub picked : Pick ps (grantsOf (planRun rs (serve kinds start s) out))
+  pub same-pools : t .pools ≡ s .pools
+  pub same-held : t .held ≡ s .held
+  pub long : recordSize * length ps ≤ length out′
+
+module _ (s t : State) (rs : List Request) (out : List ℕ) (ps : List Grant) (out′ : List ℕ) (a : Again s t rs out ps out′) where
+  started-again : (serve kinds start t ≡ starting s) × (planRun (map pinned ps) (starting s) out′ ≡ done (map kept ps))
+  started-again =
+      let gs : List Grant = grantsOf (planRun rs (serve kinds start s) out) in
+      let d : Done rs (serve kinds start s) out gs = plan-says rs (serve kinds start s) out gs (plan-accepted rs (serve kinds start s) out (a .was-accepted)) in
+      let g : T (given kinds s) = started-given s (d .judged) in
+      let is : serve kinds start s ≡ starting s = start-is kinds s g in
+      let is′ : serve kinds start t ≡ starting s = start-is kinds t (given-alike s t (a .same-pools) (a .same-held) g) ∙ (λ i. state (a .same-pools i) (a .same-held i) (a .same-held i) silence) in
+      let j : T (sound kinds (starting s)) = rw is at (d .judged) in
+      let h : SoundFor kinds (starting s) = sound-for kinds (starting s) j in
+      let ran : run (poolsOf (starting s)) (ownersOf (starting s)) rs ≡ done gs = subst (λ (x : State). run (poolsOf x) (ownersOf x) rs ≡ done gs) is (d .ran) in
+      let ready : Ready (poolsOf (starting s)) (ownersOf (starting s)) gs = run-ready (poolsOf (starting s)) (all-wide (starting s) h) (a .inside) rs (ownersOf (starting s)) gs (all-sounds (starting s) h) (all-fits (starting s) h) ran in
+      let few : length gs ≡ length rs = sym (length-map gs (λ g. g .request)) ∙ ap length (run-requests (poolsOf (starting s)) rs (ownersOf (starting s)) gs ran) in
+      let n : length (map pinned ps) ≡ length ps = length-map ps pinned in (
+        is′,
+        says-plan (map pinned ps) (starting s) out′ (map kept ps) record {
+          judged = j;
+          has-room = roomy-fewer rs (map pinned ps) out out′ (d .has-room) (omega (arith, pick-length (a .picked))) (omega (arith, a .long));
+          ran = replay-run (a .picked) ready;
+        },
+      )
+
+  -- DEMAND 3: all are accepted (the five numbers are 0), each gets the numbers it had before (the records are those of the first run), and each
+  -- owner table is its reservation table with those lines' rows pushed to its end in the order run
+  pub replay : plan (map pinned ps) (serve kinds start t) out′ ≡ lent (granting (allRows ps) (starting s)) (written (records ps) out′)
+  unfolding plan
+  replay = rw (started-again .0, started-again .1, kept-rows ps, kept-records ps)
+
+  -- .. so the tables hold the reservations and those lines' rows, and nothing else
+  pub replay-rows : (k : Kind) → ownersOf (plan (map pinned ps) (serve kinds start t) out′ .state) k ≡ heldOf s k ++ rowsOf k (allRows ps)
+  unfolding _⊕_
+  replay-rows k =
+      let e : ownersOf (granting (allRows (map kept ps)) (starting s)) k ≡ heldOf s k ++ rowsOf k (allRows (map kept ps)) = (plan-done (map pinned ps) (starting s) out′ (map kept ps) (started-again .1) k) .1 in
+      rw replay (rw (kept-rows ps) at e)

@@ -1,0 +1,113 @@
+-- Adding a pool range, an MSI domain, a reservation, over the used rows of the tables. Assumes nothing.
+use mathlib.Core.Bool.{Bool, true, false, _&&_}
+use mathlib.Core.List.{List, [], _∷_, _++_}
+use mathlib.Core.Option.{Option, none, some}
+use Prim.Native.Nat.{ℕ, suc, min}
+use lib.Dec.{leb, ltb}
+use lib.ListN.{length}
+use Rattle.definition.specs.Base.{anyOf, allOf, firstOf}
+use Rattle.definition.specs.Rows.{poolLimit, rowLimit, Dom, dom, Kind, mmio, pio, input, host, device, event, lpi, nature, sameKind, Span, span, sameDom, sameSpan, Row, rangeRow, wiredRow, meets}
+use Rattle.definition.specs.Sound.{fits, fitsSpan}
+use Rattle.definition.specs.Refusal.{Refusal, badInput, badOwner, emptyRange, full, reserved, Answer, accepted, refused, require, _then_}
+
+-- a range or a row, and the kind of its table
+pub record In (A : Type 0) : Type 0 where
+  pub kind : Kind
+  pub row : A
+
+abbrev pub at-kind : {A : Type 0} → Kind → A → In A
+at-kind k r = record { kind = k; row = r }
+
+-- ---- pool ranges
+
+-- what a pool call adds; its numbers in the order of the program's line
+pub data Pool : Type 0 where
+  mmioPool pioPool hostPool : ℕ → ℕ → Pool
+  inputPool : ℕ → ℕ → ℕ → Pool
+  msiPool : ℕ → ℕ → ℕ → ℕ → ℕ → ℕ → ℕ → ℕ → Pool
+
+-- its ranges: an MSI domain adds devices, then events, then LPIs
+abbrev pub spans : Pool → List (In Span)
+spans (mmioPool s e) = at-kind mmio (span (dom 0 0 0) s e) ∷ []
+spans (pioPool s e) = at-kind pio (span (dom 0 0 0) s e) ∷ []
+spans (hostPool s e) = at-kind host (span (dom 0 0 0) s e) ∷ []
+spans (inputPool c s e) = at-kind input (span (dom c 0 0) s e) ∷ []
+spans (msiPool c i ds de es ee ls le) =
+    at-kind device (span (dom c i 0) ds de) ∷ at-kind event (span (dom c i 0) es ee) ∷ at-kind lpi (span (dom c 0 0) ls le) ∷ []
+
+-- just before the first row of its domain with a greater start, else after the last used row
+unfoldable pub insert : Span → List Span → List Span
+insert p [] = p ∷ []
+insert p (x ∷ xs) = elim (sameDom (p .dom) (x .dom) && ltb (p .start) (x .start)) [ true ↦ p ∷ x ∷ xs | false ↦ x ∷ insert p xs ]
+
+-- an exact duplicate is accepted and adds no row, even to a full table
+unfoldable pub unlessThere : Bool → Span → List Span → Answer (List Span)
+unlessThere true p ps = accepted ps
+unlessThere false p ps = require (ltb (length ps) poolLimit) full (accepted (insert p ps))
+
+unfoldable pub addRange : Kind → Span → List Span → Answer (List Span)
+addRange k p ps = require (fitsSpan k p) badInput (require (ltb (p .start) (p .end)) emptyRange (unlessThere (anyOf (sameSpan p) ps) p ps))
+
+-- ---- rows at the ends of tables
+
+-- the used rows of the seven tables, by kind, in table order
+abbrev pub Holders : Type 0
+Holders = Kind → List Row
+
+abbrev pub Claim : Type 0
+Claim = In Row
+
+-- the rows of one kind, in order
+unfoldable pub rowsOf : Kind → List Claim → List Row
+rowsOf k [] = []
+rowsOf k (c ∷ cs) = elim (sameKind (c .kind) k) [ true ↦ c .row ∷ rowsOf k cs | false ↦ rowsOf k cs ]
+
+-- the tables with the rows at their ends
+unfoldable pub _⊕_ : Holders → List Claim → Holders
+_⊕_ S cs = λ k. S k ++ rowsOf k cs
+
+infixl 60 _⊕_
+-- each table that needs a new row has one free (no call needs two of one table)
+unfoldable pub room : Holders → List Claim → Bool
+room S cs = allOf (λ c. ltb (length (S (c .kind))) rowLimit) cs
+
+-- ---- reservations
+
+-- what a reservation holds; its numbers in the order of the program's line
+pub data Hold : Type 0 where
+  mmioHold pioHold hostHold : ℕ → ℕ → Hold
+  inputHold : ℕ → ℕ → ℕ → ℕ → Hold  -- controller, input, trigger, sharing
+  deviceHold : ℕ → ℕ → ℕ → ℕ → Hold
+  eventHold : ℕ → ℕ → ℕ → ℕ → ℕ → Hold
+  lpiHold : ℕ → ℕ → ℕ → Hold
+  pairHold : ℕ → ℕ → ℕ → ℕ → Hold  -- controller, input, trigger, host IRQ: `reserve_wired_host_irq`
+
+-- its rows; one host IRQ is a range of one number, which the largest number has not
+abbrev pub heldRows : ℕ → Hold → List Claim
+heldRows o (mmioHold s e) = at-kind mmio (rangeRow (dom 0 0 0) s e o) ∷ []
+heldRows o (pioHold s e) = at-kind pio (rangeRow (dom 0 0 0) s e o) ∷ []
+heldRows o (hostHold s e) = at-kind host (rangeRow (dom 0 0 0) s e o) ∷ []
+heldRows o (inputHold c n t s) = at-kind input (wiredRow c n t s o) ∷ []
+heldRows o (deviceHold c i s e) = at-kind device (rangeRow (dom c i 0) s e o) ∷ []
+heldRows o (eventHold c i d s e) = at-kind event (rangeRow (dom c i d) s e o) ∷ []
+heldRows o (lpiHold c s e) = at-kind lpi (rangeRow (dom c 0 0) s e o) ∷ []
+heldRows o (pairHold c n t h) = at-kind input (wiredRow c n t 0 o) ∷ at-kind host (rangeRow (dom 0 0 0) h (min (suc h) (nature host .top)) o) ∷ []
+
+-- the first reservation that overlaps the row, in table order, names its owner
+unfoldable pub unreserved : {A : Type 0} → Option Row → Answer A → Answer A
+unreserved none a = a
+unreserved (some r) a = refused (reserved (r .owner))
+
+unfoldable pub allUnreserved : {A : Type 0} → Holders → List Claim → Answer A → Answer A
+allUnreserved R [] a = a
+allUnreserved R (c ∷ cs) a = unreserved (firstOf (meets (c .row)) (R (c .kind))) (allUnreserved R cs a)
+
+-- all of the rows or none: 2, 3, 4, 5, then 9
+unfoldable pub reserve : Holders → List Claim → Answer (List Claim)
+reserve R cs =
+    require (allOf (λ c. fits (c .kind) (c .row)) cs) badInput
+    (require (allOf (λ c. ltb 0 (c .row .owner)) cs) badOwner
+    (require (allOf (λ c. ltb (c .row .start) (c .row .end)) cs) emptyRange
+    (allUnreserved R cs
+    (require (room R cs) full
+    (accepted cs)))))
