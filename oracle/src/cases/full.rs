@@ -1,0 +1,161 @@
+// Tables filled to their last row: what still gets in, what is refused before Full, and the limit of wants.
+
+use super::{case, lines, refused, Case};
+
+const KINDS: [&str; 7] = ["mmio", "pio", "input", "host", "device", "event", "lpi"];
+
+pub fn all() -> Vec<Case> {
+    let mut cases = Vec::new();
+    for kind in KINDS {
+        for mode in ["auto", "fixed"] {
+            cases.extend(full_pool(mode, kind));
+        }
+        cases.extend(full_holds(kind));
+        cases.extend(full_owners(kind));
+    }
+    cases.extend(mixed());
+    cases.extend(many_wants());
+    cases
+}
+
+/// A pool line whose row in the table of the kind is number `i`.
+fn pool(mode: &str, kind: &str, i: usize) -> String {
+    let span = format!("{} {}", 2 * i, 2 * i + 2);
+    match kind {
+        "input" => format!("pool {mode} input {} {span}", i % 2),
+        "device" => format!("pool {mode} msi {} {} {span} 0 2 0 2", i % 2, i % 3),
+        "event" => format!("pool {mode} msi {} {} 0 2 {span} 0 2", i % 2, i % 3),
+        "lpi" => format!("pool {mode} msi {} {} 0 2 0 2 {span}", i % 2, i % 3),
+        _ => format!("pool {mode} {kind} {span}"),
+    }
+}
+
+/// A hold line of the kind whose row meets no other number's.
+fn hold(owner: u32, kind: &str, i: usize) -> String {
+    let span = format!("{} {}", 2 * i, 2 * i + 2);
+    match kind {
+        "input" => format!("hold {owner} input 0 {i} 1 1"),
+        "device" => format!("hold {owner} device 0 0 {span}"),
+        "event" => format!("hold {owner} event 0 0 {} {span}", i % 2),
+        "lpi" => format!("hold {owner} lpi 0 {span}"),
+        _ => format!("hold {owner} {kind} {span}"),
+    }
+}
+
+fn joined(lines: impl Iterator<Item = String>) -> String {
+    lines.collect::<Vec<_>>().join("/")
+}
+
+fn full_pool(mode: &str, kind: &str) -> Vec<Case> {
+    let full = joined((0..32).map(|i| pool(mode, kind, i)));
+    let name = |what: &str| format!("full-pool-{mode}-{kind}-{what}");
+    let empty = pool(mode, kind, 33).replace("66 68", "66 66");
+    vec![
+        case(&name("33rd"), lines(&format!("{full}/{}", pool(mode, kind, 32))), refused(33, 9)),
+        case(&name("duplicate"), lines(&format!("{full}/{}", pool(mode, kind, 7))), lines("end 0")),
+        case(&name("empty"), lines(&format!("{full}/{empty}")), refused(33, 4)),
+    ]
+}
+
+fn full_holds(kind: &str) -> Vec<Case> {
+    let full = joined((0..128).map(|i| hold(4, kind, i)));
+    let name = |what: &str| format!("full-hold-{kind}-{what}");
+    vec![
+        case(&name("129th"), lines(&format!("{full}/{}", hold(5, kind, 128))), refused(129, 9)),
+        case(&name("reserved"), lines(&format!("{full}/{}", hold(5, kind, 127))), lines("no 129 5 0 4 0")),
+        case(&name("owner-0"), lines(&format!("{full}/{}", hold(0, kind, 128))), refused(129, 3)),
+    ]
+}
+
+/// The want that meets a full owner table of the kind: pools, an automatic want and what it would be refused with
+/// first if nothing were free.
+fn full_owners(kind: &str) -> Vec<Case> {
+    let full = joined((0..128).map(|i| hold(4, kind, i)));
+    let name = |what: &str| format!("full-owner-{kind}-{what}");
+    let (pools, auto, fixed, taken) = match kind {
+        "mmio" => ("pool M mmio 0 999", "mmio 1 1 auto", "mmio 1 1 998", ("mmio 1 1 255", "1 4 1")),
+        "pio" => ("pool M pio 0 999", "pio 1 1 auto", "pio 1 1 998", ("pio 1 1 255", "2 4 1")),
+        "input" => ("pool M input 0 0 999", "input 0 0 0 auto", "input 0 0 0 998", ("input 0 0 1 3", "3 4 2")),
+        "host" => ("pool M host 0 999", "host auto", "host 998", ("host 255", "4 4 4")),
+        "device" => {
+            ("pool M msi 0 0 0 999 0 999 0 999", "msi 0 0 1 auto", "msi 0 0 1 998 0 0", ("msi 0 0 1 9 0 0", "5 4 5"))
+        }
+        "event" => {
+            ("pool M msi 0 0 0 999 0 999 0 999", "msi 0 0 1 auto", "msi 0 0 1 0 998 0", ("msi 0 0 1 0 0 0", "5 4 6"))
+        }
+        _ => ("pool M msi 0 0 0 999 0 999 0 999", "msi 0 0 1 auto", "msi 0 0 1 0 0 998", ("msi 0 0 1 0 0 9", "6 4 7")),
+    };
+    let front = format!("{full}/{}/{}", pools.replace('M', "auto"), pools.replace('M', "fixed"));
+    let mut cases = vec![
+        case(&name("auto"), lines(&format!("{front}/want 1 1 {auto}")), refused(131, 9)),
+        case(&name("fixed"), lines(&format!("{front}/want 1 1 {fixed}")), refused(131, 9)),
+        case(
+            &name("conflict"),
+            lines(&format!("{front}/want 1 1 {}", taken.0)),
+            lines(&format!("no 131 8 {}", taken.1)),
+        ),
+    ];
+    if kind == "input" {
+        let shared = format!("{front}/want 1 1 input 0 1 1 3");
+        cases.push(case(&name("shared"), lines(&shared), refused(131, 9)));
+    }
+    cases
+}
+
+/// Rows of several domains share a table; holds and grants share the owner table; a refusal comes before Full.
+fn mixed() -> Vec<Case> {
+    let controllers = joined((0..128).map(|i| format!("hold 1 input {i} 7 0 0")));
+    let half = joined((0..100).map(|i| hold(4, "host", i)));
+    let wants = joined((0..28).map(|_| "want 1 1 host auto".to_string()));
+    let full = joined((0..128).map(|i| hold(4, "host", i)));
+    vec![
+        case("full-hold-all-domains", lines(&format!("{controllers}/hold 1 input 200 7 0 0")), refused(129, 9)),
+        case(
+            "full-owner-holds-and-grants",
+            lines(&format!("{half}/pool auto host 0 999/{wants}/want 1 1 host auto")),
+            refused(130, 9),
+        ),
+        case(
+            "full-owner-exhausted",
+            lines(&format!("{full}/pool auto host 0 256/want 1 1 host auto")),
+            lines("no 130 7 4 0 0"),
+        ),
+        case("full-owner-not-allowed", lines(&format!("{full}/want 1 1 host 3")), lines("no 129 6 4 0 0")),
+        case("full-owner-bad-input", lines(&format!("{full}/want 0 1 host auto")), refused(129, 2)),
+        case(
+            "full-owner-of-another-kind",
+            lines(&format!("{full}/pool auto input 0 0 9/want 1 1 input 0 0 0 auto")),
+            lines("got 1 1 input 0 0 0 0/end 1"),
+        ),
+    ]
+}
+
+/// The 128th want is the last one; a 129th is 10 if it is bad, else 11, whatever else could be said against it.
+fn many_wants() -> Vec<Case> {
+    let wants = joined((0..128).map(|i| format!("want 1 {i} host auto")));
+    let text = format!("pool auto host 5 999/pool auto mmio 0 9/{wants}");
+    let got: String = (0..128).map(|i| format!("got 1 {i} host {}/", i + 5)).collect();
+    let kinds = joined(
+        (0..128).map(|i| format!("want 1 {i} {}", ["mmio 1 1", "pio 1 1", "host", "input 0 0 0"][i % 4]) + " auto"),
+    );
+    let pools = "pool auto mmio 0 99/pool auto pio 0 99/pool auto host 0 99/pool auto input 0 0 99";
+    let got_kinds: String = (0..128)
+        .map(|i| match i % 4 {
+            0 => format!("got 1 {i} mmio {} 1/", i / 4),
+            1 => format!("got 1 {i} pio {} 1/", i / 4),
+            2 => format!("got 1 {i} host {}/", i / 4),
+            _ => format!("got 1 {i} input 0 {} 0 0/", i / 4),
+        })
+        .collect();
+    vec![
+        case("wants-128", lines(&text), lines(&format!("{got}end 128"))),
+        case("wants-128-mixed", lines(&format!("{pools}/{kinds}")), lines(&format!("{got_kinds}end 128"))),
+        case("wants-129", lines(&format!("{text}/want 1 1 mmio 1 1 auto")), refused(131, 11)),
+        case("wants-129-full-too", lines(&format!("{text}/want 1 1 host auto")), refused(131, 11)),
+        case("wants-129-bad-input", lines(&format!("{text}/want 0 1 mmio 0 3 auto")), refused(131, 11)),
+        case("wants-129-bad-line", lines(&format!("{text}/want 1 1 mmio 1 1")), refused(131, 10)),
+        case("wants-129-pool", lines(&format!("{text}/pool auto mmio 0 9")), refused(131, 10)),
+        case("wants-129-bad-after", lines(&format!("{text}/want 1 1 host auto/nonsense")), refused(131, 11)),
+        case("wants-128-empty-line", lines(&format!("{text}/")), refused(131, 10)),
+    ]
+}

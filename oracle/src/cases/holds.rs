@@ -1,0 +1,53 @@
+// Hold lines: every refusal of every kind, in 01's order, and what is no overlap.
+
+pub const CASES: &[(&str, &str, &str)] = &[
+    ("hold-owner-0-mmio", "hold 0 mmio 0 1", "no 1 3 0 0 0"),
+    ("hold-owner-0-pio", "hold 0 pio 0 1", "no 1 3 0 0 0"),
+    ("hold-owner-0-host", "hold 0 host 0 1", "no 1 3 0 0 0"),
+    ("hold-owner-0-input", "hold 0 input 0 0 0 0", "no 1 3 0 0 0"),
+    ("hold-owner-0-device", "hold 0 device 0 0 0 1", "no 1 3 0 0 0"),
+    ("hold-owner-0-event", "hold 0 event 0 0 0 0 1", "no 1 3 0 0 0"),
+    ("hold-owner-0-lpi", "hold 0 lpi 0 0 1", "no 1 3 0 0 0"),
+    ("hold-owner-before-empty", "hold 0 mmio 1 1", "no 1 3 0 0 0"),
+    ("hold-owner-before-overlap", "hold 1 lpi 0 0 4/hold 0 lpi 0 0 4", "no 2 3 0 0 0"),
+    ("hold-empty-mmio", "hold 1 mmio 4096 4096", "no 1 4 0 0 0"),
+    ("hold-turned-mmio", "hold 1 mmio 1 0", "no 1 4 0 0 0"),
+    ("hold-empty-pio", "hold 1 pio 65535 65535", "no 1 4 0 0 0"),
+    ("hold-empty-host", "hold 1 host 3 3", "no 1 4 0 0 0"),
+    ("hold-empty-device", "hold 1 device 0 0 8 8", "no 1 4 0 0 0"),
+    ("hold-empty-event", "hold 1 event 0 0 8 4 4", "no 1 4 0 0 0"),
+    ("hold-empty-lpi", "hold 1 lpi 0 8192 8192", "no 1 4 0 0 0"),
+    ("hold-empty-before-overlap", "hold 1 mmio 0 4/hold 2 mmio 2 2", "no 2 4 0 0 0"),
+    ("hold-reserved-mmio", "hold 7 mmio 0 4096/hold 8 mmio 4095 8192", "no 2 5 0 7 0"),
+    ("hold-reserved-pio", "hold 7 pio 0 65535/hold 8 pio 65534 65535", "no 2 5 0 7 0"),
+    ("hold-reserved-host", "hold 7 host 5 6/hold 8 host 0 18446744073709551615", "no 2 5 0 7 0"),
+    ("hold-reserved-input", "hold 7 input 3 9 0 1/hold 8 input 3 9 0 1", "no 2 5 0 7 0"),
+    ("hold-reserved-device", "hold 7 device 1 2 0 9/hold 8 device 1 2 8 10", "no 2 5 0 7 0"),
+    ("hold-reserved-event", "hold 7 event 1 2 3 0 9/hold 8 event 1 2 3 8 10", "no 2 5 0 7 0"),
+    ("hold-reserved-lpi", "hold 7 lpi 1 0 9/hold 8 lpi 1 8 10", "no 2 5 0 7 0"),
+    ("hold-reserved-by-itself", "hold 7 mmio 0 1/hold 7 mmio 0 1", "no 2 5 0 7 0"),
+    ("hold-reserved-largest-owner", "hold 4294967295 mmio 0 1/hold 7 mmio 0 1", "no 2 5 0 4294967295 0"),
+    ("hold-names-the-first-row", "hold 1 mmio 8 12/hold 2 mmio 0 4/hold 3 mmio 2 10", "no 3 5 0 1 0"),
+    ("hold-touching", "hold 1 mmio 4 8/hold 2 mmio 0 4/hold 3 mmio 8 9/hold 1 pio 1 2/hold 1 pio 0 1", "end 0"),
+    (
+        "hold-other-domains",
+        "hold 1 input 0 5 0 0/hold 1 input 1 5 0 0/hold 1 device 0 0 1 2/hold 1 device 0 1 1 2/hold 1 device 1 0 1 2/\
+         hold 1 event 0 0 1 0 4/hold 1 event 0 0 2 0 4/hold 1 event 0 1 1 0 4/hold 1 event 1 0 1 0 4/\
+         hold 1 lpi 0 0 4/hold 1 lpi 1 0 4",
+        "end 0",
+    ),
+    ("hold-before-pool", "hold 1 host 0 1/pool auto host 0 2/want 2 0 host auto", "got 2 0 host 1/end 1"),
+    ("hold-trigger-4", "hold 1 input 0 0 4 0", "no 1 2 0 0 0"),
+    ("hold-trigger-largest", "hold 1 input 0 0 4294967295 0", "no 1 2 0 0 0"),
+    ("hold-sharing-2", "hold 1 input 0 0 0 2", "no 1 2 0 0 0"),
+    ("hold-codes-before-owner", "hold 0 input 1 1 4 0", "no 1 2 0 0 0"),
+    ("hold-codes-before-overlap", "hold 1 input 1 1 0 0/hold 1 input 1 1 0 2", "no 2 2 0 0 0"),
+    ("hold-triggers", "hold 1 input 0 0 0 0/hold 1 input 0 1 1 1/hold 1 input 0 2 2 0/hold 1 input 0 3 3 1", "end 0"),
+    ("hold-largest-input", "hold 1 input 4294967295 18446744073709551615 3 1", "end 0"),
+    (
+        "hold-largest-ranges",
+        "hold 1 mmio 0 18446744073709551615/hold 1 pio 0 65535/hold 1 host 0 18446744073709551615/\
+         hold 1 device 0 0 0 4294967295/hold 1 event 0 0 4294967295 0 4294967295/hold 1 lpi 0 0 4294967295",
+        "end 0",
+    ),
+];

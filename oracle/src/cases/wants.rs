@@ -1,0 +1,200 @@
+// Want lines: every refusal of every kind, in 01's order, and what is granted.
+
+pub const CASES: &[(&str, &str, &str)] = &[
+    // 2 BadInput, before any look at the pools
+    ("want-requester-0-mmio", "pool auto mmio 0 9/want 0 1 mmio 1 1 auto", "no 2 2 0 0 0"),
+    ("want-requester-0-pio", "pool auto pio 0 9/want 0 1 pio 1 1 auto", "no 2 2 0 0 0"),
+    ("want-requester-0-input", "pool auto input 0 0 9/want 0 1 input 0 0 0 auto", "no 2 2 0 0 0"),
+    ("want-requester-0-host", "pool auto host 0 9/want 0 1 host auto", "no 2 2 0 0 0"),
+    ("want-requester-0-msi", "pool auto msi 0 0 0 9 0 9 0 9/want 0 1 msi 0 0 1 auto", "no 2 2 0 0 0"),
+    ("want-size-0-mmio", "pool auto mmio 0 9/want 1 1 mmio 0 1 auto", "no 2 2 0 0 0"),
+    ("want-size-0-mmio-fixed", "pool fixed mmio 0 9/want 1 1 mmio 0 1 0", "no 2 2 0 0 0"),
+    ("want-size-0-pio", "pool auto pio 0 9/want 1 1 pio 0 1 auto", "no 2 2 0 0 0"),
+    ("want-alignment-0-mmio", "pool auto mmio 0 9/want 1 1 mmio 1 0 auto", "no 2 2 0 0 0"),
+    ("want-alignment-0-mmio-fixed", "pool fixed mmio 0 9/want 1 1 mmio 1 0 0", "no 2 2 0 0 0"),
+    ("want-alignment-0-pio-fixed", "pool fixed pio 0 9/want 1 1 pio 1 0 0", "no 2 2 0 0 0"),
+    ("want-alignment-3-mmio", "pool auto mmio 0 9/want 1 1 mmio 1 3 auto", "no 2 2 0 0 0"),
+    ("want-alignment-ends-mmio", "pool auto mmio 0 9/want 1 1 mmio 1 9223372036854775809 auto", "no 2 2 0 0 0"),
+    ("want-alignment-3-pio-fixed", "pool fixed pio 0 9/want 1 1 pio 1 3 3", "no 2 2 0 0 0"),
+    ("want-alignment-ends-pio", "pool auto pio 0 9/want 1 1 pio 1 32769 auto", "no 2 2 0 0 0"),
+    ("want-trigger-4", "pool auto input 0 0 9/want 1 1 input 0 4 0 auto", "no 2 2 0 0 0"),
+    ("want-sharing-2", "pool auto input 0 0 9/want 1 1 input 0 0 2 auto", "no 2 2 0 0 0"),
+    ("want-codes-largest", "want 1 1 input 0 4294967295 4294967295 auto", "no 1 2 0 0 0"),
+    ("want-count-0", "pool auto msi 0 0 0 9 0 9 0 9/want 1 1 msi 0 0 0 auto", "no 2 2 0 0 0"),
+    ("want-count-0-fixed", "pool fixed msi 0 0 0 9 0 9 0 9/want 1 1 msi 0 0 0 0 0 0", "no 2 2 0 0 0"),
+    ("want-bad-input-before-6", "want 1 1 mmio 0 1 5", "no 1 2 0 0 0"),
+    ("want-bad-input-before-7", "want 1 1 mmio 1 6 auto", "no 1 2 0 0 0"),
+    // 6 FixedNotAllowed
+    ("want-no-pool-mmio", "want 1 1 mmio 1 1 0", "no 1 6 1 0 0"),
+    ("want-no-pool-pio", "want 1 1 pio 1 1 0", "no 1 6 2 0 0"),
+    ("want-no-pool-input", "want 1 1 input 0 0 0 0", "no 1 6 3 0 0"),
+    ("want-no-pool-host", "want 1 1 host 0", "no 1 6 4 0 0"),
+    ("want-no-pool-msi", "want 1 1 msi 0 0 1 0 0 0", "no 1 6 5 0 0"),
+    ("want-unaligned-mmio", "pool fixed mmio 0 8192/want 1 1 mmio 16 4096 2048", "no 2 6 1 0 0"),
+    ("want-unaligned-pio", "pool fixed pio 0 64/want 1 1 pio 1 2 1", "no 2 6 2 0 0"),
+    ("want-across-pools-mmio", "pool fixed mmio 0 4/pool fixed mmio 4 8/want 1 1 mmio 4 1 2", "no 3 6 1 0 0"),
+    ("want-across-pools-pio", "pool fixed pio 0 4/pool fixed pio 4 8/want 1 1 pio 4 1 2", "no 3 6 2 0 0"),
+    ("want-before-pool-mmio", "pool fixed mmio 4 8/want 1 1 mmio 1 1 3", "no 2 6 1 0 0"),
+    ("want-past-pool-mmio", "pool fixed mmio 4 8/want 1 1 mmio 2 1 7", "no 2 6 1 0 0"),
+    (
+        "want-past-width-mmio",
+        "pool fixed mmio 0 18446744073709551615/want 1 1 mmio 2 1 18446744073709551614",
+        "no 2 6 1 0 0",
+    ),
+    (
+        "want-last-of-width-mmio",
+        "pool fixed mmio 0 18446744073709551615/want 1 1 mmio 1 1 18446744073709551614",
+        "got 1 1 mmio 18446744073709551614 1/end 1",
+    ),
+    ("want-largest-mmio", "pool fixed mmio 0 18446744073709551615/want 1 1 mmio 1 1 18446744073709551615", "no 2 6 1 0 0"),
+    ("want-past-width-pio", "pool fixed pio 0 65535/want 1 1 pio 2 1 65534", "no 2 6 2 0 0"),
+    ("want-end-of-pool-input", "pool fixed input 0 3 5/want 1 1 input 0 0 0 5", "no 2 6 3 0 0"),
+    ("want-largest-input", "pool fixed input 0 0 18446744073709551615/want 1 1 input 0 0 0 18446744073709551615", "no 2 6 3 0 0"),
+    ("want-end-of-pool-host", "pool fixed host 3 5/want 1 1 host 5", "no 2 6 4 0 0"),
+    ("want-largest-host", "pool fixed host 0 18446744073709551615/want 1 1 host 18446744073709551615", "no 2 6 4 0 0"),
+    ("want-device-not-allowed", "pool fixed msi 0 0 3 5 0 4 0 4/want 1 1 msi 0 0 1 5 0 0", "no 2 6 5 0 0"),
+    ("want-event-not-allowed", "pool fixed msi 0 0 3 5 0 4 0 4/want 1 1 msi 0 0 2 3 3 0", "no 2 6 5 0 0"),
+    ("want-lpi-not-allowed", "pool fixed msi 0 0 3 5 0 4 0 4/want 1 1 msi 0 0 2 3 0 3", "no 2 6 6 0 0"),
+    (
+        "want-event-past-width",
+        "pool fixed msi 0 0 0 4294967295 0 4294967295 0 4294967295/want 1 1 msi 0 0 2 0 4294967294 0",
+        "no 2 6 5 0 0",
+    ),
+    (
+        "want-lpi-past-width",
+        "pool fixed msi 0 0 0 4294967295 0 4294967295 0 4294967295/want 1 1 msi 0 0 2 0 0 4294967294",
+        "no 2 6 6 0 0",
+    ),
+    (
+        "want-largest-device",
+        "pool fixed msi 0 0 0 4294967295 0 4294967295 0 4294967295/want 1 1 msi 0 0 1 4294967295 0 0",
+        "no 2 6 5 0 0",
+    ),
+    // 7 Exhausted
+    ("want-none-mmio", "want 1 1 mmio 1 1 auto", "no 1 7 1 0 0"),
+    ("want-none-pio", "want 1 1 pio 1 1 auto", "no 1 7 2 0 0"),
+    ("want-none-input", "want 1 1 input 0 0 0 auto", "no 1 7 3 0 0"),
+    ("want-none-host", "want 1 1 host auto", "no 1 7 4 0 0"),
+    ("want-none-msi", "want 1 1 msi 0 0 1 auto", "no 1 7 5 0 0"),
+    ("want-too-long-pio", "pool auto pio 0 4/pool auto pio 4 8/want 1 1 pio 5 1 auto", "no 3 7 2 0 0"),
+    ("want-held-input", "pool auto input 0 7 8/hold 2 input 0 7 0 1/want 1 1 input 0 0 1 auto", "no 3 7 3 0 0"),
+    ("want-no-device", "pool auto msi 0 0 3 5 0 4 0 4/hold 2 device 0 0 3 5/want 1 1 msi 0 0 1 auto", "no 3 7 5 0 0"),
+    ("want-no-event-run", "pool auto msi 0 0 3 5 0 4 0 9/want 1 1 msi 0 0 5 auto", "no 2 7 5 0 0"),
+    ("want-no-lpi-run", "pool auto msi 0 0 3 5 0 9 0 4/want 1 1 msi 0 0 5 auto", "no 2 7 6 0 0"),
+    ("want-no-lpi-gap", "pool auto msi 0 0 3 5 0 9 0 4/hold 2 lpi 0 1 3/want 1 1 msi 0 0 2 auto", "no 3 7 6 0 0"),
+    (
+        "want-sum-past-width",
+        "pool auto mmio 18446744073709551608 18446744073709551615/pool auto mmio 18446744073709551610 18446744073709551615/\
+         hold 2 mmio 18446744073709551608 18446744073709551614/want 1 1 mmio 2 1 auto",
+        "no 4 7 1 0 0",
+    ),
+    (
+        "want-rounding-past-width",
+        "pool auto mmio 18446744073709551601 18446744073709551615/want 1 1 mmio 1 16 auto",
+        "no 2 7 1 0 0",
+    ),
+    // 8 Conflict
+    ("want-conflict-mmio", "pool fixed mmio 0 9/hold 5 mmio 3 4/want 1 1 mmio 4 1 0", "no 3 8 1 5 1"),
+    ("want-conflict-pio", "pool fixed pio 0 9/hold 5 pio 3 4/want 1 1 pio 1 1 3", "no 3 8 2 5 1"),
+    ("want-conflict-host", "pool fixed host 0 9/hold 5 host 3 4/want 1 1 host 3", "no 3 8 4 5 4"),
+    ("want-conflict-device", "pool fixed msi 0 0 0 9 0 9 0 9/hold 5 device 0 0 3 4/want 1 1 msi 0 0 1 3 0 0", "no 3 8 5 5 5"),
+    ("want-conflict-event", "pool fixed msi 0 0 0 9 0 9 0 9/hold 5 event 0 0 3 3 4/want 1 1 msi 0 0 2 3 2 0", "no 3 8 5 5 6"),
+    ("want-conflict-lpi", "pool fixed msi 0 0 0 9 0 9 0 9/hold 5 lpi 0 3 4/want 1 1 msi 0 0 2 3 0 2", "no 3 8 6 5 7"),
+    ("want-conflict-trigger", "pool fixed input 0 0 9/hold 5 input 0 3 0 0/want 1 1 input 0 1 0 3", "no 3 8 3 5 2"),
+    ("want-conflict-exclusive-holder", "pool fixed input 0 0 9/hold 5 input 0 3 2 0/want 1 1 input 0 2 1 3", "no 3 8 3 5 3"),
+    ("want-conflict-exclusive-request", "pool fixed input 0 0 9/hold 5 input 0 3 2 1/want 1 1 input 0 2 0 3", "no 3 8 3 5 3"),
+    (
+        "want-conflict-with-a-grant",
+        "pool fixed mmio 0 9/want 6 1 mmio 4 1 0/want 7 1 mmio 4 1 4/want 8 1 mmio 2 1 3",
+        "no 4 8 1 6 1",
+    ),
+    ("want-conflict-with-itself", "pool fixed host 0 9/want 6 1 host 3/want 6 1 host 3", "no 3 8 4 6 4"),
+    (
+        "want-conflict-auto-grant",
+        "pool auto msi 0 0 0 9 0 9 0 9/pool fixed msi 0 0 0 9 0 9 0 9/want 6 1 msi 0 0 2 auto/want 7 1 msi 0 0 1 1 0 1",
+        "no 4 8 6 6 7",
+    ),
+    ("want-6-before-8", "pool fixed mmio 0 9/hold 5 mmio 3 4/want 1 1 mmio 1 2 3", "no 3 6 1 0 0"),
+    (
+        "want-event-before-lpi",
+        "pool fixed msi 0 0 0 9 0 9 0 9/hold 5 event 0 0 3 0 9/hold 6 lpi 0 0 9/want 1 1 msi 0 0 1 3 0 0",
+        "no 4 8 5 5 6",
+    ),
+    (
+        "want-device-before-event",
+        "pool fixed msi 0 0 0 9 0 9 0 9/hold 5 device 0 0 3 4/want 1 1 msi 0 0 99 3 0 0",
+        "no 3 8 5 5 5",
+    ),
+    (
+        "want-device-conflict-before-lpi-6",
+        "pool fixed msi 0 0 0 9 0 9 0 9/hold 5 device 0 0 3 4/want 1 1 msi 0 0 1 3 0 99",
+        "no 3 8 5 5 5",
+    ),
+    // granted
+    ("got-real-zeros", "pool fixed input 0 0 1/want 1 0 input 0 0 0 0", "got 1 0 input 0 0 0 0/end 1"),
+    ("got-host-zero", "pool fixed host 0 1/want 1 0 host 0", "got 1 0 host 0/end 1"),
+    ("got-mmio-zero", "pool fixed mmio 0 1/want 1 0 mmio 1 1 0", "got 1 0 mmio 0 1/end 1"),
+    ("got-msi-zeros", "pool fixed msi 0 0 0 1 0 1 0 1/want 1 0 msi 0 0 1 0 0 0", "got 1 0 msi 0 0 0 0 0 1/end 1"),
+    (
+        "got-all-kinds",
+        "pool auto mmio 4096 8192/pool auto pio 1016 1024/pool auto input 2 32 40/pool auto host 96 99/\
+         pool auto msi 2 1 8 10 0 4 8192 8200/want 5 1 mmio 256 256 auto/want 5 2 pio 8 8 auto/\
+         want 5 3 input 2 1 0 auto/want 5 4 host auto/want 5 5 msi 2 1 3 auto",
+        "got 5 1 mmio 4096 256/got 5 2 pio 1016 8/got 5 3 input 2 32 1 0/got 5 4 host 96/\
+         got 5 5 msi 2 1 8 0 8192 3/end 5",
+    ),
+    (
+        "got-same-requester-and-slot",
+        "pool auto host 0 9/want 5 5 host auto/want 5 5 host auto/want 5 0 host auto",
+        "got 5 5 host 0/got 5 5 host 1/got 5 0 host 2/end 3",
+    ),
+    (
+        "got-shared-input",
+        "pool fixed input 0 5 6/hold 9 input 0 5 2 1/want 1 0 input 0 2 1 5/want 2 0 input 0 2 1 5",
+        "got 1 0 input 0 5 2 1/got 2 0 input 0 5 2 1/end 2",
+    ),
+    (
+        "got-shared-names-first",
+        "pool fixed input 0 5 6/want 1 0 input 0 2 1 5/want 2 0 input 0 2 1 5/want 3 0 input 0 2 0 5",
+        "no 4 8 3 1 3",
+    ),
+    (
+        "got-input-of-another-controller",
+        "pool fixed input 0 5 6/pool fixed input 1 5 6/want 1 0 input 0 0 0 5/want 2 0 input 1 0 0 5",
+        "got 1 0 input 0 5 0 0/got 2 0 input 1 5 0 0/end 2",
+    ),
+    (
+        "got-rounded-past-a-holder",
+        "pool auto mmio 0 64/hold 9 mmio 0 17/want 1 0 mmio 16 16 auto/want 1 0 mmio 1 1 auto",
+        "got 1 0 mmio 32 16/got 1 0 mmio 17 1/end 2",
+    ),
+    (
+        "got-between-holders",
+        "pool auto pio 0 16/hold 9 pio 8 10/hold 8 pio 0 4/want 1 0 pio 4 4 auto/want 1 0 pio 6 1 auto",
+        "got 1 0 pio 4 4/got 1 0 pio 10 6/end 2",
+    ),
+    (
+        "got-event-run-of-each-device",
+        "pool auto msi 0 0 8 10 0 2 0 9/pool fixed msi 0 0 8 10 0 2 0 9/want 1 0 msi 0 0 2 auto/want 1 0 msi 0 0 2 auto/\
+         want 1 0 msi 0 0 1 auto",
+        "no 5 7 5 0 0",
+    ),
+    (
+        "got-lpis-shared-by-its",
+        "pool auto msi 0 1 0 9 0 9 0 4/pool auto msi 0 2 0 9 0 9 0 4/want 1 0 msi 0 1 2 auto/want 1 0 msi 0 2 2 auto/\
+         want 1 0 msi 0 1 1 auto",
+        "no 5 7 6 0 0",
+    ),
+    (
+        "got-fixed-msi",
+        "pool fixed msi 3 4 8 10 0 4 0 4294967295/want 1 2 msi 3 4 2 9 1 4294967292",
+        "got 1 2 msi 3 4 9 1 4294967292 2/end 1",
+    ),
+    (
+        "got-device-gap",
+        "pool auto msi 0 0 8 12 0 4 0 9/hold 9 device 0 0 8 9/hold 9 device 0 0 10 11/want 1 0 msi 0 0 1 auto/\
+         want 1 0 msi 0 0 1 auto",
+        "got 1 0 msi 0 0 9 0 0 1/got 1 0 msi 0 0 11 0 1 1/end 2",
+    ),
+    ("got-nothing-wanted", "pool auto mmio 0 9/hold 1 mmio 0 9", "end 0"),
+];

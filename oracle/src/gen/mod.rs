@@ -1,0 +1,38 @@
+// Random inputs from a seed: plan texts, damaged texts and call sequences.
+
+mod damage;
+mod fill;
+mod lines;
+mod requests;
+mod rng;
+mod scene;
+mod sequence;
+mod texts;
+
+pub use damage::damaged;
+pub use lines::{line_of_add, line_of_request};
+pub use rng::Rng;
+pub use scene::{Ruler, Scene};
+pub use sequence::calls;
+pub use texts::good_text;
+
+/// The text of a number under a seed, the same on every machine: three in four are good ones, the others damaged.
+pub fn text(seed: u64, index: u64) -> Vec<u8> {
+    let mut rng = Rng::new(seed, index);
+    let text = good_text(&mut rng);
+    if rng.chance(75) {
+        text
+    } else {
+        damaged(&mut rng, text)
+    }
+}
+
+/// The call sequence of a number under a seed.
+pub fn sequence(seed: u64, index: u64) -> Vec<crate::calls::Call> {
+    calls(&mut Rng::new(seed, index))
+}
+
+/// How many inputs a test runs: so many, unless ORACLE_RUNS says otherwise.
+pub fn runs(usual: u64) -> u64 {
+    std::env::var("ORACLE_RUNS").ok().and_then(|number| number.parse().ok()).unwrap_or(usual)
+}

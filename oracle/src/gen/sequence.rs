@@ -1,0 +1,93 @@
+// Random call sequences: adding, starting, asking and planning in any order, with refused calls in between.
+
+use super::rng::Rng;
+use super::scene::{trigger, Scene};
+use crate::added::RECORD;
+use crate::calls::{Add, Call, Kind, Request};
+
+pub fn calls(rng: &mut Rng) -> Vec<Call> {
+    let heavy = rng.chance(3);
+    let scene = Scene::random(rng, if heavy { 200 } else { 12 });
+    let mut calls = Vec::new();
+    calls.extend(scene.wide_pools(rng).into_iter().map(Call::Add));
+    if heavy {
+        fill(rng, &scene, &mut calls);
+    }
+    for _ in 0..rng.between(0, 12) {
+        calls.push(Call::Add(any_add(rng, &scene)));
+    }
+    if rng.chance(90) {
+        calls.push(Call::Start);
+    }
+    for _ in 0..rng.between(1, if heavy { 40 } else { 16 }) {
+        let call = later(rng, &scene);
+        let restart = matches!(call, Call::Add(_)) && rng.chance(60);
+        calls.push(call);
+        if restart {
+            calls.push(Call::Start);
+        }
+    }
+    calls
+}
+
+/// A call once things have started: mostly requests, sometimes more pools and holds, then a new start.
+fn later(rng: &mut Rng, scene: &Scene) -> Call {
+    match rng.below(100) {
+        0..=2 => Call::Start,
+        3..=6 => Call::Add(any_add(rng, scene)),
+        7..=12 => plan(rng, scene),
+        13..=30 => Call::OfKind(any_request(rng, scene)),
+        _ => Call::Request(any_request(rng, scene)),
+    }
+}
+
+fn any_add(rng: &mut Rng, scene: &Scene) -> Add {
+    let kind = scene.kind(rng);
+    match rng.below(20) {
+        0 | 1 => pair(rng, scene),
+        2..=7 => scene.hold(rng, kind),
+        _ => scene.pool(rng, kind),
+    }
+}
+
+fn pair(rng: &mut Rng, scene: &Scene) -> Add {
+    Add::Pair {
+        owner: scene.owner(rng),
+        controller: scene.controller(rng),
+        input: scene.ruler(Kind::Input).point(rng),
+        host: scene.ruler(Kind::Host).point(rng),
+        trigger: trigger(rng),
+    }
+}
+
+fn any_request(rng: &mut Rng, scene: &Scene) -> Request {
+    let (kind, mixed) = (scene.kind(rng), rng.chance(70));
+    scene.want(rng, kind, mixed)
+}
+
+fn plan(rng: &mut Rng, scene: &Scene) -> Call {
+    let length = match rng.below(30) {
+        0 => rng.between(127, 130),
+        _ => rng.below(6),
+    };
+    let requests: Vec<Request> = (0..length).map(|_| any_request(rng, scene)).collect();
+    let need = RECORD * requests.len();
+    let results = match rng.below(10) {
+        0 => need.saturating_sub(1),
+        1 => need + 3,
+        _ => need,
+    };
+    Call::Plan { requests, results }
+}
+
+fn fill(rng: &mut Rng, scene: &Scene, calls: &mut Vec<Call>) {
+    let kind = scene.kind(rng);
+    let adds = if rng.chance(50) {
+        let (fixed, rows) = (rng.chance(50), rng.between(30, 34));
+        scene.many_pools(rng, kind, fixed, rows)
+    } else {
+        let rows = rng.between(125, 130);
+        scene.many_holds(rng, kind, rows)
+    };
+    calls.extend(adds.into_iter().map(Call::Add));
+}

@@ -1,0 +1,81 @@
+// Random plan texts that mostly get accepted: a line that the judge would refuse is mostly left out.
+
+use super::lines::{line_of_add, line_of_request};
+use super::rng::Rng;
+use super::scene::Scene;
+use crate::calls::{Add, Kind};
+use crate::text::Reader;
+
+/// A text made of whole, well-formed lines.
+pub fn good_text(rng: &mut Rng) -> Vec<u8> {
+    let heavy = rng.chance(3);
+    let scene = Scene::random(rng, if heavy { 200 } else { 12 });
+    let mut text = Draft { reader: Reader::new(), bytes: Vec::new(), closed: false };
+    for add in scene.wide_pools(rng) {
+        text.offer(rng, line_of_add(&add));
+    }
+    if heavy {
+        text.fill(rng, &scene);
+    }
+    for _ in 0..rng.pick(&[0, 1, 2, 4, 8, 12]) {
+        let kind = scene.kind(rng);
+        let add = if rng.chance(65) { scene.pool(rng, kind) } else { scene.hold(rng, kind) };
+        text.offer(rng, line_of_add(&add));
+    }
+    for _ in 0..text.wants(rng, heavy) {
+        let kind = scene.kind(rng);
+        let request = scene.want(rng, kind, false);
+        text.offer(rng, line_of_request(&request));
+    }
+    text.bytes
+}
+
+/// A text as far as it is written, and the reader that has read it so far.
+struct Draft {
+    reader: Reader,
+    bytes: Vec<u8>,
+    /// A refused line was kept: nothing behind it will be looked at.
+    closed: bool,
+}
+
+impl Draft {
+    /// Takes a line that is accepted; keeps a refused one now and then.
+    fn offer(&mut self, rng: &mut Rng, line: Option<String>) {
+        let Some(line) = line else { return };
+        if !self.closed && self.reader.step(line.as_bytes()).is_refused() {
+            if !rng.chance(12) {
+                return;
+            }
+            self.closed = true;
+        }
+        self.write(&line);
+    }
+
+    fn write(&mut self, line: &str) {
+        self.bytes.extend_from_slice(line.as_bytes());
+        self.bytes.push(b'\n');
+    }
+
+    /// About as many rows as one table has, or twice as many lines of duplicates.
+    fn fill(&mut self, rng: &mut Rng, scene: &Scene) {
+        let kind = rng.pick(&Kind::ALL);
+        let adds: Vec<Add> = if rng.chance(50) {
+            let (fixed, rows) = (rng.chance(50), rng.between(30, 34));
+            scene.many_pools(rng, kind, fixed, rows)
+        } else {
+            let rows = rng.between(125, 130);
+            scene.many_holds(rng, kind, rows)
+        };
+        for line in adds.iter().filter_map(line_of_add) {
+            self.offer(rng, Some(line));
+        }
+    }
+
+    fn wants(&self, rng: &mut Rng, heavy: bool) -> u64 {
+        if heavy {
+            rng.pick(&[0, 1, 5, 60, 400])
+        } else {
+            rng.pick(&[0, 1, 3, 6, 10, 15])
+        }
+    }
+}

@@ -1,0 +1,189 @@
+// The judge: the original's answers in 01's numbers, with 01's additions in 01's order, and all tables after each call.
+
+use crate::added;
+use crate::calls::{
+    by_domain, no, rows_of_add, rows_of_record, Add, Answer, Call, Kind, Place, PlanAnswer, Record, Request, Seven,
+    Tables,
+};
+use crate::resources::bare::Bare;
+
+/// One allocation state.
+pub struct Judge {
+    bare: Bare,
+    tables: Tables,
+}
+
+impl Judge {
+    /// Fresh tables.
+    pub fn fresh() -> Self {
+        Self { bare: Bare::new(), tables: Tables::default() }
+    }
+
+    /// All tables in 01's order. Pools and reservations are held against the original's after every call that adds;
+    /// owner rows are told from the original's answers, and tests/opened.rs holds them against the original's own.
+    pub fn tables(&self) -> &Tables {
+        &self.tables
+    }
+
+    /// The original's own pools and allocators as they stand.
+    pub fn bare(&self) -> &Bare {
+        &self.bare
+    }
+
+    /// Adds a pool range, an MSI domain, a reservation or the pair.
+    pub fn add(&mut self, add: &Add) -> Answer {
+        let refused = added::bad_add(add).or_else(|| added::pair_no_range(add));
+        if let Some(refusal) = refused {
+            return Answer::Refused(refusal);
+        }
+        let before = self.bare.copy();
+        let mut answer = self.bare.add(add);
+        if let Some(turn) = added::overfull(&self.bare, add) {
+            self.bare = before;
+            if let Some(part) = added::turns_before(add, turn) {
+                self.bare.add(&part);
+            }
+            answer = Answer::plain(no::FULL);
+        }
+        self.follow(add);
+        answer
+    }
+
+    /// The owner tables become copies of the reservations.
+    pub fn start(&mut self) -> Answer {
+        self.tables.owners = self.tables.held.clone();
+        self.bare.start();
+        Answer::Accepted
+    }
+
+    /// One request at the door, which looks at all tables.
+    pub fn request(&mut self, request: &Request) -> Answer {
+        self.request_into(request, added::RECORD)
+    }
+
+    /// One request at the door that is lent so many numbers for its record.
+    pub fn request_into(&mut self, request: &Request, lent: usize) -> Answer {
+        let refused = added::malformed(&self.tables, &Kind::ALL).or_else(|| added::short_record(lent));
+        match refused {
+            Some(refusal) => Answer::Refused(refusal),
+            None => self.judged(request),
+        }
+    }
+
+    /// The by-value call of one kind, which is handed the tables of that kind alone.
+    pub fn request_of_kind(&mut self, request: &Request) -> Answer {
+        match added::malformed(&self.tables, request.need.kinds()) {
+            Some(refusal) => Answer::Refused(refusal),
+            None => self.judged(request),
+        }
+    }
+
+    /// A plan with a results list of so many numbers. A refused plan leaves the owner tables as they were.
+    pub fn plan(&mut self, requests: &[Request], results: usize) -> PlanAnswer {
+        let refused = added::malformed(&self.tables, &Kind::ALL).or_else(|| added::short_plan(requests.len(), results));
+        if let Some(refusal) = refused {
+            return PlanAnswer { answer: Answer::Refused(refusal), index: 0, records: Vec::new() };
+        }
+        let before = self.tables.owners.clone();
+        let mut records = Vec::new();
+        for (index, request) in requests.iter().enumerate() {
+            match self.judged(request) {
+                Answer::Granted(record) => records.push(record),
+                answer => {
+                    self.put_back(before);
+                    return PlanAnswer { answer, index, records };
+                }
+            }
+        }
+        PlanAnswer { answer: Answer::Accepted, index: 0, records }
+    }
+
+    /// Any call, in the form of a plan's answer.
+    pub fn call(&mut self, call: &Call) -> PlanAnswer {
+        let answer = match call {
+            Call::Add(add) => self.add(add),
+            Call::Start => self.start(),
+            Call::Request(request) => self.request(request),
+            Call::OfKind(request) => self.request_of_kind(request),
+            Call::Plan { requests, results } => return self.plan(requests, *results),
+        };
+        let records = match &answer {
+            Answer::Granted(record) => vec![*record],
+            _ => Vec::new(),
+        };
+        PlanAnswer { answer, index: 0, records }
+    }
+
+    /// The bare original's answer on the same state, which stays as it is.
+    pub fn bare_answer(&self, call: &Call) -> Option<Answer> {
+        let mut bare = self.bare.copy();
+        match call {
+            Call::Add(add) => Some(bare.add(add)),
+            Call::Request(request) | Call::OfKind(request) => {
+                bare.seat(&self.tables.owners);
+                Some(bare.request(request))
+            }
+            Call::Start | Call::Plan { .. } => None,
+        }
+    }
+
+    /// One request on sound tables: 2, then the original, then 9.
+    fn judged(&mut self, request: &Request) -> Answer {
+        if let Some(refusal) = added::bad_request(request) {
+            return Answer::Refused(refusal);
+        }
+        let crawl = added::host_crawl(&self.tables, request);
+        let full = added::no_room(&self.tables, request);
+        let answer = if full || crawl.is_some() { self.ask_aside(request, crawl) } else { self.ask(request) };
+        match answer {
+            Answer::Granted(_) if full => Answer::plain(no::FULL),
+            Answer::Granted(record) => {
+                self.record(&record);
+                Answer::Granted(record)
+            }
+            refused => refused,
+        }
+    }
+
+    /// Asks the allocators at work; they go on from the owner rows if a call in between has stopped them.
+    fn ask(&mut self, request: &Request) -> Answer {
+        if !self.bare.is_begun() {
+            self.bare.seat(&self.tables.owners);
+        }
+        self.bare.request(request)
+    }
+
+    /// Asks allocators made for this one request, so that what they record can be dropped.
+    fn ask_aside(&mut self, request: &Request, crawl: Option<Option<u64>>) -> Answer {
+        let mut aside = self.bare.copy();
+        if let Some(first) = crawl {
+            aside.cut_auto_host_irqs(first);
+        }
+        aside.seat(&self.tables.owners);
+        self.bare.forget_allocators();
+        aside.request(request)
+    }
+
+    fn record(&mut self, record: &Record) {
+        for (kind, row) in rows_of_record(record) {
+            added::insert_row(self.tables.of_mut(Place::Owner, kind), Place::Owner, row);
+        }
+    }
+
+    fn put_back(&mut self, owners: Seven) {
+        self.tables.owners = owners;
+        self.bare.forget_allocators();
+    }
+
+    /// Takes the rows that the original has added into the tables, and holds both against each other.
+    fn follow(&mut self, add: &Add) {
+        for (place, kind, row) in rows_of_add(add) {
+            let theirs = self.bare.rows(place, kind);
+            let ours = self.tables.of_mut(place, kind);
+            if theirs.len() > ours.len() {
+                added::insert_row(ours, place, row);
+            }
+            assert_eq!(by_domain(ours), theirs, "rows of {place:?} {kind:?} after {add:?}");
+        }
+    }
+}
