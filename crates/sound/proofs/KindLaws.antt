@@ -1,0 +1,66 @@
+-- The tests of one kind's tables are the definition's tests of that kind. Assumes nothing.
+use mathlib.Core.Path.{_≡_, refl, _∙_, ap, ap₂}
+use mathlib.Core.Bool.{Bool, true, false, _&&_}
+use Rattle.definition.specs.Rows.{Kind, input}
+use Rattle.definition.specs.Sound.{used, soundHeld, soundOwners, begins}
+use Rattle.definition.specs.Request.{automatic, fixed}
+use Rattle.definition.specs.Calls.{State, givenAt, soundAt}
+use Rattle.tables.specs.Views.{poolView, rangesView, wiresView}
+use Rattle.tables.specs.declared.Pool.{Pool}
+use Rattle.tables.specs.declared.Ranges.{Ranges}
+use Rattle.tables.specs.declared.Wires.{Wires}
+use Rattle.spans.specs.Tests.{limitsOf, soundPoolIn, soundRangesIn, holdersIn}
+use Rattle.spans.proofs.KindLaws.{Ranged, pool-kind, held-kind, owners-kind}
+use Rattle.sound.specs.Tests.{soundWires, givenRanges, setRanges, givenWires, setWires}
+
+-- ---- inputs
+
+pub held-wires : (t : Wires) → soundHeld input (wiresView t) ≡ soundWires true t
+unfolding soundWires
+held-wires t = refl
+
+pub owners-wires : (t : Wires) → soundOwners input (wiresView t) ≡ soundWires false t
+unfolding soundWires
+owners-wires t = refl
+
+-- ---- the tables of one kind of a state
+
+module _ (s : State) where
+  pub given-ranges :
+      (k : Kind) → Ranged k → (a f : Pool) (h : Ranges)
+      → s .pools automatic k ≡ poolView a → s .pools fixed k ≡ poolView f → s .held k ≡ rangesView h
+      → givenAt s k ≡ givenRanges (limitsOf k) a f h
+  unfolding givenAt givenRanges
+  given-ranges k r a f h p q e =
+      rw (p, q, e) (ap₂ (λ x y. x && y) (pool-kind k a) (ap₂ (λ x y. x && y) (pool-kind k f) (held-kind k r h)))
+
+  pub set-ranges :
+      (k : Kind) → Ranged k → (a f : Pool) (h o : Ranges)
+      → s .pools automatic k ≡ poolView a → s .pools fixed k ≡ poolView f → s .held k ≡ rangesView h → s .owners k ≡ rangesView o
+      → soundAt s k ≡ setRanges (limitsOf k) a f h o
+  unfolding soundAt setRanges givenRanges holdersIn
+  set-ranges k r a f h o p q e d =
+      ap₂ (λ x y. x && y) (given-ranges k r a f h p q e)
+      (ap₂ (λ x y. x && y) (ap (soundOwners k) d ∙ owners-kind k r o) (ap₂ (λ x y. begins (used x) (used y)) e d))
+      ∙ turn (soundPoolIn (limitsOf k) a) (soundPoolIn (limitsOf k) f) (soundRangesIn (limitsOf k) h) _
+    where
+      turn : (a b c d : Bool) → (a && (b && c)) && d ≡ a && (b && (c && d))
+      turn true true c d = refl
+      turn true false c d = refl
+      turn false b c d = refl
+
+  pub given-wires :
+      (a f : Pool) (h : Wires) → s .pools automatic input ≡ poolView a → s .pools fixed input ≡ poolView f → s .held input ≡ wiresView h
+      → givenAt s input ≡ givenWires a f h
+  unfolding givenAt givenWires
+  given-wires a f h p q e =
+      rw (p, q, e) (ap₂ (λ x y. x && y) (pool-kind input a) (ap₂ (λ x y. x && y) (pool-kind input f) (held-wires h)))
+
+  pub set-wires :
+      (a f : Pool) (h o : Wires)
+      → s .pools automatic input ≡ poolView a → s .pools fixed input ≡ poolView f → s .held input ≡ wiresView h → s .owners input ≡ wiresView o
+      → soundAt s input ≡ setWires a f h o
+  unfolding soundAt setWires
+  set-wires a f h o p q e d =
+      ap₂ (λ x y. x && y) (given-wires a f h p q e)
+      (ap₂ (λ x y. x && y) (ap (soundOwners input) d ∙ owners-wires o) (ap₂ (λ x y. begins (used x) (used y)) e d))

@@ -1,0 +1,116 @@
+-- Laws of wired rows: one for each way out of the code, and what a table's test comes to. Assumes nothing.
+use mathlib.Core.Path.{_≡_, refl, sym, _∙_, ap, ap₂}
+use mathlib.Core.Bool.{Bool, true, false, not, _&&_, _||_}
+use Prim.Native.Nat.{ℕ, suc, _<_, _≤_, min}
+use native.Mathlib.Omega.{arith}
+use lib.Dec.{eqb, leb, ltb, eqb→eq, ltb→lt, lt→ltb}
+use lib.ListN.{getD}
+use borrow.Author.Tests.{le-leb, lt-ltb, eq-eqb, ne-eqb}
+use Rattle.definition.specs.Rows.{rowLimit, top, lastTrigger, shared, input, wiredRow, sameDom, within, overlap, meets, joins, clash, sameRow}
+use Rattle.definition.specs.Sound.{fits, goodRow, used, begins}
+use Rattle.tables.specs.Below.{allBelow, allFrom}
+use Rattle.tables.specs.Views.{wireOf, wireAt, wiresView}
+use Rattle.tables.specs.declared.Wires.{Wires}
+use Rattle.tables.proofs.BaseLaws.{and-l, and-r, and-i, and-true, T-ext, eq→eqb}
+use Rattle.tables.proofs.BelowLaws.{all-every}
+use Rattle.tables.proofs.TableLaws.{tidy-is, tidy-count, sound-is, begins-used}
+use Rattle.spans.specs.Tests.{NoneAbove}
+use Rattle.sound.specs.Tests.{blankWire, wireFit, wireOk, soundWires, tidyWires}
+use Rattle.spans.proofs.HighLaws.{high-at}
+
+-- ---- one row
+
+pub wire-good :
+    (c x t s o : ℕ) → c ≤ top 32 → x ≤ top 64 → o ≤ top 32
+    → goodRow input (wiredRow c x t s o) ≡ leb t lastTrigger && (leb s shared && ltb 0 o)
+unfolding goodRow fits within
+wire-good c x t s o p q r =
+    rw (le-leb c (top 32) p, le-leb x (top 64) q, eq-eqb (suc x) (suc x) refl, le-leb o (top 32) r, lt-ltb x (suc x) (omega arith))
+    (turn (leb t lastTrigger) (leb s shared) (ltb 0 o))
+  where
+    turn : (a b c : Bool) → (a && (b && true)) && c ≡ a && (b && c)
+    turn true b c = ap (λ z. z && c) (and-true b)
+    turn false b c = refl
+
+-- ---- two rows
+
+module _ (c x t s w c′ x′ t′ s′ w′ : ℕ) where
+  -- two numbers n..n+1 overlap where they are one
+  one-number : ltb x (suc x′) && ltb x′ (suc x) ≡ eqb x x′
+  one-number = T-ext _ _
+      (λ h.
+      let l : x < suc x′ = ltb→lt x (suc x′) (and-l (ltb x (suc x′)) (ltb x′ (suc x)) h) in
+      let m : x′ < suc x = ltb→lt x′ (suc x) (and-r (ltb x (suc x′)) (ltb x′ (suc x)) h) in
+      eq→eqb x x′ (omega arith))
+      (λ h.
+      let q : x ≡ x′ = eqb→eq x x′ h in
+      and-i (ltb x (suc x′)) (ltb x′ (suc x)) (lt→ltb x (suc x′) (omega arith)) (lt→ltb x′ (suc x) (omega arith)))
+
+  pub wire-meets : meets (wiredRow c x t s w) (wiredRow c′ x′ t′ s′ w′) ≡ eqb c c′ && eqb x x′
+  unfolding meets sameDom overlap
+  wire-meets = ap₂ (λ a b. a && b) (and-true (eqb c c′)) one-number
+
+  or-false : (a : Bool) → a || false ≡ a
+  or-false true = refl
+  or-false false = refl
+
+  not-and : (a b : Bool) → not (a && not b) ≡ not a || b
+  not-and true true = refl
+  not-and true false = refl
+  not-and false b = refl
+
+  -- another input, or a shared one
+  pub wire-fits : (single : Bool)
+      → wireFit single (wiredRow c x t s w) (wiredRow c′ x′ t′ s′ w′)
+      ≡ not (eqb c c′ && eqb x x′) || (not single && (eqb s shared && (eqb s′ shared && eqb t t′)))
+  unfolding clash joins
+  wire-fits true = ap not wire-meets ∙ sym (or-false (not (eqb c c′ && eqb x x′)))
+  wire-fits false =
+      not-and (meets (wiredRow c x t s w) (wiredRow c′ x′ t′ s′ w′)) (eqb s shared && (eqb s′ shared && eqb t t′))
+      ∙ ap (λ a. not a || (eqb s shared && (eqb s′ shared && eqb t t′))) wire-meets
+
+  pub wire-apart : (single : Bool) → (x ≡ x′ → ⊥) → wireFit single (wiredRow c x t s w) (wiredRow c′ x′ t′ s′ w′) ≡ true
+  wire-apart single h = wire-fits single ∙ rw (ne-eqb x x′ h) (off (eqb c c′))
+    where
+      off : (a : Bool) → not (a && false) || (not single && (eqb s shared && (eqb s′ shared && eqb t t′))) ≡ true
+      off true = refl
+      off false = refl
+
+-- ---- row k
+
+module _ (single : Bool) (t : Wires) (k : ℕ) where
+  pub wire-bad : goodRow input (wireOf (wireAt t k)) ≡ false → wireOk single t k ≡ false
+  unfolding wireOk
+  wire-bad g = rw g
+
+  -- each row before it is a lower input
+  pub wire-high : (h : ℕ) → goodRow input (wireOf (wireAt t k)) ≡ true → NoneAbove h (t .input) k → h < getD (t .input) k 0 → wireOk single t k ≡ true
+  unfolding wireOk
+  wire-high h g a p =
+      rw g (all-every (λ j. wireFit single (wireOf (wireAt t j)) (wireOf (wireAt t k))) k
+      (λ j m. wire-apart _ _ _ _ _ _ _ _ _ _ single (λ e. omega (arith, high-at h (t .input) k a j m))))
+
+  pub wire-rest :
+      goodRow input (wireOf (wireAt t k)) ≡ true → wireOk single t k ≡ allBelow (λ j. wireFit single (wireOf (wireAt t j)) (wireOf (wireAt t k))) k
+  unfolding wireOk
+  wire-rest g = rw g
+
+-- ---- the whole table
+
+pub wires-is : (single : Bool) (t : Wires)
+    → soundWires single t ≡ tidyWires t && allBelow (wireOk single t) (t .n)
+unfolding soundWires wireOk tidyWires
+wires-is single t = sound-is rowLimit (λ k. wireOf (wireAt t k)) (t .n) (sameRow blankWire) (goodRow input) (wireFit single)
+
+pub wires-tidy : (t : Wires) → tidyWires t ≡ leb (t .n) rowLimit && allFrom (λ k. sameRow blankWire (wireOf (wireAt t k))) (t .n) rowLimit
+unfolding tidyWires
+wires-tidy t = tidy-is rowLimit (λ k. wireOf (wireAt t k)) (t .n) (sameRow blankWire)
+
+pub wires-count : (t : Wires) → tidyWires t ≡ true → t .n ≤ rowLimit
+unfolding tidyWires
+wires-count t e = tidy-count rowLimit (λ k. wireOf (wireAt t k)) (t .n) (sameRow blankWire) e
+
+pub wires-begin-is : (h o : Wires)
+    → begins (used (wiresView h)) (used (wiresView o))
+    ≡ leb (min (h .n) rowLimit) (min (o .n) rowLimit) && allBelow (λ k. sameRow (wireOf (wireAt h k)) (wireOf (wireAt o k))) (min (h .n) rowLimit)
+wires-begin-is h o = begins-used rowLimit (λ k. wireOf (wireAt h k)) (λ k. wireOf (wireAt o k)) (h .n) (o .n)

@@ -1,0 +1,253 @@
+// The test of handed-in tables: what 01 calls sound, no more and no less.
+use spans::limits::Limits;
+use spans::limits::device_limits;
+use spans::limits::event_limits;
+use spans::limits::host_limits;
+use spans::limits::input_limits;
+use spans::limits::lpi_limits;
+use spans::limits::mmio_limits;
+use spans::limits::pio_limits;
+use spans::pool;
+use spans::range;
+use tables::Pool;
+use tables::Ranges;
+use tables::State;
+use tables::Wires;
+ghost use mathlib.Core.Path.{_≡_};
+ghost use Rattle.definition.specs.Rows.{kinds};
+ghost use Rattle.definition.specs.Calls.{given, sound};
+ghost use Rattle.tables.specs.Views.{stateView};
+ghost use Rattle.sound.specs.Tests.{givenRanges, setRanges, givenWires, setWires};
+
+pub mod wired;
+
+// Whether the pools and reservations of a kind of ranges are sound. Here and below columns are lent: no table is copied.
+pub fn ranges_given(l: Limits, auto: Pool, fixed: Pool, held: Ranges) -> bool
+    ensures { λ r. ⌜ r ≡ givenRanges l auto fixed held ⌝ }
+{
+    let n = auto.n;
+    if !pool::table_sound(l, n, &auto.controller, &auto.its, &auto.start, &auto.end) {
+        return false;
+    }
+    let n = fixed.n;
+    if !pool::table_sound(
+        l,
+        n,
+        &fixed.controller,
+        &fixed.its,
+        &fixed.start,
+        &fixed.end,
+    ) {
+        return false;
+    }
+    let n = held.n;
+    range::table_sound(
+        l,
+        n,
+        &held.controller,
+        &held.its,
+        &held.device,
+        &held.start,
+        &held.end,
+        &held.owner,
+    )
+}
+
+// Whether all tables of a kind of ranges are sound.
+pub fn ranges_set(l: Limits, auto: Pool, fixed: Pool, held: Ranges, owners: Ranges) -> bool
+    ensures { λ r. ⌜ r ≡ setRanges l auto fixed held owners ⌝ }
+{
+    let n = auto.n;
+    if !pool::table_sound(l, n, &auto.controller, &auto.its, &auto.start, &auto.end) {
+        return false;
+    }
+    let n = fixed.n;
+    if !pool::table_sound(
+        l,
+        n,
+        &fixed.controller,
+        &fixed.its,
+        &fixed.start,
+        &fixed.end,
+    ) {
+        return false;
+    }
+    let m = held.n;
+    let n = owners.n;
+    range::holders_sound(
+        l,
+        m,
+        &held.controller,
+        &held.its,
+        &held.device,
+        &held.start,
+        &held.end,
+        &held.owner,
+        n,
+        &owners.controller,
+        &owners.its,
+        &owners.device,
+        &owners.start,
+        &owners.end,
+        &owners.owner,
+    )
+}
+
+// Whether the pools and reservations of inputs are sound.
+pub fn wires_given(auto: Pool, fixed: Pool, held: Wires) -> bool
+    ensures { λ r. ⌜ r ≡ givenWires auto fixed held ⌝ }
+{
+    let l = input_limits();
+    let n = auto.n;
+    if !pool::table_sound(l, n, &auto.controller, &auto.its, &auto.start, &auto.end) {
+        return false;
+    }
+    let n = fixed.n;
+    if !pool::table_sound(
+        l,
+        n,
+        &fixed.controller,
+        &fixed.its,
+        &fixed.start,
+        &fixed.end,
+    ) {
+        return false;
+    }
+    let n = held.n;
+    wired::table_sound(
+        true,
+        n,
+        &held.controller,
+        &held.input,
+        &held.trigger,
+        &held.sharing,
+        &held.owner,
+    )
+}
+
+// Whether all tables of inputs are sound.
+pub fn wires_set(auto: Pool, fixed: Pool, held: Wires, owners: Wires) -> bool
+    ensures { λ r. ⌜ r ≡ setWires auto fixed held owners ⌝ }
+{
+    if !wires_given(auto, fixed, held) {
+        return false;
+    }
+    let n = owners.n;
+    if !wired::table_sound(
+        false,
+        n,
+        &owners.controller,
+        &owners.input,
+        &owners.trigger,
+        &owners.sharing,
+        &owners.owner,
+    ) {
+        return false;
+    }
+    let m = held.n;
+    wired::begins_with(
+        m,
+        &held.controller,
+        &held.input,
+        &held.trigger,
+        &held.sharing,
+        &held.owner,
+        n,
+        &owners.controller,
+        &owners.input,
+        &owners.trigger,
+        &owners.sharing,
+        &owners.owner,
+    )
+}
+
+// Whether all pools and all reservations are sound: what adding a range, reserving and starting ask.
+pub fn given(s: State) -> bool
+    ensures { λ r. ⌜ r ≡ given kinds (stateView s) ⌝ }
+{
+    if !ranges_given(mmio_limits(), s.auto.mmio, s.fixed.mmio, s.held.mmio) {
+        return false;
+    }
+    if !ranges_given(pio_limits(), s.auto.pio, s.fixed.pio, s.held.pio) {
+        return false;
+    }
+    if !wires_given(s.auto.input, s.fixed.input, s.held.input) {
+        return false;
+    }
+    if !ranges_given(host_limits(), s.auto.host, s.fixed.host, s.held.host) {
+        return false;
+    }
+    if !ranges_given(
+        device_limits(),
+        s.auto.device,
+        s.fixed.device,
+        s.held.device,
+    ) {
+        return false;
+    }
+    if !ranges_given(event_limits(), s.auto.event, s.fixed.event, s.held.event) {
+        return false;
+    }
+    ranges_given(lpi_limits(), s.auto.lpi, s.fixed.lpi, s.held.lpi)
+}
+
+// Whether all tables are sound: what a request and a plan ask.
+pub fn sound(s: State) -> bool
+    ensures { λ r. ⌜ r ≡ sound kinds (stateView s) ⌝ }
+{
+    if !ranges_set(
+        mmio_limits(),
+        s.auto.mmio,
+        s.fixed.mmio,
+        s.held.mmio,
+        s.owners.mmio,
+    ) {
+        return false;
+    }
+    if !ranges_set(
+        pio_limits(),
+        s.auto.pio,
+        s.fixed.pio,
+        s.held.pio,
+        s.owners.pio,
+    ) {
+        return false;
+    }
+    if !wires_set(s.auto.input, s.fixed.input, s.held.input, s.owners.input) {
+        return false;
+    }
+    if !ranges_set(
+        host_limits(),
+        s.auto.host,
+        s.fixed.host,
+        s.held.host,
+        s.owners.host,
+    ) {
+        return false;
+    }
+    if !ranges_set(
+        device_limits(),
+        s.auto.device,
+        s.fixed.device,
+        s.held.device,
+        s.owners.device,
+    ) {
+        return false;
+    }
+    if !ranges_set(
+        event_limits(),
+        s.auto.event,
+        s.fixed.event,
+        s.held.event,
+        s.owners.event,
+    ) {
+        return false;
+    }
+    ranges_set(
+        lpi_limits(),
+        s.auto.lpi,
+        s.fixed.lpi,
+        s.held.lpi,
+        s.owners.lpi,
+    )
+}

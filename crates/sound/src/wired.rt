@@ -1,0 +1,319 @@
+// Reservation and owner tables of wired inputs.
+use spans::limits::capped;
+use spans::limits::higher;
+use tables::ROWS;
+use tables::WireRow;
+use tables::Wires;
+ghost use mathlib.Core.Path.{_≡_};
+ghost use Prim.Native.Nat.{_≤_, _<_};
+ghost use Rattle.definition.specs.Rows.{rowLimit, input as wired, sameRow};
+ghost use Rattle.definition.specs.Sound.{goodRow, used, begins};
+ghost use Rattle.tables.specs.Below.{allBelow, allFrom};
+ghost use Rattle.tables.specs.Views.{wires, wireOf, wireAt, wiresView};
+ghost use Rattle.spans.specs.Tests.{NoneAbove};
+ghost use Rattle.sound.specs.Tests.{blankWire, wireFit, wireOk, soundWires, tidyWires};
+
+const LAST_TRIGGER: u32 = 3;
+
+const SHARED: u32 = 1;
+
+// Whether two rows can stand in one table: an input is reserved once (`single`), and owned once or by rows that share it with one trigger.
+pub fn wires_fit(single: bool, a: WireRow, b: WireRow) -> bool
+    ensures { λ r. ⌜ r ≡ wireFit single (wireOf a) (wireOf b) ⌝ }
+{
+    if a.input != b.input {
+        return true;
+    }
+    if a.controller != b.controller {
+        return true;
+    }
+    if single {
+        return false;
+    }
+    if a.sharing != SHARED {
+        return false;
+    }
+    if b.sharing != SHARED {
+        return false;
+    }
+    a.trigger == b.trigger
+}
+
+pub fn same_row(a: WireRow, b: WireRow) -> bool
+    ensures { λ r. ⌜ r ≡ sameRow (wireOf a) (wireOf b) ⌝ }
+{
+    if a.controller != b.controller {
+        return false;
+    }
+    if a.input != b.input {
+        return false;
+    }
+    if a.trigger != b.trigger {
+        return false;
+    }
+    if a.sharing != b.sharing {
+        return false;
+    }
+    a.owner == b.owner
+}
+
+// Whether a row has known codes and an owner. Its numbers keep to their width by their types.
+pub fn good_row(r: WireRow) -> bool
+    ensures { λ b. ⌜ b ≡ goodRow wired (wireOf r) ⌝ }
+{
+    if LAST_TRIGGER < r.trigger {
+        return false;
+    }
+    if SHARED < r.sharing {
+        return false;
+    }
+    0 < r.owner
+}
+
+// Whether `r` can stand with each of the first `k` rows.
+pub fn fits_below<'a>(
+    k: usize,
+    single: bool,
+    controller: &'a [u32; ROWS],
+    input: &'a [u64; ROWS],
+    trigger: &'a [u32; ROWS],
+    sharing: &'a [u32; ROWS],
+    owner: &'a [u32; ROWS],
+    r: WireRow,
+) -> bool
+    requires { ⌜ k ≤ rowLimit ⌝ }
+    ensures { λ b. ⌜ b ≡ allBelow (λ j. wireFit single (wireOf (wireAt (wires 0 (now (controller .entry)) (now (input .entry)) (now (trigger .entry)) (now (sharing .entry)) (now (owner .entry))) j)) (wireOf r)) k ⌝ }
+{
+    let mut j: usize = 0;
+    while j < k {
+        if !wires_fit(
+            single,
+            tables::wire_at(j, controller, input, trigger, sharing, owner),
+            r,
+        ) {
+            return false;
+        }
+        j += 1;
+    }
+    true
+}
+
+// Whether each row from `n` on is zero.
+pub fn unused_zero<'a>(
+    n: usize,
+    controller: &'a [u32; ROWS],
+    input: &'a [u64; ROWS],
+    trigger: &'a [u32; ROWS],
+    sharing: &'a [u32; ROWS],
+    owner: &'a [u32; ROWS],
+) -> bool
+    requires { ⌜ n ≤ rowLimit ⌝ }
+    ensures { λ r. ⌜ r ≡ allFrom (λ k. sameRow blankWire (wireOf (wireAt (wires n (now (controller .entry)) (now (input .entry)) (now (trigger .entry)) (now (sharing .entry)) (now (owner .entry))) k))) n rowLimit ⌝ }
+{
+    let zero = WireRow {
+        controller: 0,
+        input: 0,
+        trigger: 0,
+        sharing: 0,
+        owner: 0,
+    };
+    let mut k: usize = n;
+    while k < ROWS {
+        if !same_row(
+            zero,
+            tables::wire_at(k, controller, input, trigger, sharing, owner),
+        ) {
+            return false;
+        }
+        k += 1;
+    }
+    true
+}
+
+// Whether a table in lent columns has its count within its size and zeros in its unused rows.
+pub fn tidy<'a>(
+    n: usize,
+    controller: &'a [u32; ROWS],
+    input: &'a [u64; ROWS],
+    trigger: &'a [u32; ROWS],
+    sharing: &'a [u32; ROWS],
+    owner: &'a [u32; ROWS],
+) -> bool
+    ensures { λ r. ⌜ r ≡ tidyWires (wires n (now (controller .entry)) (now (input .entry)) (now (trigger .entry)) (now (sharing .entry)) (now (owner .entry))) ⌝ }
+{
+    if ROWS < n {
+        return false;
+    }
+    unused_zero(n, controller, input, trigger, sharing, owner)
+}
+
+// Whether row `k` is good and can stand with each row before it. None of those is an input above `high`, so a higher one can.
+pub fn row_ok<'a>(
+    k: usize,
+    high: u64,
+    single: bool,
+    controller: &'a [u32; ROWS],
+    input: &'a [u64; ROWS],
+    trigger: &'a [u32; ROWS],
+    sharing: &'a [u32; ROWS],
+    owner: &'a [u32; ROWS],
+) -> bool
+    requires { ⌜ k < rowLimit ⌝ }
+    requires { ⌜ NoneAbove high (now input) k ⌝ }
+    ensures { λ r. ⌜ r ≡ wireOk single (wires 0 (now (controller .entry)) (now (input .entry)) (now (trigger .entry)) (now (sharing .entry)) (now (owner .entry))) k ⌝ }
+{
+    let r = tables::wire_at(k, controller, input, trigger, sharing, owner);
+    if !good_row(r) {
+        return false;
+    }
+    if high < r.input {
+        return true;
+    }
+    fits_below(k, single, controller, input, trigger, sharing, owner, r)
+}
+
+// Whether each of the first `n` rows is good and can stand with the others.
+pub fn rows_ok<'a>(
+    n: usize,
+    single: bool,
+    controller: &'a [u32; ROWS],
+    input: &'a [u64; ROWS],
+    trigger: &'a [u32; ROWS],
+    sharing: &'a [u32; ROWS],
+    owner: &'a [u32; ROWS],
+) -> bool
+    requires { ⌜ n ≤ rowLimit ⌝ }
+    ensures { λ r. ⌜ r ≡ allBelow (wireOk single (wires 0 (now (controller .entry)) (now (input .entry)) (now (trigger .entry)) (now (sharing .entry)) (now (owner .entry)))) n ⌝ }
+{
+    let mut high: u64 = 0;
+    let mut k: usize = 0;
+    while k < n {
+        if !row_ok(k, high, single, controller, input, trigger, sharing, owner) {
+            return false;
+        }
+        high = higher(high, input[k]);
+        k += 1;
+    }
+    true
+}
+
+// Whether a table in lent columns is sound: `single` for reservations.
+pub fn table_sound<'a>(
+    single: bool,
+    n: usize,
+    controller: &'a [u32; ROWS],
+    input: &'a [u64; ROWS],
+    trigger: &'a [u32; ROWS],
+    sharing: &'a [u32; ROWS],
+    owner: &'a [u32; ROWS],
+) -> bool
+    ensures { λ r. ⌜ r ≡ soundWires single (wires n (now (controller .entry)) (now (input .entry)) (now (trigger .entry)) (now (sharing .entry)) (now (owner .entry))) ⌝ }
+{
+    if !tidy(n, controller, input, trigger, sharing, owner) {
+        return false;
+    }
+    rows_ok(n, single, controller, input, trigger, sharing, owner)
+}
+
+// Whether a reservation table (`single`) or an owner table is sound.
+pub fn wires_sound(single: bool, t: Wires) -> bool
+    ensures { λ r. ⌜ r ≡ soundWires single t ⌝ }
+{
+    let n = t.n;
+    table_sound(
+        single,
+        n,
+        &t.controller,
+        &t.input,
+        &t.trigger,
+        &t.sharing,
+        &t.owner,
+    )
+}
+
+// Whether the first `m` rows of two tables in lent columns are the same.
+pub fn rows_same<'a>(
+    m: usize,
+    controller: &'a [u32; ROWS],
+    input: &'a [u64; ROWS],
+    trigger: &'a [u32; ROWS],
+    sharing: &'a [u32; ROWS],
+    owner: &'a [u32; ROWS],
+    controller2: &'a [u32; ROWS],
+    input2: &'a [u64; ROWS],
+    trigger2: &'a [u32; ROWS],
+    sharing2: &'a [u32; ROWS],
+    owner2: &'a [u32; ROWS],
+) -> bool
+    requires { ⌜ m ≤ rowLimit ⌝ }
+    ensures { λ r. ⌜ r ≡ allBelow (λ k. sameRow (wireOf (wireAt (wires 0 (now (controller .entry)) (now (input .entry)) (now (trigger .entry)) (now (sharing .entry)) (now (owner .entry))) k)) (wireOf (wireAt (wires 0 (now (controller2 .entry)) (now (input2 .entry)) (now (trigger2 .entry)) (now (sharing2 .entry)) (now (owner2 .entry))) k))) m ⌝ }
+{
+    let mut k: usize = 0;
+    while k < m {
+        let a = tables::wire_at(k, controller, input, trigger, sharing, owner);
+        let b = tables::wire_at(k, controller2, input2, trigger2, sharing2, owner2);
+        if !same_row(a, b) {
+            return false;
+        }
+        k += 1;
+    }
+    true
+}
+
+// Whether an owner table begins with the reservations, in order, both in lent columns.
+pub fn begins_with<'a>(
+    m: usize,
+    controller: &'a [u32; ROWS],
+    input: &'a [u64; ROWS],
+    trigger: &'a [u32; ROWS],
+    sharing: &'a [u32; ROWS],
+    owner: &'a [u32; ROWS],
+    n: usize,
+    controller2: &'a [u32; ROWS],
+    input2: &'a [u64; ROWS],
+    trigger2: &'a [u32; ROWS],
+    sharing2: &'a [u32; ROWS],
+    owner2: &'a [u32; ROWS],
+) -> bool
+    ensures { λ r. ⌜ r ≡ begins (used (wiresView (wires m (now (controller .entry)) (now (input .entry)) (now (trigger .entry)) (now (sharing .entry)) (now (owner .entry))))) (used (wiresView (wires n (now (controller2 .entry)) (now (input2 .entry)) (now (trigger2 .entry)) (now (sharing2 .entry)) (now (owner2 .entry))))) ⌝ }
+{
+    let k = capped(m);
+    if capped(n) < k {
+        return false;
+    }
+    rows_same(
+        k,
+        controller,
+        input,
+        trigger,
+        sharing,
+        owner,
+        controller2,
+        input2,
+        trigger2,
+        sharing2,
+        owner2,
+    )
+}
+
+// Whether the owner table begins with the reservations, in order.
+pub fn wires_begin(held: Wires, owners: Wires) -> bool
+    ensures { λ r. ⌜ r ≡ begins (used (wiresView held)) (used (wiresView owners)) ⌝ }
+{
+    let m = held.n;
+    let n = owners.n;
+    begins_with(
+        m,
+        &held.controller,
+        &held.input,
+        &held.trigger,
+        &held.sharing,
+        &held.owner,
+        n,
+        &owners.controller,
+        &owners.input,
+        &owners.trigger,
+        &owners.sharing,
+        &owners.owner,
+    )
+}

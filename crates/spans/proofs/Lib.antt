@@ -1,0 +1,5 @@
+pub mod BeginLaws
+pub mod HighLaws
+pub mod KindLaws
+pub mod PoolLaws
+pub mod RangeLaws

@@ -1,0 +1,57 @@
+-- The loop keeps that no row passed meets the one looked for. Assumes nothing.
+use Prim.Native.Nat.{_-_, _≤_}
+use borrow.Author.Needs.{needs}
+use mathlib.Core.Path.{_∙_, _≡_, sym}
+use native.Mathlib.Omega.{arith}
+use Rattle.definition.specs.Rows.{meets}
+use Rattle.tables.proofs.BelowLaws.{first-found, first-more, first-start}
+use Rattle.tables.specs.Below.{first}
+use Rattle.tables.specs.Views.{rangeAt, rangeOf, ranges}
+use Rattle.tables.specs.declared.Hit.the-variants.{Clear}
+use Rattle.spans.proofs.range.first_overlap.Statement.{statement}
+use Rattle.spans.proofs.range.first_overlap.Tie as tie
+
+abbrev Inv-loop : tie.InvT-loop
+Inv-loop n controller its device start end owner r k₀ k = (k ≤ n) × (first (λ j. meets (rangeOf r) (rangeOf (rangeAt (ranges n controller its device start end owner) j))) k ≡ Clear)
+
+abbrev μ-loop : tie.MeasureT-loop
+μ-loop n controller its device start end owner r k₀ k = n - k
+
+loop-holds : tie.Need-loop-holds Inv-loop μ-loop
+loop-holds c = (omega arith, first-start _)
+
+range-at-requires : tie.Need-range-at-requires Inv-loop μ-loop
+range-at-requires c κs = search needs
+
+rows-meet-requires : tie.Need-rows-meet-requires Inv-loop μ-loop
+rows-meet-requires c κs = search needs
+
+returns : tie.Need-returns Inv-loop μ-loop
+returns c = sym (first-found _ _ _ (c .before .before .before .before .loop .inv .1) (sym (rw (c .before .before .range-at .ensures) at (c .before .rows-meet .ensures)) ∙ c .if1 .taken) (omega arith))
+
+add-k : tie.Need-add-k Inv-loop μ-loop
+add-k c = omega arith
+
+loop-less : tie.Need-loop-less Inv-loop μ-loop
+loop-less c = omega arith
+
+loop-again : tie.Need-loop-again Inv-loop μ-loop
+loop-again c = (omega arith, first-more _ _ (c .before .before .before .before .loop .inv .1) (sym (rw (c .before .before .range-at .ensures) at (c .before .rows-meet .ensures)) ∙ c .if1 .left))
+
+returns-2 : tie.Need-returns-2 Inv-loop μ-loop
+returns-2 c = let e : c .before .loop .k ≡ c .before .before .args .n = omega arith in sym (rw e at (c .before .loop .inv .1))
+
+pub first-overlap-spec : {M : Type 1} → statement M
+first-overlap-spec =
+    tie.close
+    (tie.spec
+    Inv-loop
+    μ-loop
+    loop-holds
+    range-at-requires
+    rows-meet-requires
+    returns
+    add-k
+    loop-less
+    loop-again
+    returns-2)

@@ -1,0 +1,21 @@
+-- The count, then the unused rows. Assumes nothing.
+use borrow.Author.Needs.{needs}
+use borrow.Author.Tests.{le-leb, lt-leb}
+use mathlib.Core.Path.{_∙_, sym}
+use native.Mathlib.Omega.{arith}
+use Rattle.definition.specs.Rows.{rowLimit}
+use Rattle.spans.proofs.RangeLaws.{ranges-tidy}
+use Rattle.spans.proofs.range.tidy.Statement.{statement}
+use Rattle.spans.proofs.range.tidy.Tie as tie
+
+returns : tie.Need-returns
+returns c = sym (ranges-tidy _ ∙ rw (lt-leb (c .before .args .n) rowLimit (omega arith)))
+
+unused-zero-requires : tie.Need-unused-zero-requires
+unused-zero-requires c κs = search needs
+
+returns-2 : tie.Need-returns-2
+returns-2 c = c .unused-zero .ensures ∙ sym (ranges-tidy _ ∙ rw (le-leb (c .before .before .args .n) rowLimit (omega arith)))
+
+pub tidy-spec : {M : Type 1} → statement M
+tidy-spec = tie.close (tie.spec returns unused-zero-requires returns-2)

@@ -1,0 +1,8 @@
+pub mod BaseLaws
+pub mod BelowLaws
+pub mod ListedLaws
+pub mod TableLaws
+pub mod FixedLaws
+pub mod FreshLaws
+pub mod PushLaws
+pub mod SaysLaws

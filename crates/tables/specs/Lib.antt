@@ -1,0 +1,4 @@
+pub mod Below
+pub mod Views
+pub mod Sized
+pub mod Whole

@@ -1,0 +1,106 @@
+-- The columns as the definition's tables: the count, and ALL rows. A promise about a view speaks of every number that the columns hold. Assumes nothing.
+use mathlib.Core.List.{List}
+use Prim.Native.Nat.{ℕ}
+use lib.ListN.{getD}
+use Rattle.definition.specs.Rows.{poolLimit, rowLimit, dom, Kind, mmio, pio, input, host, device, event, lpi, Span, span, Row, rangeRow, wiredRow}
+use Rattle.definition.specs.Refusal.{says}
+use Rattle.definition.specs.Sound.{Table}
+use Rattle.definition.specs.Request.{Use, automatic, fixed}
+use Rattle.definition.specs.Calls.{State as Given, state}
+use Rattle.tables.specs.Below.{listed}
+use Rattle.tables.specs.declared.Pool.{Pool}
+use Rattle.tables.specs.declared.Ranges.{Ranges}
+use Rattle.tables.specs.declared.Wires.{Wires}
+use Rattle.tables.specs.declared.Pools.{Pools}
+use Rattle.tables.specs.declared.Holders.{Holders}
+use Rattle.tables.specs.declared.State.{State}
+use Rattle.tables.specs.declared.PoolRow.{PoolRow}
+use Rattle.tables.specs.declared.RangeRow.{RangeRow}
+use Rattle.tables.specs.declared.WireRow.{WireRow}
+
+-- ---- tables of lent columns
+
+abbrev pub pool : ℕ → List ℕ → List ℕ → List ℕ → List ℕ → Pool
+pool n c i s e = record { n = n; controller = c; its = i; start = s; end = e }
+
+abbrev pub ranges : ℕ → List ℕ → List ℕ → List ℕ → List ℕ → List ℕ → List ℕ → Ranges
+ranges n c i d s e o = record { n = n; controller = c; its = i; device = d; start = s; end = e; owner = o }
+
+abbrev pub wires : ℕ → List ℕ → List ℕ → List ℕ → List ℕ → List ℕ → Wires
+wires n c x t s o = record { n = n; controller = c; input = x; trigger = t; sharing = s; owner = o }
+
+-- ---- one row
+
+abbrev pub spanOf : PoolRow → Span
+spanOf r = span (dom (r .controller) (r .its) 0) (r .start) (r .end)
+
+abbrev pub rangeOf : RangeRow → Row
+rangeOf r = rangeRow (dom (r .controller) (r .its) (r .device)) (r .start) (r .end) (r .owner)
+
+abbrev pub wireOf : WireRow → Row
+wireOf r = wiredRow (r .controller) (r .input) (r .trigger) (r .sharing) (r .owner)
+
+abbrev pub poolAt : Pool → ℕ → PoolRow
+poolAt t k =
+    record { controller = getD (t .controller) k 0; its = getD (t .its) k 0; start = getD (t .start) k 0; end = getD (t .end) k 0 }
+
+abbrev pub rangeAt : Ranges → ℕ → RangeRow
+rangeAt t k =
+    record {
+      controller = getD (t .controller) k 0;
+      its = getD (t .its) k 0;
+      device = getD (t .device) k 0;
+      start = getD (t .start) k 0;
+      end = getD (t .end) k 0;
+      owner = getD (t .owner) k 0;
+    }
+
+abbrev pub wireAt : Wires → ℕ → WireRow
+wireAt t k =
+    record {
+      controller = getD (t .controller) k 0;
+      input = getD (t .input) k 0;
+      trigger = getD (t .trigger) k 0;
+      sharing = getD (t .sharing) k 0;
+      owner = getD (t .owner) k 0;
+    }
+
+-- ---- whole tables
+
+abbrev pub poolView : Pool → Table Span
+poolView t = record { count = t .n; rows = listed (λ k. spanOf (poolAt t k)) poolLimit }
+
+abbrev pub rangesView : Ranges → Table Row
+rangesView t = record { count = t .n; rows = listed (λ k. rangeOf (rangeAt t k)) rowLimit }
+
+abbrev pub wiresView : Wires → Table Row
+wiresView t = record { count = t .n; rows = listed (λ k. wireOf (wireAt t k)) rowLimit }
+
+-- ---- all tables
+
+abbrev pub poolOf : Pools → Kind → Pool
+poolOf p mmio = p .mmio
+poolOf p pio = p .pio
+poolOf p input = p .input
+poolOf p host = p .host
+poolOf p device = p .device
+poolOf p event = p .event
+poolOf p lpi = p .lpi
+
+abbrev pub poolsView : Pools → Pools → Use → Kind → Table Span
+poolsView a f automatic k = poolView (poolOf a k)
+poolsView a f fixed k = poolView (poolOf f k)
+
+abbrev pub holdersView : Holders → Kind → Table Row
+holdersView h mmio = rangesView (h .mmio)
+holdersView h pio = rangesView (h .pio)
+holdersView h input = wiresView (h .input)
+holdersView h host = rangesView (h .host)
+holdersView h device = rangesView (h .device)
+holdersView h event = rangesView (h .event)
+holdersView h lpi = rangesView (h .lpi)
+
+abbrev pub stateView : State → Given
+stateView s =
+    state (poolsView (s .auto) (s .fixed)) (holdersView (s .held)) (holdersView (s .owners))
+    (says (s .index) (s .number) (s .namespace) (s .owner) (s .detail))

@@ -1,0 +1,76 @@
+-- Whole tables, column by column: fresh ones, and a table with one row more. Assumes nothing.
+use mathlib.Core.List.{List}
+use Prim.Native.Nat.{ℕ, _+_}
+use lib.ListN.{set, replicate}
+use Rattle.definition.specs.Rows.{poolLimit, rowLimit, Row}
+use Rattle.tables.specs.Views.{pool, ranges, wires}
+use Rattle.tables.specs.declared.Pool.{Pool}
+use Rattle.tables.specs.declared.Ranges.{Ranges}
+use Rattle.tables.specs.declared.Wires.{Wires}
+use Rattle.tables.specs.declared.Pools.{Pools}
+use Rattle.tables.specs.declared.Holders.{Holders}
+use Rattle.tables.specs.declared.State.{State}
+
+-- ---- fresh
+
+abbrev pub nils : ℕ → List ℕ
+nils n = replicate n 0
+
+abbrev pub freshPool : Pool
+freshPool = pool 0 (nils poolLimit) (nils poolLimit) (nils poolLimit) (nils poolLimit)
+
+abbrev pub freshRanges : Ranges
+freshRanges = ranges 0 (nils rowLimit) (nils rowLimit) (nils rowLimit) (nils rowLimit) (nils rowLimit) (nils rowLimit)
+
+abbrev pub freshWires : Wires
+freshWires = wires 0 (nils rowLimit) (nils rowLimit) (nils rowLimit) (nils rowLimit) (nils rowLimit)
+
+abbrev pub freshPools : Pools
+freshPools =
+    record {
+      mmio = freshPool;
+      pio = freshPool;
+      input = freshPool;
+      host = freshPool;
+      device = freshPool;
+      event = freshPool;
+      lpi = freshPool;
+    }
+
+abbrev pub freshHolders : Holders
+freshHolders =
+    record {
+      mmio = freshRanges;
+      pio = freshRanges;
+      input = freshWires;
+      host = freshRanges;
+      device = freshRanges;
+      event = freshRanges;
+      lpi = freshRanges;
+    }
+
+abbrev pub freshState : State
+freshState =
+    record {
+      auto = freshPools;
+      fixed = freshPools;
+      held = freshHolders;
+      owners = freshHolders;
+      number = 0;
+      index = 0;
+      namespace = 0;
+      owner = 0;
+      detail = 0;
+    }
+
+-- ---- a row more, behind the last used one
+
+abbrev pub pushedRange : Ranges → Row → Ranges
+pushedRange t r =
+    ranges (t .n + 1) (set (t .controller) (t .n) (r .dom .controller)) (set (t .its) (t .n) (r .dom .its)) (set (t .device) (t .n) (r .dom .device))
+    (set (t .start) (t .n) (r .start)) (set (t .end) (t .n) (r .end)) (set (t .owner) (t .n) (r .owner))
+
+abbrev pub pushedWire : Wires → Row → Wires
+pushedWire t r =
+    wires (t .n + 1) (set (t .controller) (t .n) (r .dom .controller)) (set (t .input) (t .n) (r .start))
+    (set (t .trigger) (t .n) (r .trigger)) (set (t .sharing) (t .n) (r .sharing)) (set (t .owner) (t .n) (r .owner))

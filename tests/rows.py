@@ -1,0 +1,518 @@
+#!/usr/bin/env python3
+"""The table-level rules of 01, written down once more in Python, and the commands that try them.
+
+tests/rows.py DIR writes DIR/stdin (commands for the program `rows`) and DIR/stdout (what it must print).
+A command is a line of at most twelve numbers, parted by single blanks; those left out are 0:
+  0                                    a fresh state
+  1 use kind numbers..                 add a pool range (use 0 automatic, 1 fixed; kind 1 mmio 2 pio 3 input 4 host 5 msi)
+  2 owner kind numbers..               reserve (kind 1 mmio 2 pio 3 input 4 host 5 device 6 event 7 lpi 8 the pair call)
+  3                                    start
+  4 table kind column row value        store a number (table 0 automatic 1 fixed 2 held 3 owners; column 0 is the count)
+  5                                    print every used row
+  7 table kind n                       n sound rows, one behind the other
+  6                                    print whether pools and reservations are sound, and whether all tables are
+"""
+import random
+import sys
+
+ROWS, POOL = 128, 32
+W16, W32, W64 = 2**16 - 1, 2**32 - 1, 2**64 - 1
+TOP = {1: W64, 2: W16, 3: W64, 4: W64, 5: W32, 6: W32, 7: W32}
+# how many domain numbers a kind's rows use, and its pools
+DOMAIN = {1: 0, 2: 0, 3: 1, 4: 0, 5: 2, 6: 3, 7: 1}
+POOL_DOMAIN = {1: 0, 2: 0, 3: 1, 4: 0, 5: 2, 6: 2, 7: 1}
+KINDS = range(1, 8)
+# columns by number, from 1: a pool's, a range table's, an input table's
+POOL_COLUMNS = ["controller", "its", "start", "end"]
+RANGE_COLUMNS = ["controller", "its", "device", "start", "end", "owner"]
+WIRE_COLUMNS = ["controller", "input", "trigger", "sharing", "owner"]
+
+
+def columns(table, kind):
+    if table < 2:
+        return POOL_COLUMNS
+    return WIRE_COLUMNS if kind == 3 else RANGE_COLUMNS
+
+
+class Table:
+    def __init__(self, table, kind):
+        self.kind, self.names = kind, columns(table, kind)
+        self.size = POOL if table < 2 else ROWS
+        self.count = 0
+        self.rows = [[0] * len(self.names) for _ in range(self.size)]
+
+    def used(self):
+        return [dict(zip(self.names, r)) for r in self.rows[: self.count]]
+
+    def push(self, row):
+        self.rows[self.count] = [row[n] for n in self.names]
+        self.count += 1
+
+    def copy_of(self, other):
+        self.count, self.rows = other.count, [list(r) for r in other.rows]
+
+    def tidy(self):
+        if self.count > self.size:
+            return False
+        return all(x == 0 for r in self.rows[self.count :] for x in r)
+
+
+def domain(row, kind, pool=False):
+    n = (POOL_DOMAIN if pool else DOMAIN)[kind]
+    return tuple(row.get(k, 0) for k in ("controller", "its", "device")[:n])
+
+
+def unused_domain_zero(row, kind, pool=False):
+    n = (POOL_DOMAIN if pool else DOMAIN)[kind]
+    return all(row.get(k, 0) == 0 for k in ("controller", "its", "device")[n:])
+
+
+class State:
+    def __init__(self):
+        self.t = {(a, k): Table(a, k) for a in range(4) for k in KINDS}
+        self.said = [0, 0, 0, 0, 0]
+
+    # ---- soundness, in 01's words
+
+    def pool_sound(self, a, k):
+        t = self.t[a, k]
+        if not t.tidy():
+            return False
+        rows = t.used()
+        for r in rows:
+            if not r["start"] < r["end"] <= TOP[k] or not unused_domain_zero(r, k, True):
+                return False
+        for j, b in enumerate(rows):
+            for a_ in rows[:j]:
+                if domain(a_, k, True) == domain(b, k, True):
+                    if a_["start"] > b["start"] or (a_["start"], a_["end"]) == (b["start"], b["end"]):
+                        return False
+        return True
+
+    def holders_sound(self, a, k):
+        t = self.t[a, k]
+        if not t.tidy():
+            return False
+        rows = t.used()
+        for r in rows:
+            if r["owner"] == 0 or not unused_domain_zero(r, k):
+                return False
+            if k == 3:
+                if r["trigger"] > 3 or r["sharing"] > 1:
+                    return False
+            elif not r["start"] < r["end"] <= TOP[k]:
+                return False
+        for j, b in enumerate(rows):
+            for c in rows[:j]:
+                if domain(b, k) != domain(c, k):
+                    continue
+                if k == 3:
+                    if b["input"] == c["input"]:
+                        together = b["sharing"] == c["sharing"] == 1 and b["trigger"] == c["trigger"]
+                        if a == 2 or not together:
+                            return False
+                elif b["start"] < c["end"] and c["start"] < b["end"]:
+                    return False
+        return True
+
+    def given(self):
+        return all(self.pool_sound(0, k) and self.pool_sound(1, k) and self.holders_sound(2, k) for k in KINDS)
+
+    def sound(self):
+        if not self.given() or not all(self.holders_sound(3, k) for k in KINDS):
+            return False
+        return all(self.t[3, k].used()[: self.t[2, k].count] == self.t[2, k].used() for k in KINDS)
+
+    # ---- calls
+
+    def say(self, number, owner=0):
+        self.said = [number, 0, 0, owner, 0]
+
+    def add_range(self, use, k, row):
+        t = self.t[use, k]
+        if not row["start"] < row["end"]:
+            return 4
+        rows = t.used()
+        if row in rows:
+            return 0
+        if t.count == POOL:
+            return 9
+        at = t.count
+        for j, r in enumerate(rows):
+            if domain(r, k, True) == domain(row, k, True) and r["start"] > row["start"]:
+                at = j
+                break
+        t.rows.insert(at, [row[n] for n in POOL_COLUMNS])
+        t.rows.pop()
+        t.count += 1
+        return 0
+
+    def pool(self, use, k, x):
+        if not self.given():
+            return self.say(1)
+        row = lambda c, i, s, e: dict(controller=c, its=i, start=s, end=e)
+        if k == 5:
+            c, i, ds, de, es, ee, ls, le = x[:8]
+            turns = [(5, row(c, i, ds, de)), (6, row(c, i, es, ee)), (7, row(c, 0, ls, le))]
+        elif k == 3:
+            turns = [(3, row(x[0], 0, x[1], x[2]))]
+        else:
+            turns = [(k, row(0, 0, x[0], x[1]))]
+        for kind, r in turns:
+            n = self.add_range(use, kind, r)
+            if n:
+                return self.say(n)
+        self.say(0)
+
+    def hold(self, owner, k, x):
+        if not self.given():
+            return self.say(1)
+        rng = lambda c, i, d, s, e: dict(controller=c, its=i, device=d, start=s, end=e, owner=owner)
+        wire = lambda c, n, t, s: dict(controller=c, input=n, trigger=t, sharing=s, owner=owner)
+        if k in (1, 2, 4):
+            rows = [(k, rng(0, 0, 0, x[0], x[1]))]
+        elif k == 3:
+            rows = [(3, wire(*x[:4]))]
+        elif k == 5:
+            rows = [(5, rng(x[0], x[1], 0, x[2], x[3]))]
+        elif k == 6:
+            rows = [(6, rng(x[0], x[1], x[2], x[3], x[4]))]
+        elif k == 7:
+            rows = [(7, rng(x[0], 0, 0, x[1], x[2]))]
+        else:
+            rows = [(3, wire(x[0], x[1], x[2], 0)), (4, rng(0, 0, 0, x[3], x[3] + 1))]
+        for kind, r in rows:
+            if kind == 3 and (r["trigger"] > 3 or r["sharing"] > 1):
+                return self.say(2)
+        if owner == 0:
+            return self.say(3)
+        for kind, r in rows:
+            if kind != 3 and (not r["start"] < r["end"] or r["end"] > TOP[kind]):
+                return self.say(4)
+        for kind, r in rows:
+            for h in self.t[2, kind].used():
+                if domain(h, kind) == domain(r, kind):
+                    if kind == 3 and h["input"] == r["input"]:
+                        return self.say(5, h["owner"])
+                    if kind != 3 and h["start"] < r["end"] and r["start"] < h["end"]:
+                        return self.say(5, h["owner"])
+        if any(self.t[2, kind].count == ROWS for kind, _ in rows):
+            return self.say(9)
+        for kind, r in rows:
+            self.t[2, kind].push(r)
+        self.say(0)
+
+    def start(self):
+        if not self.given():
+            return self.say(1)
+        for k in KINDS:
+            self.t[3, k].copy_of(self.t[2, k])
+        self.say(0)
+
+    def poke(self, a, k, column, row, value):
+        t = self.t[a, k]
+        if column == 0:
+            t.count = value
+        else:
+            t.rows[row][column - 1] = value
+
+
+class Run:
+    """Collects commands and what they print."""
+
+    def __init__(self):
+        self.commands, self.out, self.s = [], [], State()
+
+    def do(self, *c):
+        line = list(c)
+        while len(line) > 1 and line[-1] == 0:
+            line.pop()
+        self.commands.append(" ".join(str(x) for x in line))
+        c = list(c) + [0] * (12 - len(c))
+        op, x = c[0], c[1:]
+        s = self.s
+        if op == 0:
+            self.s = State()
+        elif op == 1:
+            s.pool(x[0], x[1], x[2:])
+            self.out.append(" ".join(map(str, s.said)))
+        elif op == 2:
+            s.hold(x[0], x[1], x[2:])
+            self.out.append(" ".join(map(str, s.said)))
+        elif op == 3:
+            s.start()
+            self.out.append(" ".join(map(str, s.said)))
+        elif op == 4:
+            s.poke(*x[:5])
+        elif op == 5:
+            for (a, k), t in s.t.items():
+                for r in t.rows[: t.count]:
+                    self.out.append("row %d %d " % (a, k) + " ".join(map(str, r)))
+        elif op == 6:
+            self.out.append("%d %d" % (s.given(), s.sound()))
+        elif op == 7:
+            a, k, n = x[:3]
+            for i in range(n):
+                s.t[a, k].rows[i] = [good_row(a, k, i)[name] for name in columns(a, k)]
+            s.t[a, k].count = n
+
+    def checked(self, *c):
+        """A command, and all rows behind it."""
+        self.do(*c)
+        self.do(5)
+
+
+# ---- the cases
+
+def pool_order(r):
+    """Place of a new row: other domains between, equal starts, duplicates, the end of the whole table."""
+    r.do(0)
+    for c, s, e in [(2, 50, 60), (1, 30, 40), (2, 10, 20), (1, 30, 35), (1, 5, 90), (2, 50, 60), (1, 30, 41), (3, 1, 2), (2, 70, 71)]:
+        r.do(1, 0, 3, c, s, e)
+    r.do(5)
+    r.do(1, 0, 3, 1, 7, 7)
+    r.do(1, 0, 3, 1, 8, 7)
+    r.do(5)
+
+
+def pool_full(r):
+    """A full table: a duplicate is accepted, another row is 9; in an MSI domain each range has its turn and earlier rows stay."""
+    for use in (0, 1):
+        for k in (1, 2, 4):
+            r.do(0)
+            for i in range(POOL):
+                r.do(1, use, k, 2 * i, 2 * i + 1)
+            r.do(1, use, k, 0, 1)
+            r.do(1, use, k, 99, 100)
+            r.do(1, use, k, 99, 99)
+        r.do(5)
+    r.do(0)
+    for i in range(POOL):
+        r.do(1, 0, 5, 1, 2, 10 * i, 10 * i + 5, 0, 4, 8192 + i, 8200 + i)
+    r.do(1, 0, 5, 1, 2, 0, 5, 7, 9, 8192, 8200)
+    r.do(1, 0, 5, 1, 2, 0, 5, 0, 4, 1, 1)
+    r.do(1, 0, 5, 1, 2, 1, 5, 0, 0, 1, 2)
+    r.do(5)
+    r.do(0)
+    r.do(1, 1, 5, 7, 8, 1, 2, 3, 3, 4, 5)
+    r.do(1, 1, 5, 7, 8, 2, 3, 3, 4, 5, 5)
+    r.do(1, 1, 5, 7, 9, 2, 3, 3, 4, 5, 6)
+    r.checked(1, 1, 5, 6, 9, 0, 0, 3, 4, 5, 6)
+
+
+def holds(r):
+    """Refusals 2, 3, 4, 5 in their order; the owner named is the first in table order; other domains are free; the largest numbers."""
+    r.do(0)
+    for args in [
+        (9, 1, 0x3000, 0x4000), (4, 1, 0x1000, 0x2000), (5, 1, 0x1000, 0x4000), (5, 1, 0x1800, 0x1900), (0, 1, 1, 2), (0, 1, 2, 1), (6, 1, 2, 2),
+        (6, 1, W64 - 1, W64), (6, 1, 0, 1), (6, 2, W16 - 1, W16), (6, 2, W16, W16), (7, 4, 40, 42), (8, 4, 41, 43), (8, 4, 42, 43),
+        (3, 3, 1, 5, 0, 1), (4, 3, 1, 5, 0, 1), (4, 3, 2, 5, 0, 1), (0, 3, 1, 1, 4, 0), (0, 3, 1, 1, 0, 2), (0, 3, 1, 1, 3, 1), (4, 3, 1, W64, 3, 0), (4, 3, 1, W64, 3, 0),
+        (1, 5, 1, 2, 8, 10), (2, 5, 1, 2, 9, 11), (2, 5, 1, 3, 9, 11), (2, 5, 2, 2, 9, 11),
+        (1, 6, 1, 2, 8, 0, 4), (2, 6, 1, 2, 9, 0, 4), (3, 6, 1, 2, 8, 3, 5), (3, 6, 1, 2, 8, 4, 5), (3, 6, W32, W32, W32, W32 - 1, W32),
+        (1, 7, 1, 8192, 8200), (2, 7, 1, 8199, 8201), (2, 7, 2, 8199, 8201),
+        (3, 8, 1, 6, 0, 50), (3, 8, 1, 6, 0, 51), (3, 8, 1, 7, 0, 50), (3, 8, 1, 7, 4, 51), (0, 8, 1, 7, 0, 51), (3, 8, 1, 7, 0, W64), (3, 8, 1, 6, 0, W64), (3, 8, 9, 7, 3, W64 - 1),
+    ]:
+        r.do(2, *args)
+    r.do(5)
+    r.do(6)
+
+
+def hold_full(r):
+    """128 rows: 9 comes last; the pair call needs a row in both tables."""
+    for k in (1, 2, 4):
+        r.do(0)
+        for i in range(ROWS):
+            r.do(2, 1 + i, k, 2 * i, 2 * i + 1)
+        r.do(2, 7, k, 999, 1000)
+        r.do(2, 7, k, 0, 1000)
+        if k == 4:
+            r.checked(2, 7, 8, 1, 1, 0, 5000)
+    r.do(0)
+    for i in range(ROWS):
+        r.do(2, 1 + i, 3, i % 3, i, i % 4, i % 2)
+    r.do(2, 7, 3, 1, 200, 0, 0)
+    r.do(2, 7, 3, 1, 1, 0, 0)
+    r.do(2, 7, 8, 1, 300, 0, 40)
+    r.checked(3)
+
+
+def started(r):
+    """Start forgets grants; a reservation after a start makes the owners unsound unless they still begin with the reservations."""
+    r.do(0)
+    r.do(6)
+    r.do(2, 4, 1, 10, 20)
+    r.do(6)
+    r.do(3)
+    r.do(6)
+    for column, value in ((4, 30), (5, 40), (6, 9)):
+        r.do(4, 3, 1, column, 1, value)
+    r.do(4, 3, 1, 0, 0, 2)
+    r.do(6)
+    r.do(1, 0, 1, 0, 100)
+    r.do(6)
+    r.do(2, 9, 1, 30, 40)
+    r.do(6)
+    r.do(2, 9, 1, 50, 60)
+    r.do(6)
+    r.do(5)
+    r.checked(3)
+    r.do(6)
+
+
+def good_row(a, k, i=0):
+    """Numbers of a sound row, apart from those of another i."""
+    if a < 2:
+        return dict(controller=5 if POOL_DOMAIN[k] else 0, its=6 if POOL_DOMAIN[k] > 1 else 0, start=10 + 20 * i, end=20 + 20 * i)
+    d = dict(controller=5 if DOMAIN[k] else 0, its=6 if DOMAIN[k] > 1 else 0, device=7 if DOMAIN[k] > 2 else 0)
+    if k == 3:
+        return dict(controller=5, input=10 + i, trigger=1, sharing=1, owner=3)
+    return dict(d, start=10 + 20 * i, end=20 + 20 * i, owner=3)
+
+
+def fill(r, a, k, n=2):
+    """n sound rows in a table, and in the owners behind the reservations."""
+    for t in [2, 3] if a == 2 else [a]:
+        r.do(7, t, k, n)
+
+
+def broken(r):
+    """Every clause of soundness, broken once on each table that it applies to; what is just within it, beside."""
+    for a in range(4):
+        for k in KINDS:
+            size, names = (POOL if a < 2 else ROWS), columns(a, k)
+            at = {n: j + 1 for j, n in enumerate(names)}
+
+            def attempt(*pokes, a=a, k=k, n=2, both=False):
+                r.do(0)
+                fill(r, a, k, n)
+                for name, row, value in pokes:
+                    for t in ([2, 3] if both and a == 2 else [a]):
+                        r.do(4, t, k, at[name] if name != "count" else 0, row, value)
+                r.do(6)
+
+            attempt()
+            for c in (size + 1, 2**63, W64):
+                attempt(("count", 0, c))
+            for name in names:
+                attempt((name, size - 1, 1))
+                attempt((name, 2, 1))
+            first, top = names[:3], TOP[k]
+            used = (POOL_DOMAIN if a < 2 else DOMAIN)[k]
+            for j, name in enumerate(("controller", "its", "device")):
+                if name in names:
+                    attempt((name, 1, 1), both=True)
+                    attempt((name, 1, W32), both=True)
+            if k == 3 and a >= 2:
+                attempt(("trigger", 1, 3), both=True)
+                attempt(("trigger", 1, 4), both=True)
+                attempt(("sharing", 1, 0), both=True)
+                attempt(("sharing", 1, 2), both=True)
+                attempt(("owner", 1, 0), both=True)
+                attempt(("input", 1, W64), both=True)
+                attempt(("input", 1, 10), both=True)
+                attempt(("input", 1, 10), ("trigger", 1, 2), both=True)
+                attempt(("input", 1, 10), ("sharing", 1, 0), both=True)
+                attempt(("input", 1, 10), ("controller", 1, 6), both=True)
+                attempt(("owner", 1, 8))
+                continue
+            attempt(("start", 1, 40), both=True)
+            attempt(("start", 1, 39), both=True)
+            attempt(("end", 1, top), both=True)
+            if top < W64:
+                attempt(("end", 1, top + 1), both=True)
+            if a < 2:
+                attempt(("start", 1, 10), both=True)
+                attempt(("start", 1, 10), ("end", 1, 20), both=True)
+                attempt(("start", 1, 9), both=True)
+                if used:
+                    attempt(("start", 1, 9), ("controller", 1, 4), both=True)
+            else:
+                attempt(("owner", 1, 0), both=True)
+                attempt(("start", 1, 19), both=True)
+                attempt(("start", 1, 20), both=True)
+                attempt(("start", 1, 5), ("end", 1, 10), both=True)
+                attempt(("start", 1, 5), ("end", 1, 11), both=True)
+                if used:
+                    attempt(("start", 1, 10), ("end", 1, 20), ("controller", 1, 4), both=True)
+                attempt(("owner", 1, 8))
+                attempt(("start", 1, 31))
+
+
+def last_row(r):
+    """The last row counts like every other."""
+    for a in range(4):
+        for k in KINDS:
+            n = POOL if a < 2 else ROWS
+            r.do(0)
+            fill(r, a, k, n)
+            r.do(6)
+            names = columns(a, k)
+            name = "end" if a < 2 else "owner"
+            r.do(4, a, k, names.index(name) + 1, n - 1, 0)
+            r.do(6)
+
+
+def malformed(r):
+    """An unsound table of any kind is 1 for every adding call and for start; owner tables are not judged there."""
+    for k in KINDS:
+        r.do(0)
+        r.do(4, 2, k, 1, 127, 1)
+        r.do(1, 0, 1, 0, 10)
+        r.do(2, 1, 1, 0, 10)
+        r.do(2, 1, 8, 0, 0, 9, 10)
+        r.do(3)
+        r.do(0)
+        r.do(4, 3, k, 1, 127, 1)
+        r.do(1, 0, 1, 0, 10)
+        r.do(2, 1, 1, 0, 10)
+        r.do(6)
+        r.do(3)
+        r.do(6)
+
+
+def random_calls(r, seed, rounds):
+    g = random.Random(seed)
+    small = lambda: g.choice([0, 1, 2, 3, 5, 8, g.randrange(40)])
+    for _ in range(rounds):
+        r.do(0)
+        for _ in range(g.randrange(5, 25)):
+            p = g.random()
+            if p < 0.4:
+                k = g.choice([1, 2, 3, 4, 5])
+                x = [small() for _ in range(8)]
+                if k in (3, 5):
+                    x[0] = g.randrange(2)
+                if k == 5:
+                    x[1] = g.randrange(2)
+                r.do(1, g.randrange(2), k, *x)
+            elif p < 0.9:
+                k = g.randrange(1, 9)
+                x = [small() for _ in range(5)]
+                x[0] = x[0] if k in (1, 2, 4) else g.randrange(2)
+                if k in (5, 6):
+                    x[1] = g.randrange(2)
+                r.do(2, g.randrange(5), k, *x)
+            else:
+                r.do(3)
+        r.do(5)
+        r.do(6)
+
+
+def main():
+    where = sys.argv[1]
+    r = Run()
+    for part in (pool_order, pool_full, holds, hold_full, started, last_row, malformed):
+        part(r)
+    b = Run()
+    broken(b)
+    c = Run()
+    random_calls(c, 1, 60)
+    commands = r.commands + b.commands + c.commands
+    out = r.out + b.out + c.out
+    text = "\n".join(commands) + "\n"
+    open(where + "/stdin", "w").write(text)
+    open(where + "/stdout", "w").write("\n".join(out) + "\n")
+    print(len(commands), "commands,", len(text), "bytes in,", len(out), "lines out")
+
+
+main()
