@@ -1,0 +1,28 @@
+-- `lines::form::read_form` meets its contract. Assumes nothing.
+use mathlib.Core.Path.{sym, _∙_}
+use Rattle.lines.specs.Base.{when}
+use Rattle.lines.specs.Line.{form}
+use borrow.Author.Needs.{needs}
+use Rattle.lines.proofs.form.read_form.Statement.{statement}
+use Rattle.lines.proofs.form.read_form.Tie as tie
+
+equal-requires : tie.Need-equal-requires
+equal-requires c κs = search needs
+
+read-numbers-requires : tie.Need-read-numbers-requires
+read-numbers-requires c κs = search needs
+
+returns : tie.Need-returns
+unfolding form when
+returns c = rw (sym (c .before .before .equal .ensures) ∙ c .before .if1 .taken) (c .read-numbers .ensures)
+
+bad-row-requires : tie.Need-bad-row-requires
+bad-row-requires c κs = search needs
+
+returns-2 : tie.Need-returns-2
+unfolding form when
+returns-2 c = rw (sym (c .before .before .equal .ensures) ∙ c .before .if1 .left) (c .bad-row .ensures)
+
+pub read-form-spec : {M : Type 1} → statement M
+read-form-spec =
+    tie.close (tie.spec equal-requires read-numbers-requires returns bad-row-requires returns-2)

@@ -1,0 +1,7 @@
+pub mod Base
+pub mod Numbers
+pub mod Line
+pub mod Output
+pub mod Text
+pub mod Examples
+pub mod Code

@@ -1,0 +1,121 @@
+-- A whole text: lines in order, the first refused one decides; what is written. Assumes nothing.
+use mathlib.Core.Bool.{Bool, true, false}
+use mathlib.Core.List.{List, [], _∷_, _++_}
+use mathlib.Core.Option.{Option, none, some}
+use Prim.Native.Nat.{ℕ, suc}
+use lib.Dec.{eqb, leb, ltb}
+use lib.ListN.{length, replicate}
+use Rattle.definition.specs.Rows.{planLimit, recordSize, kinds}
+use Rattle.definition.specs.Refusal.{Refusal, badLine, short, tell}
+use Rattle.definition.specs.Request.{Request}
+use Rattle.definition.specs.Calls.{State, fresh, saying, Call, pool, hold, start, want, serve}
+use Rattle.definition.specs.Plan.{Lent, allocateInto}
+use Rattle.lines.specs.Base.{textLimit, newline, split}
+use Rattle.lines.specs.Line.{readLine}
+use Rattle.lines.specs.Output.{gotLines, endLine, noLine}
+
+-- ---- how far a text has come
+
+pub record Sofar : Type 0 where
+  pub lines : ℕ  -- taken so far
+  pub state : State  -- the tables, and what the last line was answered
+  pub wants : ℕ  -- accepted so far; the owner tables are started at the first
+  pub records : List ℕ  -- the wants' results, nine numbers each
+
+abbrev pub sofar : ℕ → State → ℕ → List ℕ → Sofar
+sofar l s n rs = record { lines = l; state = s; wants = n; records = rs }
+
+abbrev pub beginning : Sofar
+beginning = sofar 0 fresh 0 []
+
+abbrev pub accepts : State → Bool
+accepts s = eqb (s .said .number) 0
+
+-- ---- one line more
+
+-- it leaves the state s, and no record
+abbrev pub next : Sofar → State → Sofar
+next t s = sofar (suc (t .lines)) s (t .wants) (t .records)
+
+abbrev pub refuse : Sofar → Refusal → Sofar
+refuse t x = next t (saying (tell 0 x) (t .state))
+
+-- no `pool` or `hold` after a `want`
+unfoldable pub setUp : Sofar → Call → Sofar
+setUp t c = elim (eqb (t .wants) 0) [ true ↦ next t (serve kinds c (t .state)) | false ↦ refuse t badLine ]
+
+-- the owner tables are started at the first `want`
+unfoldable pub opened : Sofar → State
+opened t = elim (eqb (t .wants) 0) [ true ↦ serve kinds start (t .state) | false ↦ t .state ]
+
+-- an accepted `want` leaves its record
+unfoldable pub answered : Sofar → Lent → Sofar
+answered t r = elim (accepts (r .state)) [ true ↦ sofar (suc (t .lines)) (r .state) (suc (t .wants)) (t .records ++ r .results) | false ↦ next t (r .state) ]
+
+-- a 129th `want` is 11
+unfoldable pub ask : Sofar → Request → Sofar
+ask t r =
+    elim (ltb (t .wants) planLimit) [
+      | true ↦ answered t (allocateInto kinds r (opened t) (replicate recordSize 0))
+      | false ↦ refuse t short
+    ]
+
+-- 10 before any other number
+abbrev pub take-line : Sofar → Option Call → Sofar
+take-line t none = refuse t badLine
+take-line t (some (pool u p)) = setUp t (pool u p)
+take-line t (some (hold o h)) = setUp t (hold o h)
+take-line t (some start) = refuse t badLine  -- which no line says
+take-line t (some (want r)) = ask t r
+
+-- THE LINE STEP: a refusal stands, whatever follows
+unfoldable pub step : Sofar → List ℕ → Sofar
+step t l = elim (accepts (t .state)) [ true ↦ take-line t (readLine l) | false ↦ t ]
+
+-- ---- text to lines, for any step on lines
+
+-- the state after the closed lines, and the bytes behind the last newline
+pub record Fed (S : Type 0) : Type 0 where
+  pub after : S
+  pub open-line : List ℕ
+
+abbrev pub fed : {S : Type 0} → S → List ℕ → Fed S
+fed s l = record { after = s; open-line = l }
+
+-- every part but the last is a line
+unfoldable pub feedParts : {S : Type 0} → (S → List ℕ → S) → S → List (List ℕ) → Fed S
+feedParts f s [] = fed s []
+feedParts f s (p ∷ []) = fed s p
+feedParts f s (p ∷ q ∷ ps) = feedParts f (f s p) (q ∷ ps)
+
+unfoldable pub feed : {S : Type 0} → (S → List ℕ → S) → S → List ℕ → Fed S
+feed f s text = feedParts f s (split newline text)
+
+-- ---- the whole text
+
+-- a last line without its newline is 10, whatever it holds
+unfoldable pub unfinished : Sofar → Sofar
+unfinished t = elim (accepts (t .state)) [ true ↦ refuse t badLine | false ↦ t ]
+
+abbrev pub closedBy : Sofar → List ℕ → Sofar
+closedBy t [] = t
+closedBy t (b ∷ bs) = unfinished t
+
+unfoldable pub close : Fed Sofar → Sofar
+close f = closedBy (f .after) (f .open-line)
+
+-- a `got` line a request, then `end` and their number; on a refusal the line `no` alone
+unfoldable pub answer : Sofar → List ℕ
+answer t =
+    elim (accepts (t .state)) [
+      | true ↦ gotLines (t .wants) (t .records) ++ endLine (t .wants)
+      | false ↦ noLine (t .lines) (t .state .said)
+    ]
+
+-- THE PROGRAM: text over the total limit is 10 with line number 0, before all else
+unfoldable pub output : List ℕ → List ℕ
+output text =
+    elim (leb (length text) textLimit) [
+      | true ↦ answer (close (feed step beginning text))
+      | false ↦ noLine 0 (tell 0 badLine)
+    ]

@@ -1,0 +1,44 @@
+-- `reader::read::read_holds` meets its contract. Assumes nothing.
+use native.Mathlib.Omega.{arith}
+use mathlib.Core.Path.{sym}
+use Rattle.lines.specs.Base.{_andThen_}
+use Rattle.lines.specs.Line.{n32, behindHold}
+use Rattle.lines.proofs.FormLaws.{number-within}
+use borrow.Author.Needs.{needs}
+use Rattle.reader.proofs.read.read_holds.Statement.{statement}
+use Rattle.reader.proofs.read.read_holds.Tie as tie
+
+read-number-requires : tie.Need-read-number-requires
+read-number-requires c κs = search needs
+
+enum-known-x : tie.Need-enum-known-x
+enum-known-x c = search needs
+
+enum-told : tie.Need-enum-told
+enum-told c = search needs
+
+returns : tie.Need-returns
+unfolding behindHold _andThen_
+returns c = rw (sym (rw (c .enum-told .given .1) at (c .before .before .read-number .ensures)), _andThen_)
+
+cast-read-hold : tie.Need-cast-read-hold
+cast-read-hold c = omega (arith, number-within n32 (c .before .before .before .before .before .before .before .args .owner .now) (c .before .x .given .0 .0) (sym (rw (c .before .x .given .1) at (c .before .before .before .read-number .ensures))))
+
+read-hold-requires : tie.Need-read-hold-requires
+read-hold-requires c κs = search needs
+
+returns-2 : tie.Need-returns-2
+unfolding behindHold _andThen_
+returns-2 c = rw (sym (rw (c .before .before .x .given .1) at (c .before .before .before .before .read-number .ensures)), _andThen_) (c .read-hold .ensures)
+
+pub read-holds-spec : {M : Type 1} → statement M
+read-holds-spec =
+    tie.close
+    (tie.spec
+    read-number-requires
+    enum-known-x
+    enum-told
+    returns
+    cast-read-hold
+    read-hold-requires
+    returns-2)

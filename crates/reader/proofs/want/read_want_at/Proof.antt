@@ -1,0 +1,118 @@
+-- `reader::want::read_want_at` meets its contract: the first form that the fields are of says the call. Assumes nothing.
+use native.Mathlib.Omega.{arith}
+use mathlib.Core.Path.{sym, _∙_}
+use Rattle.lines.specs.Line.{wantAt}
+use Rattle.lines.proofs.FormLaws.{row-within, row-here, row-past}
+use borrow.Author.Needs.{needs}
+use Rattle.reader.proofs.want.read_want_at.Statement.{statement}
+use Rattle.reader.proofs.want.read_want_at.Tie as tie
+
+slice-aggregate-read-form : tie.Need-slice-aggregate-read-form
+slice-aggregate-read-form c = search needs
+
+slice-aggregate-read-form-2 : tie.Need-slice-aggregate-read-form-2
+slice-aggregate-read-form-2 c = search needs
+
+read-form-requires : tie.Need-read-form-requires
+read-form-requires c κs = search needs
+
+array-read-t24 : tie.Need-array-read-t24
+array-read-t24 c = search needs
+
+array-read-t27 : tie.Need-array-read-t27
+array-read-t27 c = search needs
+
+array-read-t30 : tie.Need-array-read-t30
+array-read-t30 c = search needs
+
+returns : tie.Need-returns
+unfolding wantAt
+returns c = sym (row-here _ _ _ _ _ (omega arith) (c .before .before .read-form .ensures) _ _ (c .before .if1 .taken))
+
+slice-aggregate-read-form-3 : tie.Need-slice-aggregate-read-form-3
+slice-aggregate-read-form-3 c = search needs
+
+slice-aggregate-read-form-4 : tie.Need-slice-aggregate-read-form-4
+slice-aggregate-read-form-4 c = search needs
+
+read-form-requires-2 : tie.Need-read-form-requires-2
+read-form-requires-2 c κs = search needs
+
+array-read-t37 : tie.Need-array-read-t37
+array-read-t37 c = search needs
+
+cast-t38 : tie.Need-cast-t38
+cast-t38 c = omega (arith, row-within _ _ _ _ _ (omega arith) (c .before .before .read-form2 .ensures) (c .before .if2 .taken) 0)
+
+array-read-t41 : tie.Need-array-read-t41
+array-read-t41 c = search needs
+
+cast-t42 : tie.Need-cast-t42
+cast-t42 c = omega (arith, row-within _ _ _ _ _ (omega arith) (c .before .before .read-form2 .ensures) (c .before .if2 .taken) 1)
+
+array-read-t45 : tie.Need-array-read-t45
+array-read-t45 c = search needs
+
+cast-t46 : tie.Need-cast-t46
+cast-t46 c = omega (arith, row-within _ _ _ _ _ (omega arith) (c .before .before .read-form2 .ensures) (c .before .if2 .taken) 2)
+
+returns-2 : tie.Need-returns-2
+unfolding wantAt
+returns-2 c = sym (row-past _ _ _ _ _ (omega arith) (c .before .before .before .before .before .before .read-form .ensures) _ _ (c .before .before .before .before .before .if1 .left)
+    ∙ row-here _ _ _ _ _ (omega arith) (c .before .before .read-form2 .ensures) _ _ (c .before .if2 .taken))
+
+slice-aggregate-read-form-5 : tie.Need-slice-aggregate-read-form-5
+slice-aggregate-read-form-5 c = search needs
+
+slice-aggregate-read-form-6 : tie.Need-slice-aggregate-read-form-6
+slice-aggregate-read-form-6 c = search needs
+
+read-form-requires-3 : tie.Need-read-form-requires-3
+read-form-requires-3 c κs = search needs
+
+array-read-t53 : tie.Need-array-read-t53
+array-read-t53 c = search needs
+
+returns-3 : tie.Need-returns-3
+unfolding wantAt
+returns-3 c = sym (row-past _ _ _ _ _ (omega arith) (c .before .before .before .before .before .before .before .before .before .before .read-form .ensures) _ _ (c .before .before .before .before .before .before .before .before .before .if1 .left)
+    ∙ row-past _ _ _ _ _ (omega arith) (c .before .before .before .before .before .before .read-form2 .ensures) _ _ (c .before .before .before .before .before .if2 .left)
+    ∙ row-here _ _ _ _ _ (omega arith) (c .before .before .read-form3 .ensures) _ _ (c .before .if3 .taken))
+
+read-want-at-of-requires : tie.Need-read-want-at-of-requires
+read-want-at-of-requires c κs = search needs
+
+returns-4 : tie.Need-returns-4
+unfolding wantAt
+returns-4 c = c .read-want-at-of .ensures ∙ sym (row-past _ _ _ _ _ (omega arith) (c .before .before .before .before .before .before .before .before .before .before .read-form .ensures) _ _ (c .before .before .before .before .before .before .before .before .before .if1 .left)
+    ∙ row-past _ _ _ _ _ (omega arith) (c .before .before .before .before .before .before .read-form2 .ensures) _ _ (c .before .before .before .before .before .if2 .left)
+    ∙ row-past _ _ _ _ _ (omega arith) (c .before .before .read-form3 .ensures) _ _ (c .before .if3 .left))
+
+pub read-want-at-spec : {M : Type 1} → statement M
+read-want-at-spec =
+    tie.close
+    (tie.spec
+    slice-aggregate-read-form
+    slice-aggregate-read-form-2
+    read-form-requires
+    array-read-t24
+    array-read-t27
+    array-read-t30
+    returns
+    slice-aggregate-read-form-3
+    slice-aggregate-read-form-4
+    read-form-requires-2
+    array-read-t37
+    cast-t38
+    array-read-t41
+    cast-t42
+    array-read-t45
+    cast-t46
+    returns-2
+    slice-aggregate-read-form-5
+    slice-aggregate-read-form-6
+    read-form-requires-3
+    array-read-t53
+    returns-3
+    read-want-at-of-requires
+    returns-4)

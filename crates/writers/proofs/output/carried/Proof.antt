@@ -1,0 +1,28 @@
+-- `writers::output::carried` meets its contract. Assumes nothing.
+use borrow.Author.Tests.{eq-eqb, ne-eqb}
+use Rattle.lines.specs.Output.{carriedBy}
+use Rattle.writers.proofs.output.carried.Statement.{statement}
+use Rattle.writers.proofs.output.carried.Tie as tie
+
+returns : tie.Need-returns
+unfolding carriedBy
+returns c = rw (eq-eqb (c .before .args .k) 1 (c .if1 .taken))
+
+returns-2 : tie.Need-returns-2
+unfolding carriedBy
+returns-2 c = rw (ne-eqb (c .before .before .args .k) 1 (c .before .if1 .left), eq-eqb (c .before .before .args .k) 2 (c .if2 .taken))
+
+returns-3 : tie.Need-returns-3
+unfolding carriedBy
+returns-3 c = rw (ne-eqb (c .before .before .before .args .k) 1 (c .before .before .if1 .left), ne-eqb (c .before .before .before .args .k) 2 (c .before .if2 .left), eq-eqb (c .before .before .before .args .k) 3 (c .if3 .taken))
+
+returns-4 : tie.Need-returns-4
+unfolding carriedBy
+returns-4 c = rw (ne-eqb (c .before .before .before .before .args .k) 1 (c .before .before .before .if1 .left), ne-eqb (c .before .before .before .before .args .k) 2 (c .before .before .if2 .left), ne-eqb (c .before .before .before .before .args .k) 3 (c .before .if3 .left), eq-eqb (c .before .before .before .before .args .k) 4 (c .if4 .taken))
+
+returns-5 : tie.Need-returns-5
+unfolding carriedBy
+returns-5 c = rw (ne-eqb (c .before .before .before .before .args .k) 1 (c .before .before .before .if1 .left), ne-eqb (c .before .before .before .before .args .k) 2 (c .before .before .if2 .left), ne-eqb (c .before .before .before .before .args .k) 3 (c .before .if3 .left), ne-eqb (c .before .before .before .before .args .k) 4 (c .if4 .left))
+
+pub carried-spec : {M : Type 1} → statement M
+carried-spec = tie.close (tie.spec returns returns-2 returns-3 returns-4 returns-5)
