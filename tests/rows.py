@@ -2,7 +2,7 @@
 """The table-level rules of 01, written down once more in Python, and the commands that try them.
 
 tests/rows.py DIR writes DIR/stdin (commands for the program `rows`) and DIR/stdout (what it must print).
-A command is a line of at most twelve numbers, parted by single blanks; those left out are 0:
+A command is a line of at most thirteen numbers, parted by single blanks; those left out are 0:
   0                                    a fresh state
   1 use kind numbers..                 add a pool range (use 0 automatic, 1 fixed; kind 1 mmio 2 pio 3 input 4 host 5 msi)
   2 owner kind numbers..               reserve (kind 1 mmio 2 pio 3 input 4 host 5 device 6 event 7 lpi 8 the pair call)
@@ -10,6 +10,10 @@ A command is a line of at most twelve numbers, parted by single blanks; those le
   4 table kind column row value        store a number (table 0 automatic 1 fixed 2 held 3 owners; column 0 is the count)
   5                                    print every used row
   7 table kind n                       n sound rows, one behind the other
+  8 requester slot kind a b c code n code n code n
+                                       one request that writes its record into a list of nines (kind 1 mmio: size, alignment; 2 pio; 3 input:
+                                       controller, trigger, sharing; 4 host; 5 msi: controller, its, count; code 0 automatic, 1 fixed, three for msi)
+  9 length requester slot kind ..      the same with a list of that length
   6                                    print whether pools and reservations are sound, and whether all tables are
 """
 import random
@@ -209,6 +213,95 @@ class State:
             self.t[3, k].copy_of(self.t[2, k])
         self.say(0)
 
+    # ---- one request
+
+    def find(self, k, dom, pool_dom, size, align):
+        """The least aligned base whose range lies in one automatic pool and meets no owner row of the domain."""
+        owners = [r for r in self.t[3, k].used() if domain(r, k) == dom]
+        ends = lambda r: (r["input"], r["input"] + 1) if k == 3 else (r["start"], r["end"])
+        best = None
+        for p in self.t[0, k].used():
+            if domain(p, k, True) != pool_dom:
+                continue
+            c = -(-p["start"] // align) * align
+            while c + size <= p["end"]:
+                hit = [ends(r)[1] for r in owners if ends(r)[0] < c + size and c < ends(r)[1]]
+                if not hit:
+                    best = c if best is None else min(best, c)
+                    break
+                c = -(-hit[0] // align) * align
+        return best
+
+    def place(self, k, dom, pool_dom, size, align, code, n, trigger=0, sharing=0):
+        """A base, or the numbers of a refusal."""
+        space = {1: 1, 2: 2, 3: 3, 4: 4, 5: 5, 6: 5, 7: 6}[k]
+        if code == 0:
+            b = self.find(k, dom, pool_dom, size, align)
+            return (b, None) if b is not None else (None, [7, 0, space, 0, 0])
+        inside = any(domain(p, k, True) == pool_dom and p["start"] <= n and n + size <= p["end"] for p in self.t[1, k].used())
+        if n % align or n + size > TOP[k] or not inside:
+            return None, [6, 0, space, 0, 0]
+        for r in self.t[3, k].used():
+            if domain(r, k) != dom:
+                continue
+            if k == 3:
+                if r["input"] != n:
+                    continue
+                if r["sharing"] == sharing == 1 and r["trigger"] == trigger:
+                    return n, None
+                return None, [8, 0, 3, r["owner"], 2 if r["trigger"] != trigger else 3]
+            if r["start"] < n + size and n < r["end"]:
+                return None, [8, 0, space, r["owner"], {1: 1, 2: 1, 4: 4, 5: 5, 6: 6, 7: 7}[k]]
+        return n, None
+
+    def want(self, x, out):
+        q, slot, kind, a, b, c = x[:6]
+        choices = [(x[6], x[7]), (x[8], x[9]), (x[10], x[11])]
+        if not self.sound():
+            return self.say(1)
+        if len(out) < 9:
+            return self.say(11)
+        good = q > 0
+        if kind in (1, 2):
+            good = good and a > 0 and bin(b).count("1") == 1
+        if kind == 3:
+            good = good and b <= 3 and c <= 1
+        if kind == 5:
+            good = good and c > 0
+        if not good:
+            return self.say(2)
+        rng = lambda k, dom, s, n: (k, dict(zip(("controller", "its", "device"), dom), start=s, end=s + n, owner=q))
+        if kind in (1, 2):
+            base, no = self.place(kind, (), (), a, b, *choices[0])
+            rows = [] if no else [rng(kind, (0, 0, 0), base, a)]
+            rec = [base, a]
+        elif kind == 3:
+            base, no = self.place(3, (a,), (a,), 1, 1, *choices[0], b, c)
+            rows = [] if no else [(3, dict(controller=a, input=base, trigger=b, sharing=c, owner=q))]
+            rec = [a, base, b, c]
+        elif kind == 4:
+            base, no = self.place(4, (), (), 1, 1, *choices[0])
+            rows = [] if no else [rng(4, (0, 0, 0), base, 1)]
+            rec = [base]
+        else:
+            d, no = self.place(5, (a, b), (a, b), 1, 1, *choices[0])
+            if not no:
+                e, no = self.place(6, (a, b, d), (a, b), c, 1, *choices[1])
+            if not no:
+                l, no = self.place(7, (a,), (a,), c, 1, *choices[2])
+            rows = [] if no else [rng(5, (a, b, 0), d, 1), rng(6, (a, b, d), e, c), rng(7, (a, 0, 0), l, c)]
+            rec = [] if no else [a, b, d, e, l, c]
+        if no:
+            self.said = no
+            return
+        if any(self.t[3, k].count == ROWS for k, _ in rows):
+            return self.say(9)
+        for k, r in rows:
+            self.t[3, k].push(r)
+        self.say(0)
+        rec = [kind, q, slot] + rec
+        out[:9] = rec + [0] * (9 - len(rec))
+
     def poke(self, a, k, column, row, value):
         t = self.t[a, k]
         if column == 0:
@@ -228,7 +321,7 @@ class Run:
         while len(line) > 1 and line[-1] == 0:
             line.pop()
         self.commands.append(" ".join(str(x) for x in line))
-        c = list(c) + [0] * (12 - len(c))
+        c = list(c) + [0] * (14 - len(c))
         op, x = c[0], c[1:]
         s = self.s
         if op == 0:
@@ -250,6 +343,14 @@ class Run:
                     self.out.append("row %d %d " % (a, k) + " ".join(map(str, r)))
         elif op == 6:
             self.out.append("%d %d" % (s.given(), s.sound()))
+        elif op == 8:
+            out = [9] * 9
+            s.want(x, out)
+            self.out.append(" ".join(map(str, s.said + out)))
+        elif op == 9:
+            out = [9] * x[0]
+            s.want(x[1:], out)
+            self.out.append(" ".join(map(str, s.said + out)))
         elif op == 7:
             a, k, n = x[:3]
             for i in range(n):
@@ -470,6 +571,176 @@ def malformed(r):
         r.do(6)
 
 
+AUTO = (0, 0)
+
+
+def stand_cases(r):
+    """P1 to P10."""
+    def case(pools, held, *wants):
+        r.do(0)
+        for p in pools:
+            r.do(1, *p)
+        for h in held:
+            r.do(2, *h)
+        r.do(3)
+        for w in wants:
+            r.do(8, 3, 1, *w)
+        r.do(5)
+
+    t = 2**64
+    case([(0, 1, 0x1000, 0x3000)], [(7, 1, 0x1000, 0x2000)], (1, 0x100, 0x100, 0))
+    case([(0, 1, 0x1000, 0x2000), (0, 1, 0x2000, 0x3000)], [], (1, 0x1800, 0x1000, 0))
+    case([(1, 1, 0, 0x8000)], [(9, 1, 0x3000, 0x4000), (4, 1, 0x1000, 0x2000)], (1, 0x3000, 0x1000, 0, 1, 0x1000))
+    case([(0, 4, 40, 42)], [(7, 4, 40, 41)], (4,), (4,))
+    for size, align in ((4095, 4096), (4096, 4096), (4095, 8192)):
+        case([(0, 1, t - 4096, t - 1)], [], (1, size, align, 0))
+    for base in (0xFFFE, 0xFFFF):
+        case([(1, 2, 0xFFF0, 0xFFFF)], [], (2, 1, 1, 0, 1, base))
+    case([(0, 3, 0, 32, 34)], [(7, 3, 0, 32, 0, 1)], (3, 0, 0, 1))
+    for trigger in (1, 0):
+        case([(1, 3, 0, 32, 33)], [(7, 3, 0, 32, 0, 1)], (3, 0, trigger, 0, 1, 32))
+    msi = [(0, 5, 0, 0, 8, 10, 0, 4, 8192, 8200)]
+    case(msi, [(7, 6, 0, 0, 8, 0, 4)], (5, 0, 0, 1))
+    case(msi, [], (5, 0, 0, 2), (5, 0, 0, 2))
+
+
+def request_bounds(r):
+    """Each refusal number of one request at its boundary, for each kind."""
+    for kind, most in ((1, W64), (2, W16)):
+        r.do(0)
+        r.do(1, 0, kind, 0x10, 0x40)
+        r.do(1, 1, kind, 0x10, 0x40)
+        r.do(1, 1, kind, most - 1, most)
+        for a, b, code, n in [
+            (1, 1, 0, 0), (0, 1, 0, 0), (1, 0, 0, 0), (1, 3, 0, 0), (1, most, 0, 0), (1, (most + 1) // 2, 0, 0), (1, 2, 0, 0), (0x20, 0x10, 0, 0), (0x30, 1, 0, 0), (0x1F, 1, 0, 0),
+            (1, 1, 1, 0xF), (1, 1, 1, 0x10), (1, 1, 1, 0x3F), (2, 1, 1, 0x3F), (1, 1, 1, 0x40), (1, 2, 1, 0x31), (1, 1, 1, most - 1), (1, 1, 1, most), (2, 1, 1, most - 1), (most, 1, 1, 0), (most, 1, 0, 0),
+        ]:
+            r.do(8, 3, 1, kind, a, b, 0, code, n)
+        r.do(8, 0, 1, kind, 1, 1)
+        r.do(8, W32, W32, kind, 1, 1)
+        r.do(5)
+    r.do(0)
+    r.do(1, 0, 3, 1, 5, 7)
+    r.do(1, 1, 3, 1, 5, 7)
+    r.do(1, 1, 3, 1, W64 - 1, W64)
+    for a, b, c, code, n in [
+        (1, 0, 1, 0, 0), (1, 4, 1, 0, 0), (1, 0, 2, 0, 0), (1, 3, 0, 0, 0), (1, 0, 0, 0, 0), (2, 0, 0, 0, 0), (1, 0, 1, 1, 5), (1, 1, 1, 1, 5), (1, 1, 0, 1, 5), (1, 0, 0, 1, 5), (1, 0, 1, 1, 6),
+        (1, 3, 1, 1, 6), (1, 3, 0, 1, 6), (1, 0, 1, 1, 7), (2, 0, 1, 1, 5), (1, 0, 0, 1, W64 - 1), (1, 0, 0, 1, W64),
+    ]:
+        r.do(8, 4, 2, 3, a, b, c, code, n)
+    r.do(8, 0, 2, 3, 1, 0, 0)
+    r.do(5)
+    r.do(0)
+    r.do(1, 0, 4, 3, 5)
+    r.do(1, 1, 4, 3, 5)
+    r.do(1, 1, 4, W64 - 1, W64)
+    for code, n in [(0, 0), (1, 3), (1, 2), (1, 5), (1, 4), (0, 0), (1, W64 - 1), (1, W64)]:
+        r.do(8, 5, 0, 4, 0, 0, 0, code, n)
+    r.do(8, 0, 0, 4)
+    r.do(5)
+    r.do(0)
+    r.do(1, 0, 5, 1, 2, 8, 10, 0, 4, 8192, 8200)
+    r.do(1, 1, 5, 1, 2, 8, 12, 0, 4, 8192, 8204)
+    r.do(1, 1, 5, W32, W32, W32 - 1, W32, W32 - 1, W32, W32 - 1, W32)
+    for a, b, c, d, e, l in [
+        (1, 2, 0, AUTO, AUTO, AUTO), (1, 2, 5, AUTO, AUTO, AUTO), (1, 2, 4, AUTO, AUTO, AUTO), (1, 2, 1, AUTO, AUTO, (1, 8192)), (1, 2, 1, AUTO, (1, 4), AUTO), (1, 2, 1, (1, 8), AUTO, AUTO),
+        (1, 2, 1, (1, 12), AUTO, AUTO), (1, 2, 2, (1, 10), (1, 3), AUTO), (1, 2, 2, (1, 10), (1, 2), (1, 8195)), (1, 2, 2, (1, 10), (1, 2), (1, 8203)), (1, 2, 2, (1, 10), (1, 2), (1, 8202)),
+        (1, 2, 3, AUTO, AUTO, AUTO), (1, 2, 1, AUTO, AUTO, AUTO), (1, 3, 1, AUTO, AUTO, AUTO), (2, 2, 1, AUTO, AUTO, AUTO), (W32, W32, 1, (1, W32 - 1), (1, W32 - 1), (1, W32 - 1)),
+        (W32, W32, 1, (1, W32), (1, W32 - 1), (1, W32 - 1)), (1, 2, W32, AUTO, AUTO, AUTO), (1, 2, W32, (1, 11), (1, 1), AUTO),
+    ]:
+        r.do(8, 6, 3, 5, a, b, c, *d, *e, *l)
+    r.do(8, 0, 0, 5, 1, 2, 1)
+    r.do(5)
+
+
+def request_full(r):
+    """9 comes last: a full owner table of each kind, with what is refused before it; MSI needs a row in each of its three tables."""
+    for k in KINDS:
+        kind = {6: 5, 7: 5}.get(k, k)
+        r.do(0)
+        if kind == 5:
+            r.do(1, 0, 5, 5, 6, 3000, 3010, 3000, 3010, 3000, 3010)
+        elif kind == 3:
+            r.do(1, 0, 3, 5, 3000, 3010)
+        else:
+            r.do(1, 0, kind, 3000, 3010)
+        ask = {3: (5, 0, 0), 4: (0, 0, 0), 5: (5, 6, 1)}.get(kind, (1, 1, 0))
+        r.do(7, 3, k, ROWS - 1)
+        r.do(8, 3, 1, kind, *ask)
+        r.do(8, 3, 1, kind, *ask)
+        r.do(8, 3, 1, kind, *ask, 1, 9, 1, 9, 1, 9)
+        r.do(6)
+
+
+def request_malformed(r):
+    """1 before 11 before 2; a record list of every length up to nine and beyond; owner tables that no longer begin with the reservations."""
+    for k in KINDS:
+        for a in range(4):
+            r.do(0)
+            r.do(4, a, k, 1, POOL - 1 if a < 2 else ROWS - 1, 1)
+            r.do(9, 3, 0, 0, 4)
+    for n in range(12):
+        r.do(0)
+        r.do(1, 0, 4, 3, 5)
+        r.do(9, n, 0, 0, 4)
+        r.do(9, n, 3, 1, 4)
+        r.do(5)
+    r.do(0)
+    r.do(1, 0, 1, 0, 100)
+    r.do(3)
+    r.do(8, 3, 1, 1, 10, 1)
+    r.do(2, 4, 1, 50, 60)
+    r.do(8, 3, 1, 1, 10, 1)
+    r.do(3)
+    r.do(8, 3, 1, 1, 10, 1)
+    r.do(5)
+    r.do(2, 3, 1, 0, 10)
+    r.do(8, 3, 1, 1, 10, 1)
+    r.checked(3)
+
+
+def random_requests(r, seed, rounds):
+    g = random.Random(seed)
+    for _ in range(rounds):
+        r.do(0)
+        for use in (0, 1):
+            for kind in (1, 2, 4):
+                for _ in range(g.randrange(3)):
+                    s = g.randrange(20)
+                    r.do(1, use, kind, s, s + g.randrange(1, 20))
+            for c in (0, 1):
+                s = g.randrange(8)
+                r.do(1, use, 3, c, s, s + g.randrange(1, 6))
+                r.do(1, use, 5, c, g.randrange(2), 8, 8 + g.randrange(1, 4), 0, g.randrange(1, 8), 20, 20 + g.randrange(1, 12))
+        if g.random() < 0.7:
+            for kind in (1, 2, 4):
+                r.do(1, 1, kind, 0, 41)
+            r.do(1, 1, 3, 0, 0, 14)
+            r.do(1, 1, 5, 0, 0, 6, 14, 0, 9, 18, 36)
+        for _ in range(g.randrange(5)):
+            k = g.choice([1, 2, 3, 4, 5, 6, 7])
+            s = g.randrange(20)
+            e = s + g.randrange(1, 6)
+            c, i = g.randrange(2), g.randrange(2)
+            x = {1: (s, e), 2: (s, e), 4: (s, e), 3: (c, g.randrange(12), g.randrange(4), g.randrange(2)), 5: (c, i, 8, 9), 6: (c, i, 8, 0, 2), 7: (c, 20 + s, 20 + e)}[k]
+            r.do(2, g.randrange(1, 9), k, *x)
+        r.do(3)
+        for _ in range(g.randrange(4, 16)):
+            kind = g.randrange(1, 6)
+            ch = lambda top: (1, g.randrange(top)) if g.random() < 0.6 else AUTO
+            if kind in (1, 2):
+                x = (g.randrange(1, 6), g.choice([1, 1, 2, 4, 8]), 0) + ch(16)
+            elif kind == 3:
+                x = (g.randrange(2), g.randrange(2), g.randrange(2)) + ch(14)
+            elif kind == 4:
+                x = (0, 0, 0) + ch(16)
+            else:
+                x = (g.randrange(2), g.randrange(2), g.randrange(1, 4)) + ch(12) + ch(8) + ((1, 20 + g.randrange(14)) if g.random() < 0.4 else AUTO)
+            r.do(8, g.randrange(1, 9), g.randrange(3), kind, *x)
+        r.do(5)
+        r.do(6)
+
+
 def random_calls(r, seed, rounds):
     g = random.Random(seed)
     small = lambda: g.choice([0, 1, 2, 3, 5, 8, g.randrange(40)])
@@ -501,18 +772,14 @@ def random_calls(r, seed, rounds):
 def main():
     where = sys.argv[1]
     r = Run()
-    for part in (pool_order, pool_full, holds, hold_full, started, last_row, malformed):
+    for part in (pool_order, pool_full, holds, hold_full, started, last_row, malformed, broken, stand_cases, request_bounds, request_full, request_malformed):
         part(r)
-    b = Run()
-    broken(b)
-    c = Run()
-    random_calls(c, 1, 60)
-    commands = r.commands + b.commands + c.commands
-    out = r.out + b.out + c.out
-    text = "\n".join(commands) + "\n"
+    random_calls(r, 1, 30)
+    random_requests(r, 2, 150)
+    text = "\n".join(r.commands) + "\n"
     open(where + "/stdin", "w").write(text)
-    open(where + "/stdout", "w").write("\n".join(out) + "\n")
-    print(len(commands), "commands,", len(text), "bytes in,", len(out), "lines out")
+    open(where + "/stdout", "w").write("\n".join(r.out) + "\n")
+    print(len(r.commands), "commands,", len(text), "bytes in,", len(r.out), "lines out")
 
 
 main()

@@ -1,0 +1,91 @@
+-- Reservations over the whole state: the definition's `reserve` and `holding`. Assumes nothing.
+use mathlib.Core.Path.{_≡_, refl, sym, _∙_, ap, subst}
+use mathlib.Core.Bool.{true, false}
+use mathlib.Core.Logic.{_⊎_, inl, inr}
+use mathlib.Core.List.{List, [], _∷_}
+use Prim.Native.Nat.{_≤_}
+use lib.Dec.{T}
+use Rattle.definition.specs.Base.{allOf}
+use Rattle.definition.specs.Rows.{rowLimit, Kind, input, sameKind, Row}
+use Rattle.definition.specs.Refusal.{Said, Answer, accepted, refused, _then_}
+use Rattle.definition.specs.Sound.{Table}
+use Rattle.definition.specs.Pools.{at-kind, Holders as Rows, Claim, rowsOf, room, allUnreserved, reserve}
+use Rattle.definition.specs.Calls.{State as Given, state, heldOf, pushAll, holding, settle}
+use Rattle.definition.specs.BaseLaws.{T-true, T-false, either}
+use Rattle.definition.specs.RowLaws.{same-kind, kind-same}
+use Rattle.definition.specs.ClaimLaws.{rows-other}
+use Rattle.definition.specs.TableLaws.{push-nil}
+use Rattle.definition.specs.PoolLaws.{reserve-says}
+use Rattle.tables.specs.Views.{rangesView, wiresView, holdersView}
+use Rattle.tables.specs.declared.Ranges.{Ranges}
+use Rattle.tables.specs.declared.Wires.{Wires}
+use Rattle.tables.specs.declared.Holders.{Holders}
+use Rattle.range.specs.Answers.{telling, heard, pushedOr, reserveOne, Held}
+use Rattle.range.specs.declared.Reply.{Reply}
+use Rattle.adding.specs.Kinds.{rangeKind}
+use Rattle.adding.specs.Whole.{rangesOf, putRanges, putWires, heldAfter, Few, Keeping}
+use Rattle.adding.specs.declared.reserve.RangeKind.{RangeKind}
+use Rattle.adding.proofs.PutLaws.{put-ranges, put-wires, ranges-at}
+
+-- ---- any reservation
+
+module _ (S : Given) (cs : List Claim) (H : Kind → Table Row) (w : Said) where
+  pub held-state : ((j : Kind) → H j ≡ pushedOr j (S .held j) (reserve (heldOf S) cs)) → w ≡ telling (reserve (heldOf S) cs) → state (S .pools) H (S .owners) w ≡ heldAfter cs S
+  held-state rows said = go (reserve (heldOf S) cs) rows said
+    where
+      go : (a : Answer (List Claim)) → ((j : Kind) → H j ≡ pushedOr j (S .held j) a) → w ≡ telling a
+          → state (S .pools) H (S .owners) w ≡ settle S (a then λ ds. accepted (holding ds S))
+      go (accepted ds) r s = λ i. state (S .pools) (λ j. r j i) (S .owners) (s i)
+      go (refused x) r s = λ i. state (S .pools) (λ j. r j i) (S .owners) (s i)
+
+-- ---- of one row
+
+-- a reservation reads the table of its kind alone
+alone : (R : Rows) (k : Kind) (r : Row) → reserve R (at-kind k r ∷ []) ≡ reserveOne k r (R k)
+unfolding reserve allOf allUnreserved room
+alone R k r = refl
+
+rows-none : (k j : Kind) (r : Row) → (T (sameKind j k) → ⊥) → rowsOf j (at-kind k r ∷ []) ≡ []
+unfolding rowsOf
+rows-none k j r n = rows-other j (at-kind k r) [] (λ t. n (subst (λ i. T (sameKind i k)) (same-kind k j t) (kind-same k)))
+
+module _ (S : Given) (k : Kind) (r : Row) (u : Table Row) (e : u ≡ pushedOr k (S .held k) (reserveOne k r (heldOf S k))) where
+  pub one-held : (j : Kind) → elim (sameKind j k) [ true ↦ u | false ↦ S .held j ] ≡ pushedOr j (S .held j) (reserve (heldOf S) (at-kind k r ∷ []))
+  one-held j = go (either (sameKind j k)) ∙ ap (pushedOr j (S .held j)) (sym (alone (heldOf S) k r))
+    where
+      other : (T (sameKind j k) → ⊥) → (a : Answer (List Claim)) → reserveOne k r (heldOf S k) ≡ a → S .held j ≡ pushedOr j (S .held j) a
+      other n (refused x) q = refl
+      other n (accepted cs) q =
+          sym (push-nil (S .held j))
+          ∙ ap (pushAll (S .held j)) (sym (rows-none k j r n) ∙ ap (rowsOf j) (reserve-says (λ i. heldOf S k) (at-kind k r ∷ []) cs q .0))
+
+      go : T (sameKind j k) ⊎ (T (sameKind j k) → ⊥) → elim (sameKind j k) [ true ↦ u | false ↦ S .held j ] ≡ pushedOr j (S .held j) (reserveOne k r (heldOf S k))
+      go (inl t) = rw (T-true (sameKind j k) t) (e ∙ ap (λ i. pushedOr i (S .held i) (reserveOne k r (heldOf S k))) (sym (same-kind j k t)))
+      go (inr n) = rw (T-false (sameKind j k) n) (other n (reserveOne k r (heldOf S k)) refl)
+
+module _ (h : Holders) (a : Reply) where
+  pub range-held : (k : RangeKind) (r : Row) (t : Ranges) → Held (rangeKind k) r (rangesView (rangesOf h k)) (rangesView t) a → Keeping h (putRanges h k t) (at-kind (rangeKind k) r ∷ []) a
+  range-held k r t g = record {
+    holds = λ p o w.
+        let e : Held (rangeKind k) r (holdersView h (rangeKind k)) (rangesView t) a = rw (ranges-at h k) g in
+        let s : Given = state p (holdersView h) o w in
+        sym (held-state s (at-kind (rangeKind k) r ∷ []) (holdersView (putRanges h k t)) (heard a)
+        (λ j. put-ranges h k t j ∙ one-held s (rangeKind k) r (rangesView t) (e .rows) j)
+        (e .said ∙ ap telling (sym (alone (heldOf s) (rangeKind k) r))));
+  }
+
+  pub input-held : (r : Row) (t : Wires) → Held input r (wiresView (h .input)) (wiresView t) a → Keeping h (putWires h t) (at-kind input r ∷ []) a
+  input-held r t g = record {
+    holds = λ p o w.
+        let s : Given = state p (holdersView h) o w in
+        sym (held-state s (at-kind input r ∷ []) (holdersView (putWires h t)) (heard a)
+        (λ j. put-wires h t j ∙ one-held s input r (wiresView t) (g .rows) j)
+        (g .said ∙ ap telling (sym (alone (heldOf s) input r))));
+  }
+
+pub few-at : (h : Holders) → Few h → (k : Kind) → holdersView h k .count ≤ rowLimit
+unfolding Few
+few-at h f k = f k
+
+pub few-ranges : (h : Holders) → Few h → (k : RangeKind) → rangesOf h k .n ≤ rowLimit
+few-ranges h f k = subst (λ (t : Table Row). t .count ≤ rowLimit) (ranges-at h k) (few-at h f (rangeKind k))

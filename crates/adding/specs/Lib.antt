@@ -1,0 +1,4 @@
+pub mod Kinds
+pub mod Whole
+pub mod PoolCalls
+pub mod HoldCalls

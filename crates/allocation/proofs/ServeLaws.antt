@@ -1,0 +1,66 @@
+-- The tables' test before the answer, as the definition's calls have it. Assumes nothing.
+use mathlib.Core.Path.{_≡_, refl, sym, _∙_, ap, ap₂}
+use mathlib.Core.Bool.{Bool, true, false}
+use mathlib.Core.List.{List, [], _∷_}
+use Prim.Native.Nat.{ℕ, _<_, _≤_}
+use native.Mathlib.Omega.{arith}
+use lib.Dec.{leb}
+use lib.ListN.{length}
+use borrow.Author.Tests.{lt-leb, le-leb}
+use Rattle.definition.specs.Rows.{recordSize, Kind}
+use Rattle.definition.specs.Refusal.{Refusal, malformed, short, tell, Answer, accepted, refused, require, _then_}
+use Rattle.definition.specs.Pools.{Claim}
+use Rattle.definition.specs.Request.{Request, resolve}
+use Rattle.definition.specs.Calls.{State, poolsOf, ownersOf, sound, saying, granting, settle, want, serve}
+use Rattle.definition.specs.Plan.{grant, recordOf, written, lent, allocateInto}
+use Rattle.resolve.specs.Outcomes.{basesIn, after}
+use Rattle.resolve.specs.declared.Bases.{Bases}
+
+module _ (ks : List Kind) (r : Request) (v : State) where
+  pub serve-unsound : sound ks v ≡ false → saying (tell 0 malformed) v ≡ serve ks (want r) v
+  unfolding serve require
+  serve-unsound e = rw e
+
+  pub serve-sound : sound ks v ≡ true → after v (resolve (poolsOf v) (ownersOf v) r) ≡ serve ks (want r) v
+  unfolding serve require
+  serve-sound e = rw e
+
+  module _ (out : List ℕ) where
+    pub into-unsound : sound ks v ≡ false → lent (saying (tell 0 malformed) v) out ≡ allocateInto ks r v out
+    unfolding allocateInto require
+    into-unsound e = rw (e, allocateInto)
+
+    pub into-short : sound ks v ≡ true → length out < recordSize → lent (saying (tell 0 short) v) out ≡ allocateInto ks r v out
+    unfolding allocateInto require
+    into-short e l = rw (e, lt-leb recordSize (length out) l, allocateInto)
+
+    pub into-refused : sound ks v ≡ true → recordSize ≤ length out → (y : Refusal) → resolve (poolsOf v) (ownersOf v) r ≡ refused y → lent (saying (tell 0 y) v) out ≡ allocateInto ks r v out
+    unfolding allocateInto require
+    into-refused e l y h = rw (e, le-leb recordSize (length out) l, h, allocateInto)
+
+    pub into-granted : sound ks v ≡ true → recordSize ≤ length out → (cs : List Claim) → resolve (poolsOf v) (ownersOf v) r ≡ accepted cs
+        → lent (granting cs v) (written (recordOf (grant r cs)) out) ≡ allocateInto ks r v out
+    unfolding allocateInto require
+    into-granted e l cs h = rw (e, le-leb recordSize (length out) l, h, allocateInto)
+
+-- ---- which way an answer went, by the numbers kept of it
+
+pub was-accepted : (a : Answer (List Claim)) (b : Bases) → b ≡ basesIn a → b .accepted ≡ true → (cs : List Claim) × (a ≡ accepted cs) × (b ≡ basesIn (accepted cs))
+was-accepted (accepted cs) b e h = (cs, refl, e)
+was-accepted (refused y) b e h = absurd (let z : _≡_ {A = ℕ} 0 1 = cc (ap (λ (x : Bases). x .accepted) e) in omega arith)
+
+pub was-refused : (a : Answer (List Claim)) (b : Bases) → b ≡ basesIn a → b .accepted ≡ false → (y : Refusal) × (a ≡ refused y)
+was-refused (accepted cs) b e h = absurd (let z : _≡_ {A = ℕ} 0 1 = cc (ap (λ (x : Bases). x .accepted) e) in omega arith)
+was-refused (refused y) b e h = (y, refl)
+
+module _ (ks : List Kind) (r : Request) (v t : State) (out : List ℕ) (b : Bases) (s : sound ks v ≡ true) (l : recordSize ≤ length out)
+    (is : t ≡ after v (resolve (poolsOf v) (ownersOf v) r)) (at : b ≡ basesIn (resolve (poolsOf v) (ownersOf v) r)) where
+  pub into-kept : b .accepted ≡ false → lent t out ≡ allocateInto ks r v out
+  into-kept h =
+      let (y, e) = was-refused (resolve (poolsOf v) (ownersOf v) r) b at h in
+      ap (λ x. lent x out) (is ∙ ap (after v) e) ∙ into-refused ks r v out s l y e
+
+  pub into-written : (xs out′ : List ℕ) → b .accepted ≡ true → ((cs : List Claim) → b ≡ basesIn (accepted cs) → xs ≡ recordOf (grant r cs)) → out′ ≡ written xs out → lent t out′ ≡ allocateInto ks r v out
+  into-written xs out′ h f w =
+      let (cs, e, z) = was-accepted (resolve (poolsOf v) (ownersOf v) r) b at h in
+      ap₂ lent (is ∙ ap (after v) e) (w ∙ ap (λ x. written x out) (f cs z)) ∙ into-granted ks r v out s l cs e

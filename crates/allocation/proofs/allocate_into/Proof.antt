@@ -1,0 +1,68 @@
+-- Tables, list, request, in that order; then the record. Assumes nothing.
+use native.Mathlib.Omega.{arith}
+use mathlib.Core.Path.{sym, ap, _∙_}
+use Rattle.definition.specs.BaseLaws.{true-T}
+use Rattle.allocation.proofs.ServeLaws.{into-unsound, into-short, into-kept, into-written}
+use Rattle.definition.specs.Plan.{lent}
+use Prim.Native.Nat.{_≤_, _<_}
+use lib.ListN.{length}
+use borrow.Author.Needs.{needs}
+use Rattle.allocation.proofs.allocate_into.Statement.{statement}
+use Rattle.allocation.proofs.allocate_into.Tie as tie
+
+sound-requires : tie.Need-sound-requires
+sound-requires c κs = search needs
+
+resolve-requires : tie.Need-resolve-requires
+resolve-requires c κs = true-T _ (sym (c .before .before .sound .ensures) ∙ c .before .if1 .taken)
+
+record-of-requires : tie.Need-record-of-requires
+record-of-requires c κs = search needs
+
+write-record-requires : tie.Need-write-record-requires
+write-record-requires c κs = search needs
+
+same-length : tie.Need-same-length
+same-length c = search needs
+
+returns : tie.Need-returns
+returns c =
+    let l : 9 ≤ length (c .before .before .before .before .before .before .before .before .before .before .before .before .before .args .out .now) = omega arith in
+    let a = c .before .before .before .before .before .before .before .before .resolve .ensures in
+    into-written _ _ _ _ _ _ (sym (c .before .before .before .before .before .before .before .before .before .before .before .sound .ensures) ∙ c .before .before .before .before .before .before .before .before .before .before .if1 .taken) l (a .state) (a .bases) _ _ (c .before .before .before .before .before .if3 .taken) (c .before .before .before .before .record-of .ensures) (c .before .before .write-record .ensures)
+
+returns-2 : tie.Need-returns-2
+returns-2 c =
+    let l : 9 ≤ length (c .before .before .before .before .before .before .before .before .args .out .now) = omega arith in
+    let a = c .before .before .before .resolve .ensures in
+    into-kept _ _ _ _ _ _ (sym (c .before .before .before .before .before .before .sound .ensures) ∙ c .before .before .before .before .before .if1 .taken) l (a .state) (a .bases) (c .if3 .left)
+
+refuse-requires : tie.Need-refuse-requires
+refuse-requires c κs = search needs
+
+returns-3 : tie.Need-returns-3
+returns-3 c =
+    let l : length (c .before .before .before .before .before .before .args .out .now) < 9 = omega arith in
+    ap (λ x. lent x (c .before .before .before .before .before .before .args .out .now)) (c .before .refuse .ensures .state) ∙ into-short _ _ _ _ (sym (c .before .before .before .before .sound .ensures) ∙ c .before .before .before .if1 .taken) l
+
+refuse-requires-2 : tie.Need-refuse-requires-2
+refuse-requires-2 c κs = search needs
+
+returns-4 : tie.Need-returns-4
+returns-4 c = ap (λ x. lent x (c .before .before .before .before .before .args .out .now)) (c .before .refuse2 .ensures .state) ∙ into-unsound _ _ _ _ (sym (c .before .before .before .sound .ensures) ∙ c .before .before .if1 .left)
+
+pub allocate-into-spec : {M : Type 1} → statement M
+allocate-into-spec =
+    tie.close
+    (tie.spec
+    sound-requires
+    resolve-requires
+    record-of-requires
+    write-record-requires
+    same-length
+    returns
+    returns-2
+    refuse-requires
+    returns-3
+    refuse-requires-2
+    returns-4)

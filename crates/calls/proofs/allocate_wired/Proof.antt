@@ -1,0 +1,20 @@
+-- The request's own ask. Assumes nothing.
+use mathlib.Core.Path.{refl}
+use Rattle.definition.specs.Request.{claims}
+use Rattle.calls.proofs.SetLaws.{wire-serves}
+use borrow.Author.Needs.{needs}
+use Rattle.calls.proofs.allocate_wired.Statement.{statement}
+use Rattle.calls.proofs.allocate_wired.Tie as tie
+
+good-request-requires : tie.Need-good-request-requires
+good-request-requires c κs = search needs
+
+wire-answer-requires : tie.Need-wire-answer-requires
+wire-answer-requires c κs = search needs
+
+returns : tie.Need-returns
+unfolding claims
+returns c = wire-serves _ _ _ _ _ _ _ (λ i. refl) (rw (c .before .good-request .ensures) at (c .wire-answer .ensures))
+
+pub allocate-wired-spec : {M : Type 1} → statement M
+allocate-wired-spec = tie.close (tie.spec good-request-requires wire-answer-requires returns)

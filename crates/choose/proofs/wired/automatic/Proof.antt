@@ -1,0 +1,34 @@
+-- What the search found, or that it found nothing. Assumes nothing.
+use native.Mathlib.Omega.{arith}
+use mathlib.Core.Path.{refl, _∙_}
+use Rattle.definition.specs.Request.{rowAt}
+use Rattle.search.proofs.InputLaws.{wire-lowest}
+use Rattle.choose.proofs.PlaceLaws.{auto-none, auto-some}
+use borrow.Author.Needs.{needs}
+use Rattle.choose.proofs.wired.automatic.Statement.{statement}
+use Rattle.choose.proofs.wired.automatic.Tie as tie
+
+find-input-requires : tie.Need-find-input-requires
+find-input-requires c κs = search needs
+
+enum-told : tie.Need-enum-told
+enum-told c = search needs
+
+enum-known-found : tie.Need-enum-known-found
+enum-known-found c = search needs
+
+add-e : tie.Need-add-e
+add-e c =
+    let h = rw (c .before .found .given .1) at (c .before .before .before .find-input .ensures .ends) in
+    omega arith
+
+returns : tie.Need-returns
+returns c = λ fs t s o. auto-none _ fs _ _ 3 refl (rw (c .enum-told .given .1) at (c .before .before .find-input .ensures .is t s o) ∙ wire-lowest _ _ _ _ _ _)
+
+returns-2 : tie.Need-returns-2
+unfolding rowAt
+returns-2 c = λ fs t s o. auto-some _ fs _ _ _ (rw (c .before .found .given .1) at (c .before .before .before .find-input .ensures .is t s o) ∙ wire-lowest _ _ _ _ _ _)
+
+pub automatic-spec : {M : Type 1} → statement M
+automatic-spec =
+    tie.close (tie.spec find-input-requires enum-told enum-known-found add-e returns returns-2)

@@ -1,0 +1,40 @@
+-- What is promised of inputs. Assumes nothing.
+use mathlib.Core.Path.{_≡_}
+use mathlib.Core.Bool.{true, false}
+use mathlib.Core.List.{List}
+use mathlib.Core.Option.{Option, none, some}
+use Prim.Native.Nat.{ℕ}
+use Rattle.definition.specs.Rows.{input, Span, Row, joins}
+use Rattle.definition.specs.Sound.{used}
+use Rattle.definition.specs.Request.{auto, at, rowAt, detail, wireNeed}
+use Rattle.definition.specs.Request as R
+use Rattle.tables.specs.Views.{wires, poolView, wiresView}
+use Rattle.tables.specs.declared.Pool.{Pool}
+use Rattle.tables.specs.declared.Wires.{Wires}
+use Rattle.choose.specs.Told.{told, placeIn}
+use Rattle.choose.specs.declared.Chosen.{Chosen}
+use Rattle.choose.specs.declared.wired.Wire.{Wire}
+use Rattle.choose.specs.declared.wired.Sharing.{Sharing}
+use Rattle.choose.specs.declared.wired.Sharing.the-variants.{Joins, Clashes}
+
+abbrev pub wireAsked : Wire → R.Need
+wireAsked w = wireNeed (w .controller) (w .trigger) (w .sharing) (w .requester)
+
+-- the detail of the conflict with a row on the same input, if they cannot share it
+unfoldable pub verdict : Row → Row → Option ℕ
+verdict w r = elim (joins w r) [ true ↦ none | false ↦ some (detail input w r) ]
+
+abbrev pub sharingOf : Sharing → Option ℕ
+sharingOf Joins = none
+sharingOf (Clashes d) = some d
+
+-- whatever input they are on
+abbrev pub Judges : Wire → Row → Sharing → Type 0
+Judges w held r = (b : ℕ) → sharingOf r ≡ verdict (rowAt (wireAsked w) b) held
+
+abbrev pub AutomaticInput : Pool → ℕ → List ℕ → List ℕ → Wire → Chosen → Type 0
+AutomaticInput p on c x w r =
+    (fs : List Span) (t s o : List ℕ) → told (wireAsked w) r ≡ placeIn (used (poolView p)) fs (used (wiresView (wires on c x t s o))) (wireAsked w) auto
+
+abbrev pub FixedInput : Pool → Wires → Wire → ℕ → Chosen → Type 0
+FixedInput p t w b r = (ps : List Span) → told (wireAsked w) r ≡ placeIn ps (used (poolView p)) (used (wiresView t)) (wireAsked w) (at b)

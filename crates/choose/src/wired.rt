@@ -1,0 +1,197 @@
+// Inputs of a controller: one number, exclusive or shared.
+use super::Choice;
+use super::Chosen;
+use super::Refusal;
+use search::Found;
+use tables::Hit;
+use tables::POOL_ROWS;
+use tables::ROWS;
+use tables::WireRow;
+ghost use mathlib.Core.Path.{_≡_};
+ghost use Prim.Native.Nat.{_≤_, _<_};
+ghost use Rattle.definition.specs.Rows.{poolLimit, rowLimit};
+ghost use Rattle.definition.specs.Sound.{used};
+ghost use Rattle.tables.specs.Views.{pool, wires, wireOf, poolView, wiresView};
+ghost use Rattle.search.specs.Finds.{InOrder};
+ghost use Rattle.choose.specs.Told.{choiceOf, told, placeIn, chosenIn};
+ghost use Rattle.choose.specs.Wired.{wireAsked, Judges, AutomaticInput, FixedInput};
+
+// What a request asks of a controller's inputs.
+pub struct Wire {
+    pub controller: u32,
+    pub trigger: u32,
+    pub sharing: u32,
+    pub requester: u32,
+}
+
+// Whether a request may stand beside the row that holds its input, and the detail of the conflict if not.
+pub enum Sharing {
+    Joins,
+    Clashes(u32),
+}
+
+// Both must be Shared with one trigger: 2 where the triggers differ, whatever the sharing, else 3.
+pub fn validate_sharing(wire: Wire, held: WireRow) -> Sharing
+    ensures { λ r. ⌜ Judges wire (wireOf held) r ⌝ }
+{
+    if wire.trigger != held.trigger {
+        return Sharing::Clashes(2);
+    }
+    if wire.sharing != 1 {
+        return Sharing::Clashes(3);
+    }
+    if held.sharing != 1 {
+        return Sharing::Clashes(3);
+    }
+    Sharing::Joins
+}
+
+// The least input that no row is on: 7 where there is none.
+pub fn automatic<'a>(
+    pc: &'a [u32; POOL_ROWS],
+    pi: &'a [u32; POOL_ROWS],
+    ps: &'a [u64; POOL_ROWS],
+    pe: &'a [u64; POOL_ROWS],
+    pn: usize,
+    oc: &'a [u32; ROWS],
+    ox: &'a [u64; ROWS],
+    on: usize,
+    wire: Wire,
+) -> Chosen
+    requires { ⌜ (InOrder (pool pn (now pc) (now pi) (now ps) (now pe))) × (on ≤ rowLimit) ⌝ }
+    ensures { λ r. ⌜ AutomaticInput (pool pn (now (pc .entry)) (now (pi .entry)) (now (ps .entry)) (now (pe .entry))) on (now (oc .entry)) (now (ox .entry)) wire r ⌝ }
+{
+    let found = search::find_input(pc, pi, ps, pe, pn, oc, ox, on, wire.controller);
+    match found {
+        Found::Nothing => Chosen::Refused(Refusal::Exhausted(3)),
+        Found::At(b) => {
+            let e = b + 1;
+            Chosen::Stands(b, e)
+        }
+    }
+}
+
+// The input asked for: 6 where no fixed pool allows it, then 8 where its first row does not suit.
+pub fn fixed<'a>(
+    fc: &'a [u32; POOL_ROWS],
+    fi: &'a [u32; POOL_ROWS],
+    fs: &'a [u64; POOL_ROWS],
+    fe: &'a [u64; POOL_ROWS],
+    nf: usize,
+    oc: &'a [u32; ROWS],
+    ox: &'a [u64; ROWS],
+    ot: &'a [u32; ROWS],
+    oh: &'a [u32; ROWS],
+    ow: &'a [u32; ROWS],
+    on: usize,
+    wire: Wire,
+    b: u64,
+) -> Chosen
+    requires { ⌜ (nf ≤ poolLimit) × (on ≤ rowLimit) ⌝ }
+    ensures { λ r. ⌜ FixedInput (pool nf (now (fc .entry)) (now (fi .entry)) (now (fs .entry)) (now (fe .entry))) (wires on (now (oc .entry)) (now (ox .entry)) (now (ot .entry)) (now (oh .entry)) (now (ow .entry))) wire b r ⌝ }
+{
+    let need = search::one_input(wire.controller);
+    if search::range_allowed(fc, fi, fs, fe, nf, need, b) {
+        let e = b + 1;
+        let hit = search::first_on(oc, ox, on, wire.controller, b);
+        let Hit::At(k) = hit else {
+            return Chosen::Stands(b, e);
+        };
+        let row = tables::wire_at(k, oc, ox, ot, oh, ow);
+        let judged = validate_sharing(wire, row);
+        match judged {
+            Sharing::Joins => {
+                return Chosen::Stands(b, e);
+            }
+            Sharing::Clashes(why) => {
+                return Chosen::Refused(Refusal::Conflict(3, row.owner, why));
+            }
+        }
+    }
+    Chosen::Refused(Refusal::FixedNotAllowed(3))
+}
+
+// The input that a request is granted, whether or not a row is free for it.
+pub fn place<'a>(
+    pc: &'a [u32; POOL_ROWS],
+    pi: &'a [u32; POOL_ROWS],
+    ps: &'a [u64; POOL_ROWS],
+    pe: &'a [u64; POOL_ROWS],
+    pn: usize,
+    fc: &'a [u32; POOL_ROWS],
+    fi: &'a [u32; POOL_ROWS],
+    fs: &'a [u64; POOL_ROWS],
+    fe: &'a [u64; POOL_ROWS],
+    nf: usize,
+    oc: &'a [u32; ROWS],
+    ox: &'a [u64; ROWS],
+    ot: &'a [u32; ROWS],
+    oh: &'a [u32; ROWS],
+    ow: &'a [u32; ROWS],
+    on: usize,
+    wire: Wire,
+    choice: Choice,
+) -> Chosen
+    requires { ⌜ (InOrder (pool pn (now pc) (now pi) (now ps) (now pe))) × (nf ≤ poolLimit) × (on ≤ rowLimit) ⌝ }
+    ensures { λ r. ⌜ told (wireAsked wire) r ≡ placeIn (used (poolView (pool pn (now (pc .entry)) (now (pi .entry)) (now (ps .entry)) (now (pe .entry))))) (used (poolView (pool nf (now (fc .entry)) (now (fi .entry)) (now (fs .entry)) (now (fe .entry))))) (used (wiresView (wires on (now (oc .entry)) (now (ox .entry)) (now (ot .entry)) (now (oh .entry)) (now (ow .entry))))) (wireAsked wire) (choiceOf choice) ⌝ }
+{
+    match choice {
+        Choice::Auto => automatic(pc, pi, ps, pe, pn, oc, ox, on, wire),
+        Choice::Fixed(b) => fixed(fc, fi, fs, fe, nf, oc, ox, ot, oh, ow, on, wire, b),
+    }
+}
+
+// The row that a request is granted at the end of the table: 7; or 6, then 8; then 9 where no row is free.
+pub fn choose<'a>(
+    pc: &'a [u32; POOL_ROWS],
+    pi: &'a [u32; POOL_ROWS],
+    ps: &'a [u64; POOL_ROWS],
+    pe: &'a [u64; POOL_ROWS],
+    pn: usize,
+    fc: &'a [u32; POOL_ROWS],
+    fi: &'a [u32; POOL_ROWS],
+    fs: &'a [u64; POOL_ROWS],
+    fe: &'a [u64; POOL_ROWS],
+    nf: usize,
+    oc: &'a [u32; ROWS],
+    ox: &'a [u64; ROWS],
+    ot: &'a [u32; ROWS],
+    oh: &'a [u32; ROWS],
+    ow: &'a [u32; ROWS],
+    on: usize,
+    wire: Wire,
+    choice: Choice,
+) -> Chosen
+    requires { ⌜ (InOrder (pool pn (now pc) (now pi) (now ps) (now pe))) × (nf ≤ poolLimit) × (on ≤ rowLimit) ⌝ }
+    ensures { λ r. ⌜ told (wireAsked wire) r ≡ chosenIn (used (poolView (pool pn (now (pc .entry)) (now (pi .entry)) (now (ps .entry)) (now (pe .entry))))) (used (poolView (pool nf (now (fc .entry)) (now (fi .entry)) (now (fs .entry)) (now (fe .entry))))) (used (wiresView (wires on (now (oc .entry)) (now (ox .entry)) (now (ot .entry)) (now (oh .entry)) (now (ow .entry))))) (wireAsked wire) (choiceOf choice) ⌝ }
+{
+    let got = place(
+        pc,
+        pi,
+        ps,
+        pe,
+        pn,
+        fc,
+        fi,
+        fs,
+        fe,
+        nf,
+        oc,
+        ox,
+        ot,
+        oh,
+        ow,
+        on,
+        wire,
+        choice,
+    );
+    match got {
+        Chosen::Refused(y) => Chosen::Refused(y),
+        Chosen::Stands(b, e) => {
+            if on < ROWS {
+                return Chosen::Stands(b, e);
+            }
+            Chosen::Refused(Refusal::Full)
+        }
+    }
+}

@@ -1,0 +1,159 @@
+// Adding pools and reservations to the whole state, and start. After src/resources/pool/mod.rs of axdevice 0.8.5, Apache-2.0, see NOTICE; changed.
+use range::Reply;
+use tables::State;
+ghost use mathlib.Core.Path.{_≡_};
+ghost use lib.Dec.{T};
+ghost use Rattle.definition.specs.Rows.{kinds};
+ghost use Rattle.definition.specs.Pools.{spans, heldRows, pairHold};
+ghost use Rattle.definition.specs.Calls.{given, starting, addAll, hold, start, serve};
+ghost use Rattle.tables.specs.Views.{stateView};
+ghost use Rattle.adding.specs.PoolCalls.{poolCall};
+ghost use Rattle.adding.specs.HoldCalls.{holdCall};
+ghost use Rattle.adding.specs.Whole.{heldAfter};
+ghost use Rattle.pool.specs.Served.{useOf, callOf, answeredOf};
+pub use adding::Devices;
+pub use adding::Events;
+pub use adding::Hold;
+pub use adding::Lpis;
+pub use adding::PoolRange;
+
+pub mod address;
+pub mod host_irq;
+pub mod msi;
+pub mod wired;
+
+// Which pools a range is added to: those that automatic requests search, or those that fixed requests are allowed in.
+pub enum Use {
+    Automatic,
+    Fixed,
+}
+
+// A call that adds, with its owner where it reserves, or that starts.
+pub enum Call {
+    Pool(Use, PoolRange),
+    Hold(u32, Hold),
+    Start,
+}
+
+// The state with another answer beside its tables.
+fn answered(s: State, a: Reply) -> State
+    ensures { λ r. ⌜ r ≡ answeredOf s a ⌝ }
+{
+    let mut next = s;
+    next.number = a.number;
+    next.index = 0;
+    next.namespace = 0;
+    next.owner = a.owner;
+    next.detail = 0;
+    next
+}
+
+// The owner tables become copies of the reservations, whatever they held.
+fn started(s: State) -> State
+    ensures { λ r. ⌜ stateView r ≡ starting (stateView s) ⌝ }
+{
+    let held = s.held;
+    let mut next = s;
+    next.owners = held;
+    answered(
+        next,
+        Reply {
+            number: 0,
+            owner: 0,
+        },
+    )
+}
+
+// The ranges of one call added to the pools of a use.
+fn pooled(s: State, u: Use, r: PoolRange) -> State
+    requires { ⌜ T (given kinds (stateView s)) ⌝ }
+    ensures { λ x. ⌜ stateView x ≡ addAll (useOf u) (spans (poolCall r)) (stateView s) ⌝ }
+{
+    let mut next = s;
+    match u {
+        Use::Automatic => {
+            let p = s.auto;
+            let x = adding::insert::add_pool(p, r);
+            let pools = x.pools;
+            next.auto = pools;
+            return answered(
+                next,
+                Reply {
+                    number: x.number,
+                    owner: 0,
+                },
+            );
+        }
+        Use::Fixed => {
+            let p = s.fixed;
+            let x = adding::insert::add_pool(p, r);
+            let pools = x.pools;
+            next.fixed = pools;
+            return answered(
+                next,
+                Reply {
+                    number: x.number,
+                    owner: 0,
+                },
+            );
+        }
+    }
+}
+
+// The rows of one call reserved, all of them or none.
+fn kept(s: State, owner: u32, h: Hold) -> State
+    requires { ⌜ T (given kinds (stateView s)) ⌝ }
+    ensures { λ x. ⌜ stateView x ≡ heldAfter (heldRows owner (holdCall h)) (stateView s) ⌝ }
+{
+    let t = s.held;
+    let x = adding::reserve::hold(t, owner, h);
+    let held = x.held;
+    let reply = x.reply;
+    let mut next = s;
+    next.held = held;
+    answered(next, reply)
+}
+
+// THE call: 1 where the pools and the reservations handed in are not sound, and then as the definition has it. Owner tables are not judged.
+pub fn serve(s: State, c: Call) -> State
+    ensures { λ x. ⌜ stateView x ≡ serve kinds (callOf c) (stateView s) ⌝ }
+{
+    if !sound::given(s) {
+        return answered(
+            s,
+            Reply {
+                number: 1,
+                owner: 0,
+            },
+        );
+    }
+    match c {
+        Call::Pool(u, p) => pooled(s, u, p),
+        Call::Hold(owner, h) => kept(s, owner, h),
+        Call::Start => started(s),
+    }
+}
+
+// Atomically reserves one physical wired interrupt at both boundaries: the input, Exclusive, and the host IRQ.
+pub fn reserve_wired_host_irq(
+    s: State,
+    owner: u32,
+    controller: u32,
+    input: u64,
+    irq: u64,
+    trigger: u32,
+) -> State
+    ensures { λ x. ⌜ stateView x ≡ serve kinds (hold owner (pairHold controller input trigger irq)) (stateView s) ⌝ }
+{
+    serve(
+        s,
+        Call::Hold(owner, Hold::Pair(controller, input, trigger, irq)),
+    )
+}
+
+// Starts: the owner tables become copies of the reservations, and all grants are forgotten.
+pub fn start(s: State) -> State
+    ensures { λ x. ⌜ stateView x ≡ serve kinds start (stateView s) ⌝ }
+{
+    serve(s, Call::Start)
+}

@@ -1,0 +1,5 @@
+pub mod FirstLaws
+pub mod OpenLaws
+pub mod InsertLaws
+pub mod HoldLaws
+pub mod PairLaws

@@ -1,0 +1,170 @@
+use Prim.Native.Nat.{ℕ, _≤_, _<_, _*_, _+_, _-_, _/_}
+use native.Mathlib.Omega.{arith}
+use lib.ListN.{length}
+use borrow.Author.Needs.{needs}
+use Rattle.rows.proofs.show.show_ranges.Statement.{statement}
+use Rattle.rows.proofs.show.show_ranges.Tie as tie
+use Rattle.rows.proofs.show.show_ranges.Reads as reads
+use Rattle.rows.proofs.show.show_ranges.Lts as lts
+use Rattle.rows.proofs.show.blank_number.Reads as blank-number-reads
+use Rattle.rows.proofs.show.newline.Reads as newline-reads
+use Rattle.rows.proofs.show.row_head.Reads as row-head-reads
+use Rattle.rows.proofs.show.wide.Reads as wide-reads
+
+abbrev Inv-loop : tie.InvT-loop
+Inv-loop table kind t i₀ i = i ≤ 128
+
+abbrev μ-loop : tie.MeasureT-loop
+μ-loop table kind t i₀ i = 128 - i
+
+-- src/show.rt:78:5
+loop-holds : tie.Need-loop-holds Inv-loop μ-loop
+loop-holds c = omega arith
+
+-- src/show.rt:80:13
+row-head-requires : tie.Need-row-head-requires Inv-loop μ-loop
+row-head-requires c κs = search needs
+
+-- src/show.rt:81:21
+mul-c : tie.Need-mul-c Inv-loop μ-loop
+mul-c c = omega arith
+
+-- src/show.rt:81:21
+element-copy-out-c : tie.Need-element-copy-out-c Inv-loop μ-loop
+element-copy-out-c c = omega arith
+
+-- src/show.rt:82:26
+wide-requires : tie.Need-wide-requires Inv-loop μ-loop
+wide-requires c κs = search needs
+
+-- src/show.rt:82:13
+blank-number-requires : tie.Need-blank-number-requires Inv-loop μ-loop
+blank-number-requires c κs = search needs
+
+-- src/show.rt:83:21
+mul-d : tie.Need-mul-d Inv-loop μ-loop
+mul-d c = omega arith
+
+-- src/show.rt:83:21
+element-copy-out-d : tie.Need-element-copy-out-d Inv-loop μ-loop
+element-copy-out-d c = omega arith
+
+-- src/show.rt:84:26
+wide-requires-2 : tie.Need-wide-requires-2 Inv-loop μ-loop
+wide-requires-2 c κs = search needs
+
+-- src/show.rt:84:13
+blank-number-requires-2 : tie.Need-blank-number-requires-2 Inv-loop μ-loop
+blank-number-requires-2 c κs = search needs
+
+-- src/show.rt:85:21
+mul-v : tie.Need-mul-v Inv-loop μ-loop
+mul-v c = omega arith
+
+-- src/show.rt:85:21
+element-copy-out-v : tie.Need-element-copy-out-v Inv-loop μ-loop
+element-copy-out-v c = omega arith
+
+-- src/show.rt:86:26
+wide-requires-3 : tie.Need-wide-requires-3 Inv-loop μ-loop
+wide-requires-3 c κs = search needs
+
+-- src/show.rt:86:13
+blank-number-requires-3 : tie.Need-blank-number-requires-3 Inv-loop μ-loop
+blank-number-requires-3 c κs = search needs
+
+-- src/show.rt:87:21
+mul-s : tie.Need-mul-s Inv-loop μ-loop
+mul-s c = omega arith
+
+-- src/show.rt:87:21
+element-copy-out-s : tie.Need-element-copy-out-s Inv-loop μ-loop
+element-copy-out-s c = omega arith
+
+-- src/show.rt:88:13
+blank-number-requires-4 : tie.Need-blank-number-requires-4 Inv-loop μ-loop
+blank-number-requires-4 c κs = search needs
+
+-- src/show.rt:89:21
+mul-e : tie.Need-mul-e Inv-loop μ-loop
+mul-e c = omega arith
+
+-- src/show.rt:89:21
+element-copy-out-e : tie.Need-element-copy-out-e Inv-loop μ-loop
+element-copy-out-e c = omega arith
+
+-- src/show.rt:90:13
+blank-number-requires-5 : tie.Need-blank-number-requires-5 Inv-loop μ-loop
+blank-number-requires-5 c κs = search needs
+
+-- src/show.rt:91:21
+mul-o : tie.Need-mul-o Inv-loop μ-loop
+mul-o c = omega arith
+
+-- src/show.rt:91:21
+element-copy-out-o : tie.Need-element-copy-out-o Inv-loop μ-loop
+element-copy-out-o c = omega arith
+
+-- src/show.rt:92:26
+wide-requires-4 : tie.Need-wide-requires-4 Inv-loop μ-loop
+wide-requires-4 c κs = search needs
+
+-- src/show.rt:92:13
+blank-number-requires-6 : tie.Need-blank-number-requires-6 Inv-loop μ-loop
+blank-number-requires-6 c κs = search needs
+
+-- src/show.rt:93:13
+newline-requires : tie.Need-newline-requires Inv-loop μ-loop
+newline-requires c κs = search needs
+
+-- src/show.rt:95:9
+add-i : tie.Need-add-i Inv-loop μ-loop
+add-i c = omega arith
+
+-- src/show.rt:78:5
+loop-less : tie.Need-loop-less Inv-loop μ-loop
+loop-less c = omega arith
+
+-- src/show.rt:78:5
+loop-again : tie.Need-loop-again Inv-loop μ-loop
+loop-again c = omega arith
+
+-- src/show.rt:76:1
+returns : tie.Need-returns Inv-loop μ-loop
+returns c = search needs
+
+pub show-ranges-spec : {M : Type 1} → statement M
+show-ranges-spec =
+    tie.close
+    (tie.spec
+    Inv-loop
+    μ-loop
+    loop-holds
+    row-head-requires
+    mul-c
+    element-copy-out-c
+    wide-requires
+    blank-number-requires
+    mul-d
+    element-copy-out-d
+    wide-requires-2
+    blank-number-requires-2
+    mul-v
+    element-copy-out-v
+    wide-requires-3
+    blank-number-requires-3
+    mul-s
+    element-copy-out-s
+    blank-number-requires-4
+    mul-e
+    element-copy-out-e
+    blank-number-requires-5
+    mul-o
+    element-copy-out-o
+    wide-requires-4
+    blank-number-requires-6
+    newline-requires
+    add-i
+    loop-less
+    loop-again
+    returns)

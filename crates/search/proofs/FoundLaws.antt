@@ -1,0 +1,48 @@
+-- From the index laws to the promises: what the searches end with is the definition's `lowest` over the tables' views. Assumes nothing.
+use mathlib.Core.Path.{_≡_, refl, sym, _∙_, ap, ap₂}
+use mathlib.Core.List.{List, []}
+use mathlib.Core.Option.{Option, none, some}
+use Prim.Native.Nat.{ℕ, _+_, _<_, _≤_, _%_}
+use lib.Dec.{T}
+use Rattle.definition.specs.Base.{pairsOf}
+use Rattle.definition.specs.Rows.{poolLimit, rowLimit, Span, Row, sameDom, overlap, meets}
+use Rattle.definition.specs.Sound.{used, inOrder}
+use Rattle.definition.specs.Request.{rowAt, aligned, holds, free, candidates, lowest}
+use Rattle.definition.specs.Request as R
+use Rattle.tables.specs.Below.{listed}
+use Rattle.tables.specs.Views.{ranges, wires, spanOf, poolAt, rangeOf, rangeAt, wireOf, wireAt, poolView, rangesView, wiresView}
+use Rattle.tables.specs.declared.Pool.{Pool}
+use Rattle.tables.specs.declared.Ranges.{Ranges}
+use Rattle.tables.specs.declared.Wires.{Wires}
+use Rattle.tables.proofs.TableLaws.{used-is}
+use Rattle.search.specs.Finds.{InOrder}
+
+abbrev pub spanAt : Pool → ℕ → Span
+spanAt p k = spanOf (poolAt p k)
+
+abbrev pub rangeIn : Ranges → ℕ → Row
+rangeIn t k = rangeOf (rangeAt t k)
+
+abbrev pub wireIn : Wires → ℕ → Row
+wireIn t k = wireOf (wireAt t k)
+
+pub pool-used : (p : Pool) → p .n ≤ poolLimit → used (poolView p) ≡ listed (spanAt p) (p .n)
+pool-used p l = used-is poolLimit (spanAt p) (p .n) l
+
+pub ranges-used : (t : Ranges) → t .n ≤ rowLimit → used (rangesView t) ≡ listed (rangeIn t) (t .n)
+ranges-used t l = used-is rowLimit (rangeIn t) (t .n) l
+
+pub wires-used : (t : Wires) → t .n ≤ rowLimit → used (wiresView t) ≡ listed (wireIn t) (t .n)
+wires-used t l = used-is rowLimit (wireIn t) (t .n) l
+
+pub order-used : (p : Pool) → InOrder p → T (pairsOf inOrder (listed (spanAt p) (p .n)))
+order-used p h = rw (pool-used p (h .count)) at (h .order)
+
+-- the rows of a table by index, where the answer over the index is known
+pub found-ranges : (p : Pool) (t : Ranges) (n : R.Need) (x : Option ℕ) → InOrder p → t .n ≤ rowLimit
+    → lowest (listed (spanAt p) (p .n)) (listed (rangeIn t) (t .n)) n ≡ x → x ≡ lowest (used (poolView p)) (used (rangesView t)) n
+found-ranges p t n x h l e = sym (ap₂ (λ ps rs. lowest ps rs n) (pool-used p (h .count)) (ranges-used t l) ∙ e)
+
+pub found-wires : (p : Pool) (t : Wires) (n : R.Need) (x : Option ℕ) → InOrder p → t .n ≤ rowLimit
+    → lowest (listed (spanAt p) (p .n)) (listed (wireIn t) (t .n)) n ≡ x → x ≡ lowest (used (poolView p)) (used (wiresView t)) n
+found-wires p t n x h l e = sym (ap₂ (λ ps rs. lowest ps rs n) (pool-used p (h .count)) (wires-used t l) ∙ e)

@@ -1,0 +1,39 @@
+-- An input is a run of one number: what the search of inputs leans on. Assumes nothing.
+use mathlib.Core.Path.{_≡_, refl, sym, _∙_, ap}
+use mathlib.Core.Bool.{Bool, true, false}
+use mathlib.Core.List.{List}
+use Prim.Native.Nat.{ℕ, suc, _+_, _<_, _≤_}
+use native.Mathlib.Numerals.{add-one}
+use lib.Dec.{ltb}
+use Rattle.definition.specs.Rows.{Span, Row, sameDom, wiredRow, overlap, meets}
+use Rattle.definition.specs.Request.{rowAt, aligned, holds, free, candidates, lowest, allowed, wireNeed}
+use Rattle.tables.specs.declared.Hit.{Hit}
+use Rattle.tables.specs.declared.Hit.the-variants.{At, Clear}
+use Rattle.search.specs.Asks.{needOf, inputNeed, bareWire}
+use Rattle.search.specs.Steps.{Free, Tried}
+use Rattle.search.proofs.IndexLaws.{FirstIs}
+use Rattle.search.proofs.CoreLaws.{tried-one}
+
+module _ (c : ℕ) where
+  pub input-meets : (x : ℕ) (r : Row) → meets (wiredRow c x 0 0 0) r ≡ meets (rowAt (needOf (inputNeed c)) x) r
+  unfolding meets overlap rowAt
+  input-meets x r = rw add-one
+
+  module _ (g : ℕ → Row) (on : ℕ) where
+    pub input-free : (x : ℕ) → FirstIs (λ k. meets (wiredRow c x 0 0 0) (g k)) on Clear → Free g on (needOf (inputNeed c)) x
+    input-free x h k l = sym (input-meets x (g k)) ∙ h k l
+
+    pub input-tried : (lo x k : ℕ) → FirstIs (λ k. meets (wiredRow c x 0 0 0) (g k)) on (At k) → Tried g on (needOf (inputNeed c)) lo x → Tried g on (needOf (inputNeed c)) lo (x + 1)
+    input-tried lo x k h t = tried-one g on (needOf (inputNeed c)) lo x k t (h .0) (sym (input-meets x (g k)) ∙ h .1)
+
+  -- neither the kind nor the codes nor who asks is read
+  pub input-lowest : (ps : List Span) (rs : List Row) (t s q : ℕ) → lowest ps rs (needOf (inputNeed c)) ≡ lowest ps rs (wireNeed c t s q)
+  unfolding lowest free candidates aligned holds meets rowAt
+  input-lowest ps rs t s q = refl
+
+  pub wire-lowest : (ps : List Span) (rs : List Row) (t s q : ℕ) → lowest ps rs (bareWire c) ≡ lowest ps rs (wireNeed c t s q)
+  wire-lowest ps rs t s q = sym (input-lowest ps rs 0 0 0) ∙ input-lowest ps rs t s q
+
+  pub input-allowed : (ps : List Span) (t s q b : ℕ) → allowed ps (needOf (inputNeed c)) b ≡ allowed ps (wireNeed c t s q) b
+  unfolding allowed aligned holds
+  input-allowed ps t s q b = refl

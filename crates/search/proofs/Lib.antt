@@ -1,0 +1,10 @@
+pub mod CaseLaws
+pub mod IndexLaws
+pub mod AlignLaws
+pub mod OnesLaws
+pub mod MeetLaws
+pub mod CoreLaws
+pub mod FoundLaws
+pub mod PoolRowLaws
+pub mod InputLaws
+pub mod AllowedLaws

@@ -1,0 +1,136 @@
+-- The search ends with the least free input: rows passed are barren, inputs passed are held. Assumes nothing.
+use borrow.Author.Needs.{needs}
+use native.Mathlib.Omega.{arith}
+use Prim.Native.Nat.{ℕ, _-_, _≤_, _<_}
+use mathlib.Core.Path.{sym, _∙_}
+use mathlib.Core.List.{[]}
+use borrow.Author.Count.{below-more}
+use lib.ListN.{getD}
+use Rattle.definition.specs.Rows.{meets}
+use Rattle.tables.specs.Views.{pool, wires, wireOf, wireAt}
+use Rattle.search.specs.Asks.{needOf, inputNeed, bareWire}
+use Rattle.search.specs.Steps.{Tried}
+use Rattle.search.proofs.CoreLaws.{Barren, tried-none, barren-tried, lowest-here, lowest-none}
+use Rattle.search.proofs.IndexLaws.{first-tells}
+use Rattle.search.proofs.InputLaws.{input-free, input-tried, input-lowest}
+use Rattle.search.proofs.PoolRowLaws.{bases-hold}
+use Rattle.search.proofs.FoundLaws.{spanAt, wireIn, order-used, found-wires}
+use native.Mathlib.Nat.{mod-one}
+use Rattle.search.proofs.find_input.Statement.{statement}
+use Rattle.search.proofs.find_input.Tie as tie
+
+abbrev Inv-inputs : tie.InvT-inputs
+Inv-inputs pc pi ps pe pn oc ox on controller need i stop c₀ c = (getD ps i 0 ≤ c) × Tried (λ k. wireOf (wireAt (wires on oc ox [] [] []) k)) on (needOf (inputNeed controller)) (getD ps i 0) c
+
+abbrev μ-inputs : tie.MeasureT-inputs
+μ-inputs pc pi ps pe pn oc ox on controller need i stop c₀ c = stop - c
+
+abbrev Inv-pools : tie.InvT-pools
+Inv-pools pc pi ps pe pn oc ox on controller need i₀ i = (i ≤ pn) × ((k : ℕ) → k < i → Barren (spanAt (pool pn pc pi ps pe)) (λ k. wireOf (wireAt (wires on oc ox [] [] []) k)) on (needOf (inputNeed controller)) k)
+
+abbrev μ-pools : tie.MeasureT-pools
+μ-pools pc pi ps pe pn oc ox on controller need i₀ i = pn - i
+
+one-input-requires : tie.Need-one-input-requires Inv-inputs μ-inputs Inv-pools μ-pools
+one-input-requires c κs = search needs
+
+pools-holds : tie.Need-pools-holds Inv-inputs μ-inputs Inv-pools μ-pools
+pools-holds c = (omega arith, λ k h. absurd (omega arith))
+
+bases-of-requires : tie.Need-bases-of-requires Inv-inputs μ-inputs Inv-pools μ-pools
+bases-of-requires c κs = let p = c .before .before .before .pre in (omega (arith, p .0 .count), rw (c .before .before .one-input .ensures) (omega arith))
+
+mul-c : tie.Need-mul-c Inv-inputs μ-inputs Inv-pools μ-pools
+mul-c c = omega (arith, c .before .before .before .before .pre .0 .count)
+
+element-copy-out-c : tie.Need-element-copy-out-c Inv-inputs μ-inputs Inv-pools μ-pools
+element-copy-out-c c = omega (arith, c .before .before .before .before .pre .0 .count)
+
+inputs-holds : tie.Need-inputs-holds Inv-inputs μ-inputs Inv-pools μ-pools
+inputs-holds c = (omega arith, tried-none _ _ _ _)
+
+first-on-requires : tie.Need-first-on-requires Inv-inputs μ-inputs Inv-pools μ-pools
+first-on-requires c κs = search needs
+
+enum-told : tie.Need-enum-told Inv-inputs μ-inputs Inv-pools μ-pools
+enum-told c = search needs
+
+enum-told-2 : tie.Need-enum-told-2 Inv-inputs μ-inputs Inv-pools μ-pools
+enum-told-2 c = search needs
+
+add-c : tie.Need-add-c Inv-inputs μ-inputs Inv-pools μ-pools
+add-c c = let u = rw (c .before .before .before .before .before .before .before .before .before .one-input .ensures) at (c .before .before .before .before .before .before .bases-of .ensures) in omega (arith, u .fits (c .before .before .before .before .inputs .c) (c .before .before .before .inputs-test .taken))
+
+inputs-less : tie.Need-inputs-less Inv-inputs μ-inputs Inv-pools μ-pools
+inputs-less c = omega arith
+
+inputs-again : tie.Need-inputs-again Inv-inputs μ-inputs Inv-pools μ-pools
+inputs-again c =
+    let h = rw (c .enum-told2 .given .1) at (first-tells _ _ _ (c .before .before .first-on .ensures)) in
+    let v = c .before .before .before .before .inputs .inv in
+    (omega (arith, v .0), input-tried _ _ _ _ _ _ h (v .1))
+
+add-i : tie.Need-add-i Inv-inputs μ-inputs Inv-pools μ-pools
+add-i c = omega arith
+
+pools-less : tie.Need-pools-less Inv-inputs μ-inputs Inv-pools μ-pools
+pools-less c = omega arith
+
+pools-again : tie.Need-pools-again Inv-inputs μ-inputs Inv-pools μ-pools
+pools-again c =
+    let a = c .before .before .before .before .before .before .before .args in
+    let u = rw (c .before .before .before .before .before .before .one-input .ensures) at (c .before .before .before .bases-of .ensures) in
+    (omega arith, below-more _ _ (c .before .before .before .before .before .pools .inv .1) (barren-tried (spanAt (pool (a .pn) (a .pc .now) (a .pi .now) (a .ps .now) (a .pe .now))) _ _ _ _ _ _ u (c .inputs-test .left) (c .before .inputs .inv .1)))
+
+returns : tie.Need-returns Inv-inputs μ-inputs Inv-pools μ-pools
+unfolding meets
+returns c =
+    let a = c .before .before .before .args in
+    let p = c .before .before .before .pre in
+    record {
+      is = λ t s o. found-wires (pool (a .pn) (a .pc .now) (a .pi .now) (a .ps .now) (a .pe .now)) (wires (a .on) (a .oc .now) (a .ox .now) t s o) (bareWire (a .controller)) _ (p .0) (p .1) (sym (input-lowest (a .controller) _ _ 0 0 0)
+          ∙ lowest-none (spanAt (pool (a .pn) (a .pc .now) (a .pi .now) (a .ps .now) (a .pe .now))) (wireIn (wires (a .on) (a .oc .now) (a .ox .now) t s o)) (a .on) (needOf (inputNeed (a .controller))) (a .pn) (omega arith) (λ k l. c .before .pools .inv .1 k (omega arith)));
+      ends = tt;
+    }
+
+returns-2 : tie.Need-returns-2 Inv-inputs μ-inputs Inv-pools μ-pools
+unfolding meets
+returns-2 c =
+    let a = c .before .before .before .before .before .before .before .before .before .before .args in
+    let p = c .before .before .before .before .before .before .before .before .before .before .pre in
+    let f = rw (c .enum-told .given .1) at (first-tells _ _ _ (c .before .before .first-on .ensures)) in
+    let t = c .before .before .before .inputs-test .taken in
+    let v = c .before .before .before .before .inputs .inv in
+    let u = rw (c .before .before .before .before .before .before .before .before .before .one-input .ensures) at (c .before .before .before .before .before .before .bases-of .ensures) in
+    record {
+      is = λ g s o. found-wires (pool (a .pn) (a .pc .now) (a .pi .now) (a .ps .now) (a .pe .now)) (wires (a .on) (a .oc .now) (a .ox .now) g s o) (bareWire (a .controller)) _ (p .0) (p .1) (sym (input-lowest (a .controller) _ _ 0 0 0)
+          ∙ lowest-here (spanAt (pool (a .pn) (a .pc .now) (a .pi .now) (a .ps .now) (a .pe .now))) (wireIn (wires (a .on) (a .oc .now) (a .ox .now) g s o)) (a .on) (needOf (inputNeed (a .controller))) (a .pn) (omega arith) _ _ (order-used (pool (a .pn) (a .pc .now) (a .pi .now) (a .ps .now) (a .pe .now)) (p .0)) (omega arith)
+          (c .before .before .before .before .before .before .before .before .pools .inv .1) (v .1) (bases-hold _ _ _ _ u (v .0) t) (mod-one (c .before .before .before .before .inputs .c)) (input-free (a .controller) (wireIn (wires (a .on) (a .oc .now) (a .ox .now) g s o)) (a .on) _ f));
+      ends = u .fits (c .before .before .before .before .inputs .c) t;
+    }
+
+pub find-input-spec : {M : Type 1} → statement M
+find-input-spec =
+    tie.close
+    (tie.spec
+    Inv-inputs
+    μ-inputs
+    Inv-pools
+    μ-pools
+    one-input-requires
+    pools-holds
+    bases-of-requires
+    mul-c
+    element-copy-out-c
+    inputs-holds
+    first-on-requires
+    enum-told
+    enum-told-2
+    add-c
+    inputs-less
+    inputs-again
+    add-i
+    pools-less
+    pools-again
+    returns
+    returns-2)

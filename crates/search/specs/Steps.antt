@@ -1,0 +1,48 @@
+-- What the steps of a search promise each other, over rows by their index. Assumes nothing.
+use mathlib.Core.Path.{_≡_}
+use mathlib.Core.Bool.{false}
+use Prim.Native.Nat.{ℕ, _+_, _%_, _^_, _<_, _≤_}
+use lib.Dec.{T}
+use Rattle.definition.specs.Rows.{sameDom, poolDom, Span, Row, meets}
+use Rattle.definition.specs.Request.{Need, rowAt, holds}
+use Rattle.search.specs.declared.Step.{Step}
+use Rattle.search.specs.declared.Step.the-variants.{To, Stay}
+
+-- r is the least multiple of a from v on, or stop where that is not below stop
+pub record Up (v a stop r : ℕ) : Type 0 where
+  pub within : r ≤ stop
+  pub reached : r < stop → v ≤ r
+  pub aligned : r < stop → r % a ≡ 0
+  pub none-before : (x : ℕ) → v ≤ x → x < r → x % a ≡ 0 → ⊥
+
+-- the bases at which `size` numbers fit below hi are those below r (that hi is a 64-bit number is said here, since a number read through a reference comes without it)
+pub record Below (hi size r : ℕ) : Type 0 where
+  pub each : (b : ℕ) → b < r → b + size ≤ hi
+  pub all : (b : ℕ) → b + size ≤ hi → b < r
+  pub fits : hi < 2 ^ 64
+
+-- the bases of a pool row: below r it is of the domain and the whole run ends in it, and no base that the row holds is r or more
+pub record Bases (n : Need) (p : Span) (r : ℕ) : Type 0 where
+  pub own : (b : ℕ) → b < r → T (sameDom (poolDom (n .dom)) (p .dom))
+  pub each : (b : ℕ) → b < r → b + n .size ≤ p .end
+  pub all : (b : ℕ) → T (holds n b p) → b < r
+  pub fits : (b : ℕ) → b < r → b + n .size < 2 ^ 64
+
+-- the run at x meets none of the first `on` rows
+abbrev pub Free : (ℕ → Row) → ℕ → Need → ℕ → Type 0
+Free g on n x = (k : ℕ) → k < on → meets (rowAt n x) (g k) ≡ false
+
+-- no aligned base from lo up to c is free, whatever pool it lies in
+abbrev pub Tried : (ℕ → Row) → ℕ → Need → ℕ → ℕ → Type 0
+Tried g on n lo c = (x : ℕ) → lo ≤ x → x < c → x % n .align ≡ 0 → Free g on n x → ⊥
+
+pub record Jumps (g : ℕ → Row) (on : ℕ) (n : Need) (c stop r : ℕ) : Type 0 where
+  pub rises : c < r
+  pub within : r ≤ stop
+  pub aligned : r < stop → r % n .align ≡ 0
+  pub tried : Tried g on n c r
+
+-- one step of the search at base c: stay where the run is free, else go to the next base to try
+abbrev pub Steps : (ℕ → Row) → ℕ → Need → ℕ → ℕ → Step → Type 0
+Steps g on n c stop (To r) = Jumps g on n c stop r
+Steps g on n c stop Stay = Free g on n c
