@@ -1,6 +1,6 @@
 // A command's numbers as a call, or as a request.
-use super::store::low32;
 use choose::Choice;
+use poke::store::low32;
 use pool::Call;
 use pool::Devices;
 use pool::Events;

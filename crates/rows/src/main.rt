@@ -1,9 +1,6 @@
 // Runs the table-level commands of tests/rows.py and prints what they answer and leave.
 mod call;
-mod fill;
 mod read;
-mod show;
-mod store;
 
 use tables::State;
 ghost use Prim.Native.Nat.{_≤_};
@@ -17,7 +14,7 @@ pub fn ask(s: State, x: [u64; 14], k: usize, n: usize) -> State {
         return s;
     }
     let t = allocation::allocate_into(s, r, &mut out[..n]);
-    show::show_record(t, &out, n);
+    poke::show::show_record(t, &out, n);
     t
 }
 
@@ -27,24 +24,24 @@ pub fn apply(s: State, x: [u64; 14]) -> State {
         return tables::fresh();
     }
     if x[0] == 4 {
-        let p = store::Poke {
+        let p = poke::store::Poke {
             kind: x[2],
             column: x[3],
             row: x[4] as usize,
             value: x[5],
         };
-        return store::store(s, x[1], p);
+        return poke::store::store(s, x[1], p);
     }
     if x[0] == 5 {
-        show::show_rows(s);
+        poke::show::show_rows(s);
         return s;
     }
     if x[0] == 6 {
-        show::show_judgement(s);
+        poke::show::show_judgement(s);
         return s;
     }
     if x[0] == 7 {
-        return fill::fill(s, x[1], x[2], x[3] as usize);
+        return poke::fill::fill(s, x[1], x[2], x[3] as usize);
     }
     if x[0] == 8 {
         return ask(s, x, 1, 9);
@@ -54,7 +51,7 @@ pub fn apply(s: State, x: [u64; 14]) -> State {
     }
     let c = call::call_of(x);
     let t = pool::serve(s, c);
-    show::show_answer(t);
+    poke::show::show_answer(t);
     t
 }
 

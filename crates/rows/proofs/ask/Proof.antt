@@ -10,7 +10,7 @@ use Rattle.rows.proofs.ask.Reads as reads
 use Rattle.rows.proofs.ask.Lts as lts
 use Rattle.allocation.proofs.allocate_into.Reads as allocate-into-reads
 use Rattle.rows.proofs.call.request_at.Reads as request-at-reads
-use Rattle.rows.proofs.show.show_record.Reads as show-record-reads
+use Rattle.poke.proofs.show.show_record.Reads as show-record-reads
 
 -- src/main.rt:14:9
 request-at-requires : tie.Need-request-at-requires
