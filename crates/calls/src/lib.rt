@@ -25,6 +25,7 @@ ghost use Rattle.calls.specs.Kinds.{Sensible, RangeServed, WireServed, S
 ghost use Rattle.calls.specs.Msis.{setMsi, keeping, SomeEvents, MsiServed, ServesMsi};
 ghost use Rattle.definition.specs.Request as R;
 
+#[repr(C)]
 pub struct RangeTables {
     pub auto: Pool,
     pub fixed: Pool,
@@ -37,6 +38,7 @@ pub struct RangeAnswer {
     pub chosen: Chosen,
 }
 
+#[repr(C)]
 pub struct WireTables {
     pub auto: Pool,
     pub fixed: Pool,
@@ -240,6 +242,7 @@ pub fn allocate_wired(
     wire_answer(t, good, ask, choice)
 }
 
+#[repr(C)]
 pub struct MsiTables {
     pub device: RangeTables,
     pub event: RangeTables,

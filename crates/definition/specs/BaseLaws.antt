@@ -21,6 +21,14 @@ pub and-i : (a b : Bool) → T a → T b → T (a && b)
 and-i true b s t = t
 and-i false b s t = absurd s
 
+pub and-true : (a : Bool) → a && true ≡ a
+and-true true = refl
+and-true false = refl
+
+pub and-false : (a : Bool) → a && false ≡ false
+and-false true = refl
+and-false false = refl
+
 pub T-true : (a : Bool) → T a → a ≡ true
 T-true true t = refl
 T-true false t = absurd t
@@ -34,6 +42,13 @@ true-T a e = subst T (sym e) tt
 
 pub false-T : (a : Bool) → a ≡ false → T a → ⊥
 false-T a e t = subst T e t
+
+-- two tests that pass together are one
+pub T-ext : (a b : Bool) → (T a → T b) → (T b → T a) → a ≡ b
+T-ext true true f g = refl
+T-ext true false f g = absurd (f tt)
+T-ext false true f g = absurd (g tt)
+T-ext false false f g = refl
 
 pub not-T→ : (a : Bool) → T (not a) → T a → ⊥
 not-T→ true s t = s

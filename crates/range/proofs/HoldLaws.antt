@@ -14,7 +14,7 @@ use Rattle.definition.specs.Refusal.{Refusal, malformed, badInput, badOwner, em
 use Rattle.definition.specs.Sound.{Table, used, fits}
 use Rattle.definition.specs.Pools.{at-kind, Holders, Claim, rowsOf, room, unreserved, allUnreserved, reserve}
 use Rattle.definition.specs.Calls.{pushAll}
-use Rattle.definition.specs.BaseLaws.{T-true, T-false, true-T, and-l, and-r}
+use Rattle.definition.specs.BaseLaws.{and-l, and-r, and-true, and-false, T-true, T-false, true-T}
 use Rattle.definition.specs.RowLaws.{kind-same}
 use Rattle.definition.specs.ClaimLaws.{rows-same}
 use Rattle.definition.specs.PoolLaws.{reserve-says}
@@ -23,7 +23,6 @@ use Rattle.tables.specs.Below.{first}
 use Rattle.tables.specs.declared.Hit.the-variants.{At, Clear}
 use Rattle.tables.proofs.ListedLaws.{listed-length}
 use Rattle.tables.proofs.TableLaws.{table}
-use Rattle.tables.proofs.BaseLaws.{and-true, and-false}
 use Rattle.range.specs.Answers.{telling, heard, pushedOr, reserveOne, Told, Held}
 use Rattle.range.specs.declared.Reply.{Reply}
 use Rattle.range.proofs.FirstLaws.{used-hit, used-clear}

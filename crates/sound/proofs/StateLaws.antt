@@ -7,7 +7,7 @@ use Rattle.definition.specs.Sound.{tidy, soundTable, begins}
 use Rattle.definition.specs.Calls.{fresh, givenAt, soundAt, given, sound}
 use Rattle.tables.specs.Views.{stateView}
 use Rattle.tables.specs.declared.State.{State}
-use Rattle.tables.proofs.BaseLaws.{and-true}
+use Rattle.definition.specs.BaseLaws.{and-true}
 use Rattle.sound.specs.Tests.{givenOf, setOf}
 use Rattle.sound.proofs.KindLaws.{given-ranges, set-ranges, given-wires, set-wires}
 

@@ -11,7 +11,7 @@ use Rattle.definition.specs.Sound.{fits, goodRow, used, begins}
 use Rattle.tables.specs.Below.{allBelow, allFrom}
 use Rattle.tables.specs.Views.{wireOf, wireAt, wiresView}
 use Rattle.tables.specs.declared.Wires.{Wires}
-use Rattle.tables.proofs.BaseLaws.{and-l, and-r, and-i, and-true, T-ext, eq→eqb}
+use Rattle.definition.specs.BaseLaws.{and-l, and-r, and-i, and-true, T-ext, eq→eqb}
 use Rattle.tables.proofs.BelowLaws.{all-every}
 use Rattle.tables.proofs.TableLaws.{tidy-is, tidy-count, sound-is, begins-used}
 use Rattle.spans.specs.Tests.{NoneAbove}

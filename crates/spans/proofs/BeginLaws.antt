@@ -9,7 +9,7 @@ use Rattle.definition.specs.Sound.{used, begins}
 use Rattle.tables.specs.Below.{allBelow, rowOk}
 use Rattle.tables.specs.Views.{rangeOf, rangeAt, rangesView}
 use Rattle.tables.specs.declared.Ranges.{Ranges}
-use Rattle.tables.proofs.BaseLaws.{and-l, and-r, and-i, and-false, T-ext, T-true, true-T}
+use Rattle.definition.specs.BaseLaws.{and-l, and-r, and-i, and-false, T-ext, T-true, true-T}
 use Rattle.tables.proofs.BelowLaws.{all-in, all-out}
 use Rattle.tables.proofs.TableLaws.{same-row, begins-used}
 use Rattle.spans.specs.declared.limits.Limits.{Limits}

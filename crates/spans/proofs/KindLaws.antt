@@ -9,7 +9,7 @@ use Rattle.definition.specs.Sound.{blankSpan, blankRow, fits, fitsSpan, goodRow
 use Rattle.tables.specs.Views.{spanOf, poolAt, poolView, rangeOf, rangeAt, rangesView}
 use Rattle.tables.specs.declared.Pool.{Pool}
 use Rattle.tables.specs.declared.Ranges.{Ranges}
-use Rattle.tables.proofs.BaseLaws.{and-l, and-r, and-i, and-true, T-ext}
+use Rattle.definition.specs.BaseLaws.{and-l, and-r, and-i, and-true, T-ext}
 use Rattle.tables.proofs.TableLaws.{sound-ext}
 use Rattle.spans.specs.Tests.{limitsOf, goodPool, soundPoolIn, blankRange, goodRange, apart, soundRangesIn}
 

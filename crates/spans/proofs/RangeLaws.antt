@@ -11,7 +11,7 @@ use Rattle.tables.specs.Below.{allBelow, allFrom, first, isClear}
 use Rattle.tables.specs.Views.{rangeOf, rangeAt}
 use Rattle.tables.specs.declared.Hit.{Hit}
 use Rattle.tables.specs.declared.Ranges.{Ranges}
-use Rattle.tables.proofs.BaseLaws.{and-false, T-ext, eq→eqb}
+use Rattle.definition.specs.BaseLaws.{and-false, T-ext, eq→eqb}
 use Rattle.tables.proofs.BelowLaws.{all-every, all-ext, first-clear}
 use Rattle.tables.proofs.TableLaws.{tidy-is, tidy-count, sound-is}
 use Rattle.spans.specs.declared.limits.Limits.{Limits}

@@ -11,7 +11,7 @@ use borrow.Author.Tests.{lt-ltb, le-ltb}
 use Rattle.tables.specs.Below.{allBelow, allFrom, first, orAt, isClear}
 use Rattle.tables.specs.declared.Hit.{Hit}
 use Rattle.tables.specs.declared.Hit.the-variants.{At, Clear}
-use Rattle.tables.proofs.BaseLaws.{and-l, and-r, and-i, T-ext, T-true, T-false, true-T, false-T}
+use Rattle.definition.specs.BaseLaws.{and-l, and-r, and-i, T-ext, T-true, T-false, true-T, false-T}
 
 module _ (q : ℕ → Bool) where
   pub all-start : allBelow q 0 ≡ true

@@ -1,4 +1,3 @@
-pub mod BaseLaws
 pub mod BelowLaws
 pub mod ListedLaws
 pub mod TableLaws

@@ -10,7 +10,7 @@ use Rattle.definition.specs.Base.{allOf, pairsOf}
 use Rattle.definition.specs.Rows.{Row, sameRow}
 use Rattle.definition.specs.Sound.{begins}
 use Rattle.tables.specs.Below.{listed, allBelow}
-use Rattle.tables.proofs.BaseLaws.{and-l, and-r, and-i, T-ext}
+use Rattle.definition.specs.BaseLaws.{and-l, and-r, and-i, T-ext}
 use Rattle.tables.proofs.BelowLaws.{all-in, all-out}
 
 module _ {A : Type 0} where

@@ -6,7 +6,7 @@ use lib.Dec.{T, leb, ltb, le→leb}
 use borrow.Author.Tests.{ltb-false}
 use Rattle.definition.specs.Sound.{soundTable, tidy}
 use Rattle.tables.specs.Below.{allBelow, allFrom, rowOk}
-use Rattle.tables.proofs.BaseLaws.{and-l, and-r, and-i, T-true}
+use Rattle.definition.specs.BaseLaws.{and-l, and-r, and-i, T-true}
 use Rattle.tables.proofs.BelowLaws.{all-in, all-out}
 use Rattle.tables.proofs.TableLaws.{table, tidy-count, tidy-unused, tidy-is, sound-is}
 

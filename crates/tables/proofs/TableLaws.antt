@@ -11,7 +11,7 @@ use Rattle.definition.specs.Base.{allOf, pairsOf}
 use Rattle.definition.specs.Rows.{Dom, Row, Span, sameDom, sameRow, sameSpan}
 use Rattle.definition.specs.Sound.{Table, used, tidy, soundTable, begins}
 use Rattle.tables.specs.Below.{listed, allBelow, allFrom, rowOk}
-use Rattle.tables.proofs.BaseLaws.{and-l, and-r, and-i, T-ext}
+use Rattle.definition.specs.BaseLaws.{and-l, and-r, and-i, T-ext}
 use Rattle.tables.proofs.BelowLaws.{all-in, all-out}
 use Rattle.tables.proofs.ListedLaws.{listed-length, listed-take, listed-out, listed-in, drop-out, drop-in, pairs-out, pairs-in, begins-is}
 

@@ -11,6 +11,7 @@ pub const ROWS: usize = 128;
 pub const POOL_ROWS: usize = 32;
 
 // A pool table of any kind. A domain number that a kind does not use is 0 in every row.
+#[repr(C)]
 pub struct Pool {
     pub n: usize,
     pub controller: [u32; POOL_ROWS],
@@ -20,6 +21,7 @@ pub struct Pool {
 }
 
 // A reservation or owner table of a kind whose rows hold ranges: every kind but inputs.
+#[repr(C)]
 pub struct Ranges {
     pub n: usize,
     pub controller: [u32; ROWS],
@@ -31,6 +33,7 @@ pub struct Ranges {
 }
 
 // A reservation or owner table of inputs: one number a row, with its codes.
+#[repr(C)]
 pub struct Wires {
     pub n: usize,
     pub controller: [u32; ROWS],
@@ -41,6 +44,7 @@ pub struct Wires {
 }
 
 // The pool tables of one use, automatic or fixed.
+#[repr(C)]
 pub struct Pools {
     pub mmio: Pool,
     pub pio: Pool,
@@ -52,6 +56,7 @@ pub struct Pools {
 }
 
 // The reservation tables, or the owner tables.
+#[repr(C)]
 pub struct Holders {
     pub mmio: Ranges,
     pub pio: Ranges,
@@ -63,6 +68,7 @@ pub struct Holders {
 }
 
 // All tables, and the five numbers of the last answer.
+#[repr(C)]
 pub struct State {
     pub auto: Pools,
     pub fixed: Pools,

@@ -79,12 +79,10 @@ impl Bare {
 
     /// One request; the allocators begin if they have not.
     pub fn request(&mut self, request: &Request) -> Answer {
-        if !self.is_begun() {
-            self.start();
-        }
-        let state = &mut self.live.as_mut().expect("begun").state;
-        let result =
-            catch_unwind(AssertUnwindSafe(|| state.allocate(&owner_text(request.requester), &requirement(request))));
+        let result = catch_unwind(AssertUnwindSafe(|| {
+            let (requester, requirement) = Self::spelt(request);
+            self.allocate(&requester, &requirement)
+        }));
         match result {
             Ok(Ok(resolved)) => Answer::Granted(record(request, &resolved)),
             Ok(Err(error)) => Answer::Refused(refusal_of_request(&error)),
@@ -93,6 +91,23 @@ impl Bare {
                 Answer::Panicked(message(&*panic))
             }
         }
+    }
+
+    /// A request as the original takes it: who asks, and what for.
+    pub fn spelt(request: &Request) -> (String, DeviceRequirement) {
+        (owner_text(request.requester), requirement(request))
+    }
+
+    /// The original's own call with nothing around it, for measures; the allocators begin if they have not.
+    pub fn allocate(
+        &mut self,
+        requester: &str,
+        requirement: &DeviceRequirement,
+    ) -> Result<ResolvedResource, ResourcePlanningError> {
+        if !self.is_begun() {
+            self.start();
+        }
+        self.live.as_mut().expect("begun").state.allocate(requester, requirement)
     }
 
     /// Rows of a pool or reservation table: domains ascending, each domain's rows in the original's order.

@@ -1,0 +1,80 @@
+// Both sides give the same answers and leave the same tables: looked at before anything is timed.
+
+use crate::input::{flat, Input};
+use crate::ours::{self, OfKind};
+use crate::tables::{State, Told, RECORD};
+use crate::theirs::{spelt, Theirs};
+use oracle::calls::{Answer, Request};
+use oracle::judge::Judge;
+
+/// The judge with an input's tables, started.
+pub fn judge(input: &Input) -> Judge {
+    let mut judge = Judge::fresh();
+    for add in &input.adds {
+        assert_eq!(judge.add(add), Answer::Accepted, "{add:?}");
+    }
+    judge.start();
+    judge
+}
+
+/// Goes through the requests one by one on every side; each must be granted, and every column must agree after each.
+pub fn check(input: &Input, requests: &[Request]) {
+    let mut judge = judge(input);
+    let mut theirs = Theirs::with(&input.adds).started();
+    let mut resolved = State::of(judge.tables());
+    let mut allocated = resolved.clone();
+    let mut told = Box::new(Told { state: *resolved, record: [0; RECORD] });
+    let mut kinds: Vec<OfKind> = (1..=5).map(|kind| OfKind::of(&resolved, kind)).collect();
+    for request in requests {
+        assert!(sound(&resolved), "{}: tables before {request:?}", input.name);
+        let granted = judge.request(request);
+        let Answer::Granted(record) = granted else { panic!("{}: {request:?}: {granted:?}", input.name) };
+        assert!(theirs.allocate(&spelt(request)), "{}: {request:?}", input.name);
+        let numbers = flat(request);
+        // SAFETY: the tables were found sound.
+        unsafe { ours::resolve(&mut resolved, &numbers) };
+        ours::allocate(&mut allocated, &numbers);
+        ours::allocate_into(&mut told, &numbers);
+        let kind = &mut kinds[numbers[0] as usize - 1];
+        kind.allocate(&numbers);
+        let expected = State::of(judge.tables());
+        assert!(*resolved == *expected, "{}: resolve after {request:?}", input.name);
+        assert!(*allocated == *expected, "{}: allocate after {request:?}", input.name);
+        assert!(told.state == *expected, "{}: allocate_into after {request:?}", input.name);
+        assert_eq!(told.record, record, "{}: the record of {request:?}", input.name);
+        assert!(kind.stands_in(&expected), "{}: the kind's call after {request:?}", input.name);
+    }
+}
+
+/// The proved test's own word; it changes nothing but the answer.
+pub fn sound(state: &State) -> bool {
+    let mut judged = Box::new(*state);
+    ours::judge(&mut judged);
+    judged.number == 0
+}
+
+/// A state with zeros behind it.
+#[cfg(feature = "plan")]
+pub fn lent(state: &State) -> Box<crate::tables::Lent> {
+    Box::new(crate::tables::Lent { state: *state, results: [0; RECORD * crate::tables::ROWS] })
+}
+
+/// The same requests as one plan: every record, every number behind them, every column.
+#[cfg(feature = "plan")]
+pub fn check_plan(input: &Input, requests: &[Request]) {
+    let mut judge = judge(input);
+    let state = State::of(judge.tables());
+    let (mut bare, mut whole) = (lent(&state), lent(&state));
+    let numbers: Vec<ours::Flat> = requests.iter().map(flat).collect();
+    let granted = judge.plan(requests, bare.results.len());
+    assert_eq!(granted.answer, Answer::Accepted, "{}", input.name);
+    let mut expected = lent(&State::of(judge.tables()));
+    expected.results[..granted.records.len() * RECORD].copy_from_slice(granted.records.as_flattened());
+    // SAFETY: the tables of a judge that has just started are sound.
+    unsafe { ours::run(&mut bare, &numbers) };
+    ours::plan(&mut whole, &numbers);
+    for (got, call) in [(&bare, "run"), (&whole, "plan")] {
+        assert!(got.state == expected.state, "{}: the tables after {call}", input.name);
+        assert_eq!(got.results, expected.results, "{}: the records of {call}", input.name);
+    }
+}

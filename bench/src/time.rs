@@ -1,0 +1,54 @@
+// Medians of repeated calls. What a call works on is made anew before each, outside the measured time.
+
+use std::hint::black_box;
+use std::time::{Duration, Instant};
+
+/// The samples that a median is taken of.
+pub const SAMPLES: usize = 1000;
+/// Samples before them that do not count.
+const WARM: usize = 50;
+
+/// The median time of a call in microseconds. A sample is the mean of `batch` calls, each on tables of its own.
+pub fn median<T, R>(batch: usize, mut make: impl FnMut() -> T, mut call: impl FnMut(&mut T) -> R) -> f64 {
+    let mut samples = Vec::with_capacity(SAMPLES);
+    for turn in 0..WARM + SAMPLES {
+        let mut tables: Vec<T> = (0..batch).map(|_| make()).collect();
+        let took = spent(|| {
+            for one in &mut tables {
+                black_box(call(black_box(one)));
+            }
+        });
+        if turn >= WARM {
+            samples.push(took.as_secs_f64() * 1e6 / batch as f64);
+        }
+    }
+    samples.sort_by(f64::total_cmp);
+    samples[SAMPLES / 2]
+}
+
+/// The shorter of the time that passed and the thread's own time on a processor. The first is exact for short work; the
+/// second leaves out what the machine did for others in the middle of long work.
+fn spent(work: impl FnOnce()) -> Duration {
+    let own = own_time();
+    let start = Instant::now();
+    work();
+    let passed = start.elapsed();
+    passed.min(own_time() - own)
+}
+
+/// What the thread has spent on a processor so far (Linux).
+fn own_time() -> Duration {
+    #[repr(C)]
+    struct Time {
+        seconds: i64,
+        nanoseconds: i64,
+    }
+    extern "C" {
+        fn clock_gettime(clock: i32, time: *mut Time) -> i32;
+    }
+    const THREAD: i32 = 3;
+    let mut time = Time { seconds: 0, nanoseconds: 0 };
+    // SAFETY: the C library that std links writes the one struct.
+    assert_eq!(unsafe { clock_gettime(THREAD, &mut time) }, 0);
+    Duration::new(time.seconds as u64, time.nanoseconds as u32)
+}

@@ -1,0 +1,4 @@
+pub mod BlockLaws
+pub mod AgainLaws
+pub mod RunLaws
+pub mod FlatExample

@@ -1,0 +1,4 @@
+pub mod Walk
+pub mod Again
+pub mod LendWalk
+pub mod PartWalk

@@ -1,0 +1,3 @@
+pub mod FormLaws
+pub mod FlatLaws
+pub mod StoreLaws

@@ -1,0 +1,106 @@
+-- Requests as plain numbers, twelve a request, and a plan of them. Assumes nothing.
+use mathlib.Core.Bool.{Bool, true, false, _&&_}
+use mathlib.Core.List.{List, [], _∷_}
+use Prim.Native.Nat.{ℕ, zero, suc, _+_, _*_, _/_}
+use lib.Dec.{leb, eqb}
+use lib.ListN.{length, getD}
+use Rattle.definition.specs.Rows.{top, kinds}
+use Rattle.definition.specs.Refusal.{malformed, short, refused, require}
+use Rattle.definition.specs.Request.{Choice, auto, at, Want, memory, ports, wire, irq, msi, Request}
+use Rattle.definition.specs.Calls.{State, sound, settle}
+use Rattle.definition.specs.Plan.{Lent, lent, plan}
+
+-- the numbers of one request: kind, requester, slot, a, b, c, then three choices of two numbers each (a code and a number)
+abbrev pub requestSize : ℕ
+requestSize = 12
+
+-- ---- one request from its twelve numbers
+
+-- code 0 leaves the choice to the planner, code 1 asks for the number beside it; no other code is known
+abbrev pub known : ℕ → Bool
+known code = leb code 1
+
+abbrev pub choiceAt : ℕ → ℕ → Choice
+choiceAt zero n = auto
+choiceAt (suc code) n = at n
+
+-- requester, slot, controller, trigger, sharing, ITS and count have fields of 32 bits
+abbrev pub fits : ℕ → Bool
+fits n = leb n (top 32)
+
+abbrev pub allFit : ℕ → ℕ → ℕ → Bool
+allFit a b c = fits a && (fits b && fits c)
+
+-- the kinds of request, by their numbers from 1 on
+pub data Form : Type 0 where
+  unknown mmio pio input host messages : Form
+
+abbrev pub forms : List Form
+forms = unknown ∷ mmio ∷ pio ∷ input ∷ host ∷ messages ∷ []
+
+abbrev pub formAt : ℕ → Form
+formAt kind = getD forms kind unknown
+
+-- the kind is known, and what it uses of a b c and of the three codes can be read: what it does not use is not looked at
+unfoldable pub readable : Form → ℕ → ℕ → ℕ → ℕ → ℕ → ℕ → Bool
+readable unknown a b c x y z = false
+readable mmio a b c x y z = known x
+readable pio a b c x y z = known x
+readable input a b c x y z = allFit a b c && known x
+readable host a b c x y z = known x
+readable messages a b c x y z = allFit a b c && (known x && (known y && known z))
+
+-- MMIO and PIO: a size, b alignment; an input: a controller, b trigger, c sharing; MSI: a controller, b ITS, c count, and its three choices device, event, LPI
+unfoldable pub wantAt : Form → ℕ → ℕ → ℕ → Choice → Choice → Choice → Want
+wantAt unknown a b c d e l = irq auto
+wantAt mmio a b c d e l = memory a b d
+wantAt pio a b c d e l = ports a b d
+wantAt input a b c d e l = wire a b c d
+wantAt host a b c d e l = irq d
+wantAt messages a b c d e l = msi a b c d e l
+
+-- what cannot be read is a request of requester 0, which the definition itself answers with 2
+abbrev pub bad : Request
+bad = record { requester = 0; slot = 0; want = irq auto }
+
+abbrev pub orBad : Bool → Request → Request
+orBad true r = r
+orBad false r = bad
+
+unfoldable pub requestIn : (kind requester slot a b c x n y m z l : ℕ) → Request
+requestIn kind requester slot a b c x n y m z l =
+    orBad (fits requester && (fits slot && readable (formAt kind) a b c x y z))
+    record { requester = requester; slot = slot; want = wantAt (formAt kind) a b c (choiceAt x n) (choiceAt y m) (choiceAt z l) }
+
+-- ---- a list of them
+
+-- the j-th number of the i-th request
+abbrev pub numberAt : List ℕ → ℕ → ℕ → ℕ
+numberAt rq i j = getD rq (requestSize * i + j) 0
+
+unfoldable pub requestAt : List ℕ → ℕ → Request
+requestAt rq i =
+    requestIn (numberAt rq i 0) (numberAt rq i 1) (numberAt rq i 2) (numberAt rq i 3) (numberAt rq i 4) (numberAt rq i 5)
+    (numberAt rq i 6) (numberAt rq i 7) (numberAt rq i 8) (numberAt rq i 9) (numberAt rq i 10) (numberAt rq i 11)
+
+-- from the i-th on, so many
+unfoldable pub requestsFrom : List ℕ → ℕ → ℕ → List Request
+requestsFrom rq i zero = []
+requestsFrom rq i (suc k) = requestAt rq i ∷ requestsFrom rq (suc i) k
+
+unfoldable pub requestsOf : List ℕ → List Request
+requestsOf rq = requestsFrom rq 0 (length rq / requestSize)
+
+-- ---- a plan of them
+
+-- the list ends with a request, not within one
+unfoldable pub wholeRequests : List ℕ → Bool
+wholeRequests rq = eqb (requestSize * (length rq / requestSize)) (length rq)
+
+-- a list that ends within a request is shorter than its requests need: 11, after 1
+unfoldable pub flatPlan : List ℕ → State → List ℕ → Lent
+flatPlan rq s out =
+    elim (wholeRequests rq) [
+      | true ↦ plan (requestsOf rq) s out
+      | false ↦ lent (settle s (require (sound kinds s) malformed (refused short))) out
+    ]

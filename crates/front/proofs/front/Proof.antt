@@ -1,0 +1,38 @@
+use mathlib.Core.Path.{refl, ap, sym, _∙_}
+use Prim.Native.Nat.{ℕ, _*_}
+use native.Mathlib.Omega.{arith}
+use lib.ListN.{take}
+use lib.Seq.{take-all, length-take-le}
+use Rattle.definition.specs.Rows.{recordSize}
+use borrow.Author.Needs.{needs}
+use Rattle.front.proofs.front.Statement.{statement}
+use Rattle.front.proofs.front.Tie as tie
+use Rattle.front.proofs.front.Reads as reads
+use Rattle.front.proofs.front.Lts as lts
+use Rattle.front.proofs.accepted.Reads as accepted-reads
+
+-- src/lib.rt:26:9
+accepted-requires : tie.Need-accepted-requires
+accepted-requires c κs = search needs
+
+-- src/lib.rt:28:9
+returns : tie.Need-returns
+returns c =
+    let l = c .before .before .before .args .results .now in
+    (sym (take-all (recordSize * c .before .accepted .result) l (omega (arith, c .if1 .taken))) ∙ ap (λ (k : ℕ). take (recordSize * k) l) (c .before .accepted .ensures), refl)
+
+-- src/lib.rt:30:15
+mul-end : tie.Need-mul-end
+mul-end c = search needs
+
+-- src/lib.rt:31:5
+slice-aggregate-result : tie.Need-slice-aggregate-result
+slice-aggregate-result c = sym (length-take-le (recordSize * c .before .before .accepted .result) (c .before .before .before .before .args .results .now) (omega arith))
+
+-- src/lib.rt:23:1
+returns-2 : tie.Need-returns-2
+returns-2 c = (ap (λ (k : ℕ). take (recordSize * k) (c .before .before .before .before .args .results .now)) (c .before .before .accepted .ensures), refl)
+
+pub front-spec : {M : Type 1} → statement M
+front-spec =
+    tie.close (tie.spec accepted-requires returns mul-end slice-aggregate-result returns-2)

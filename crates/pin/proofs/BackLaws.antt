@@ -1,0 +1,345 @@
+-- What is written back is the definition's `pinned`: an accepted plan's requests, pinned with its results, are the grants' pinned requests. Assumes nothing.
+use mathlib.Core.Path.{_≡_, refl, sym, subst, ap, _∙_}
+use mathlib.Core.Bool.{Bool, true, false, _&&_}
+use mathlib.Core.List.{List, [], _∷_, _++_, map}
+use Prim.Native.Nat.{ℕ, zero, suc, _+_, _*_, _/_, _≤_, _<_, min}
+use native.Mathlib.Omega.{arith}
+use lib.Dec.{T}
+use lib.ListN.{length, getD, set, drop, length-set, length-append, length-map, List·getD-append}
+use lib.Seq.{getD-set-same, getD-set-other, getD-append-add}
+use Rattle.definition.specs.BaseLaws.{and-r, T-true}
+use Rattle.definition.specs.Rows.{recordSize}
+use Rattle.definition.specs.Refusal.{Answer, accepted, refused, badInput, full, require, _then_}
+use Rattle.definition.specs.Pools.{Holders, Claim, _⊕_, room}
+use Rattle.definition.specs.Request.{Choice, Want, memory, ports, wire, irq, msi, Request, goodRequest, Pools, claims, resolve}
+use Rattle.definition.specs.Calls.{State, poolsOf, ownersOf}
+use Rattle.definition.specs.Plan.{Grant, grant, done, run, planRun, baseAt, recordOf, records, written, pinChoice, pinWant, pinned}
+use Rattle.definition.specs.RunLaws.{run-accepted, run-refused, not-done, after-done, record-length, records-length}
+use Rattle.definition.specs.RequestLaws.{require-accepted}
+use Rattle.definition.specs.PlanLaws.{plan-says, plan-requests}
+use Rattle.flat.specs.Flat.{requestSize, known, choiceAt, fits, allFit, Form, unknown, mmio, pio, input, host, messages, formAt, readable, wantAt, orBad, requestIn, numberAt, requestAt, requestsFrom, requestsOf}
+use Rattle.flat.proofs.FlatLaws.{request-reads, requests-read, requests-length}
+use Rattle.pin.specs.Pin.{ifAuto, pinChoiceAt, pinForm, grantedAt, pinOne, pinFrom, pinnedNumbers}
+use Rattle.pin.proofs.PinLaws.{pin-choice-length, one-length}
+
+-- ---- the numbers of a list with one choice pinned
+
+abbrev pinCode : ℕ → ℕ
+pinCode code = ifAuto code 1 code
+
+abbrev pinNumber : ℕ → ℕ → ℕ → ℕ
+pinNumber code n granted = ifAuto code granted n
+
+-- all but the two places stay
+choice-other : (p g : ℕ) (rq : List ℕ) (k : ℕ) → (k ≡ p → ⊥) → (k ≡ p + 1 → ⊥) → getD (pinChoiceAt p g rq) k 0 ≡ getD rq k 0
+unfolding pinChoiceAt
+choice-other p g rq k f h = go (getD rq p 0)
+  where
+    go : (code : ℕ) → getD (ifAuto code (set (set rq p 1) (p + 1) g) rq) k 0 ≡ getD rq k 0
+    go zero = getD-set-other (set rq p 1) (p + 1) k g 0 h ∙ getD-set-other rq p k 1 0 f
+    go (suc code) = refl
+
+choice-code : (p g : ℕ) (rq : List ℕ) → p < length rq → getD (pinChoiceAt p g rq) p 0 ≡ pinCode (getD rq p 0)
+unfolding pinChoiceAt
+choice-code p g rq l = go (getD rq p 0) refl
+  where
+    go : (code : ℕ) → getD rq p 0 ≡ code → getD (ifAuto code (set (set rq p 1) (p + 1) g) rq) p 0 ≡ pinCode code
+    go zero e = getD-set-other (set rq p 1) (p + 1) p g 0 (λ z. omega arith) ∙ getD-set-same rq p 1 0 l
+    go (suc code) e = e
+
+choice-number : (p g : ℕ) (rq : List ℕ) → p + 1 < length rq → getD (pinChoiceAt p g rq) (p + 1) 0 ≡ pinNumber (getD rq p 0) (getD rq (p + 1) 0) g
+unfolding pinChoiceAt
+choice-number p g rq l = go (getD rq p 0)
+  where
+    go : (code : ℕ) → getD (ifAuto code (set (set rq p 1) (p + 1) g) rq) (p + 1) 0 ≡ pinNumber code (getD rq (p + 1) 0) g
+    go zero = getD-set-same (set rq p 1) (p + 1) g 0 (omega (arith, length-set rq p 1))
+    go (suc code) = refl
+
+-- ---- a pinned code and number are the definition's pinned choice, and can be read where the code could
+
+choice-pinned : (code n g : ℕ) → choiceAt (pinCode code) (pinNumber code n g) ≡ pinChoice (choiceAt code n) g
+choice-pinned zero n g = refl
+choice-pinned (suc code) n g = refl
+
+known-pinned : (code : ℕ) → known (pinCode code) ≡ known code
+known-pinned zero = refl
+known-pinned (suc code) = refl
+
+readable-one : (f : Form) (a b c x y z : ℕ) → readable f a b c (pinCode x) y z ≡ readable f a b c x y z
+unfolding readable
+readable-one unknown a b c x y z = refl
+readable-one mmio a b c x y z = known-pinned x
+readable-one pio a b c x y z = known-pinned x
+readable-one input a b c x y z = ap (λ (t : Bool). allFit a b c && t) (known-pinned x)
+readable-one host a b c x y z = known-pinned x
+readable-one messages a b c x y z = ap (λ (t : Bool). allFit a b c && (t && (known y && known z))) (known-pinned x)
+
+readable-three : (a b c x y z : ℕ) → readable messages a b c (pinCode x) (pinCode y) (pinCode z) ≡ readable messages a b c x y z
+unfolding readable
+readable-three a b c x y z = λ t. allFit a b c && (known-pinned x t && (known-pinned y t && known-pinned z t))
+
+-- ---- the numbers of one request, with one or three choices pinned
+
+module _ (i : ℕ) where
+  abbrev pinIn : ℕ → ℕ → List ℕ → List ℕ
+  pinIn q g rq = pinChoiceAt (requestSize * i + q) g rq
+
+  number-other : (q g : ℕ) (rq : List ℕ) (j : ℕ) → (j ≡ q → ⊥) → (j ≡ q + 1 → ⊥) → numberAt (pinIn q g rq) i j ≡ numberAt rq i j
+  number-other q g rq j f h = choice-other (requestSize * i + q) g rq (requestSize * i + j) (λ e. f (omega arith)) (λ e. h (omega arith))
+
+  number-code : (q g : ℕ) (rq : List ℕ) → requestSize * i + q < length rq → numberAt (pinIn q g rq) i q ≡ pinCode (numberAt rq i q)
+  number-code q g rq l = choice-code (requestSize * i + q) g rq l
+
+  number-number : (q g : ℕ) (rq : List ℕ) → requestSize * i + (q + 1) < length rq → numberAt (pinIn q g rq) i (q + 1) ≡ pinNumber (numberAt rq i q) (numberAt rq i (q + 1)) g
+  number-number q g rq l =
+      let e : requestSize * i + (q + 1) ≡ requestSize * i + q + 1 = omega arith in
+      ap (λ (k : ℕ). getD (pinIn q g rq) k 0) e ∙ choice-number (requestSize * i + q) g rq (omega arith) ∙ ap (λ (k : ℕ). pinNumber (numberAt rq i q) (getD rq k 0) g) (sym e)
+
+  one-choice : (g : ℕ) (rq : List ℕ) → requestSize * i + requestSize ≤ length rq
+      → requestAt (pinIn 6 g rq) i
+      ≡ requestIn (numberAt rq i 0) (numberAt rq i 1) (numberAt rq i 2) (numberAt rq i 3) (numberAt rq i 4) (numberAt rq i 5)
+      (pinCode (numberAt rq i 6)) (pinNumber (numberAt rq i 6) (numberAt rq i 7) g) (numberAt rq i 8) (numberAt rq i 9) (numberAt rq i 10) (numberAt rq i 11)
+  unfolding requestAt
+  one-choice g rq l =
+      let o : (j : ℕ) → (j ≡ 6 → ⊥) → (j ≡ 7 → ⊥) → numberAt (pinIn 6 g rq) i j ≡ numberAt rq i j = number-other 6 g rq in
+      let c₆ : numberAt (pinIn 6 g rq) i 6 ≡ pinCode (numberAt rq i 6) = number-code 6 g rq (omega arith) in
+      let c₇ : numberAt (pinIn 6 g rq) i 7 ≡ pinNumber (numberAt rq i 6) (numberAt rq i 7) g = number-number 6 g rq (omega arith) in
+      let o₀ = o 0 (λ e. omega arith) (λ e. omega arith) in
+      let o₁ = o 1 (λ e. omega arith) (λ e. omega arith) in
+      let o₂ = o 2 (λ e. omega arith) (λ e. omega arith) in
+      let o₃ = o 3 (λ e. omega arith) (λ e. omega arith) in
+      let o₄ = o 4 (λ e. omega arith) (λ e. omega arith) in
+      let o₅ = o 5 (λ e. omega arith) (λ e. omega arith) in
+      let o₈ = o 8 (λ e. omega arith) (λ e. omega arith) in
+      let o₉ = o 9 (λ e. omega arith) (λ e. omega arith) in
+      let o₁₀ = o 10 (λ e. omega arith) (λ e. omega arith) in
+      let o₁₁ = o 11 (λ e. omega arith) (λ e. omega arith) in
+      λ t. requestIn (o₀ t) (o₁ t) (o₂ t) (o₃ t) (o₄ t) (o₅ t) (c₆ t) (c₇ t) (o₈ t) (o₉ t) (o₁₀ t) (o₁₁ t)
+
+  three-choices : (g h m : ℕ) (rq : List ℕ) → requestSize * i + requestSize ≤ length rq
+      → requestAt (pinIn 10 m (pinIn 8 h (pinIn 6 g rq))) i
+      ≡ requestIn (numberAt rq i 0) (numberAt rq i 1) (numberAt rq i 2) (numberAt rq i 3) (numberAt rq i 4) (numberAt rq i 5)
+      (pinCode (numberAt rq i 6)) (pinNumber (numberAt rq i 6) (numberAt rq i 7) g) (pinCode (numberAt rq i 8)) (pinNumber (numberAt rq i 8) (numberAt rq i 9) h)
+      (pinCode (numberAt rq i 10)) (pinNumber (numberAt rq i 10) (numberAt rq i 11) m)
+  unfolding requestAt
+  three-choices g h m rq l =
+      let r₁ : List ℕ = pinIn 6 g rq in
+      let r₂ : List ℕ = pinIn 8 h r₁ in
+      let n₁ : length r₁ ≡ length rq = pin-choice-length (requestSize * i + 6) g rq in
+      let n₂ : length r₂ ≡ length r₁ = pin-choice-length (requestSize * i + 8) h r₁ in
+      let a : (j : ℕ) → (j ≡ 6 → ⊥) → (j ≡ 7 → ⊥) → numberAt r₁ i j ≡ numberAt rq i j = number-other 6 g rq in
+      let b : (j : ℕ) → (j ≡ 8 → ⊥) → (j ≡ 9 → ⊥) → numberAt r₂ i j ≡ numberAt r₁ i j = number-other 8 h r₁ in
+      let c : (j : ℕ) → (j ≡ 10 → ⊥) → (j ≡ 11 → ⊥) → numberAt (pinIn 10 m r₂) i j ≡ numberAt r₂ i j = number-other 10 m r₂ in
+      let low : (j : ℕ) → j < 6 → numberAt (pinIn 10 m r₂) i j ≡ numberAt rq i j =
+      λ j s. c j (λ e. omega arith) (λ e. omega arith) ∙ b j (λ e. omega arith) (λ e. omega arith) ∙ a j (λ e. omega arith) (λ e. omega arith) in
+      let up : (j : ℕ) → j < 8 → numberAt (pinIn 10 m r₂) i j ≡ numberAt r₁ i j = λ j s. c j (λ e. omega arith) (λ e. omega arith) ∙ b j (λ e. omega arith) (λ e. omega arith) in
+      let a₈ : numberAt r₁ i 8 ≡ numberAt rq i 8 = a 8 (λ e. omega arith) (λ e. omega arith) in
+      let a₉ : numberAt r₁ i 9 ≡ numberAt rq i 9 = a 9 (λ e. omega arith) (λ e. omega arith) in
+      let b₁₀ : numberAt r₂ i 10 ≡ numberAt rq i 10 = b 10 (λ e. omega arith) (λ e. omega arith) ∙ a 10 (λ e. omega arith) (λ e. omega arith) in
+      let b₁₁ : numberAt r₂ i 11 ≡ numberAt rq i 11 = b 11 (λ e. omega arith) (λ e. omega arith) ∙ a 11 (λ e. omega arith) (λ e. omega arith) in
+      let c₆ = up 6 (omega arith) ∙ number-code 6 g rq (omega arith) in
+      let c₇ = up 7 (omega arith) ∙ number-number 6 g rq (omega arith) in
+      let c₈ = c 8 (λ e. omega arith) (λ e. omega arith) ∙ number-code 8 h r₁ (omega arith) ∙ ap pinCode a₈ in
+      let c₉ = c 9 (λ e. omega arith) (λ e. omega arith) ∙ number-number 8 h r₁ (omega arith) ∙ (λ t. pinNumber (a₈ t) (a₉ t) h) in
+      let c₁₀ = number-code 10 m r₂ (omega arith) ∙ ap pinCode b₁₀ in
+      let c₁₁ = number-number 10 m r₂ (omega arith) ∙ (λ t. pinNumber (b₁₀ t) (b₁₁ t) m) in
+      let l₀ = low 0 (omega arith) in
+      let l₁ = low 1 (omega arith) in
+      let l₂ = low 2 (omega arith) in
+      let l₃ = low 3 (omega arith) in
+      let l₄ = low 4 (omega arith) in
+      let l₅ = low 5 (omega arith) in
+      λ t. requestIn (l₀ t) (l₁ t) (l₂ t) (l₃ t) (l₄ t) (l₅ t) (c₆ t) (c₇ t) (c₈ t) (c₉ t) (c₁₀ t) (c₁₁ t)
+
+-- ---- one request: by its form
+
+abbrev asks : ℕ → ℕ → Want → Request
+asks q s w = record { requester = q; slot = s; want = w }
+
+module _ (q s a b c x n y m z l : ℕ) (cs : List Claim) where
+  abbrev reads : Form → ℕ → ℕ → ℕ → Bool
+  reads f x′ y′ z′ = fits q && (fits s && readable f a b c x′ y′ z′)
+
+  abbrev formed : Form → ℕ → ℕ → ℕ → ℕ → ℕ → ℕ → Request
+  formed f x′ n′ y′ m′ z′ l′ = orBad (reads f x′ y′ z′) (asks q s (wantAt f a b c (choiceAt x′ n′) (choiceAt y′ m′) (choiceAt z′ l′)))
+
+  abbrev wanted : Form → Want
+  wanted f = wantAt f a b c (choiceAt x n) (choiceAt y m) (choiceAt z l)
+
+  form-one : (f : Form) (g : ℕ) → T (reads f x y z) → wantAt f a b c (pinChoice (choiceAt x n) g) (choiceAt y m) (choiceAt z l) ≡ pinWant (wanted f) cs
+      → formed f (pinCode x) (pinNumber x n g) y m z l ≡ pinned (grant (asks q s (wanted f)) cs)
+  unfolding pinned
+  form-one f g t w =
+      let e : reads f (pinCode x) y z ≡ true = ap (λ (v : Bool). fits q && (fits s && v)) (readable-one f a b c x y z) ∙ T-true (reads f x y z) t in
+      let p : Request = asks q s (wantAt f a b c (choiceAt (pinCode x) (pinNumber x n g)) (choiceAt y m) (choiceAt z l)) in
+      ap (λ (v : Bool). orBad v p) e ∙ ap (λ (d : Choice). asks q s (wantAt f a b c d (choiceAt y m) (choiceAt z l))) (choice-pinned x n g) ∙ ap (asks q s) w
+
+  form-three : (g h k : ℕ) → T (reads messages x y z) → g ≡ baseAt 0 cs → h ≡ baseAt 1 cs → k ≡ baseAt 2 cs
+      → formed messages (pinCode x) (pinNumber x n g) (pinCode y) (pinNumber y m h) (pinCode z) (pinNumber z l k) ≡ pinned (grant (asks q s (wanted messages)) cs)
+  unfolding pinned wantAt pinWant
+  form-three g h k t eg eh ek =
+      let e : reads messages (pinCode x) (pinCode y) (pinCode z) ≡ true = ap (λ (v : Bool). fits q && (fits s && v)) (readable-three a b c x y z) ∙ T-true (reads messages x y z) t in
+      let p : Request = asks q s (msi a b c (choiceAt (pinCode x) (pinNumber x n g)) (choiceAt (pinCode y) (pinNumber y m h)) (choiceAt (pinCode z) (pinNumber z l k))) in
+      ap (λ (v : Bool). orBad v p) e ∙ (λ t. asks q s (msi a b c (choice-pinned x n g t) (choice-pinned y m h t) (choice-pinned z l k t)))
+      ∙ (λ t. asks q s (msi a b c (pinChoice (choiceAt x n) (eg t)) (pinChoice (choiceAt y m) (eh t)) (pinChoice (choiceAt z l) (ek t))))
+
+module _ (i : ℕ) (rq : List ℕ) (G : ℕ → ℕ) (cs : List Claim) (long : requestSize * i + requestSize ≤ length rq) where
+  abbrev N : ℕ → ℕ
+  N j = numberAt rq i j
+
+  abbrev asked : Form → Request
+  asked f = asks (N 1) (N 2) (wantAt f (N 3) (N 4) (N 5) (choiceAt (N 6) (N 7)) (choiceAt (N 8) (N 9)) (choiceAt (N 10) (N 11)))
+
+  abbrev can-read : Form → Bool
+  can-read f = fits (N 1) && (fits (N 2) && readable f (N 3) (N 4) (N 5) (N 6) (N 8) (N 10))
+
+  one-formed : (f : Form) (g : ℕ) → formAt (N 0) ≡ f → T (can-read f)
+      → wantAt f (N 3) (N 4) (N 5) (pinChoice (choiceAt (N 6) (N 7)) g) (choiceAt (N 8) (N 9)) (choiceAt (N 10) (N 11)) ≡ pinWant (asked f .want) cs
+      → requestAt (pinChoiceAt (requestSize * i + 6) g rq) i ≡ pinned (grant (asked f) cs)
+  unfolding requestIn
+  one-formed f g e t w =
+      one-choice i g rq long
+      ∙ ap (λ (F : Form). formed (N 1) (N 2) (N 3) (N 4) (N 5) (N 6) (N 7) (N 8) (N 9) (N 10) (N 11) cs F (pinCode (N 6)) (pinNumber (N 6) (N 7) g) (N 8) (N 9) (N 10) (N 11)) e
+      ∙ form-one (N 1) (N 2) (N 3) (N 4) (N 5) (N 6) (N 7) (N 8) (N 9) (N 10) (N 11) cs f g t w
+
+  by-form : (f : Form) → formAt (N 0) ≡ f → T (can-read f) → ((j : ℕ) → j < recordSize → G j ≡ getD (recordOf (grant (asked f) cs)) j 0)
+      → requestAt (pinForm f G (requestSize * i) rq) i ≡ pinned (grant (asked f) cs)
+  unfolding readable wantAt pinWant recordOf requestIn
+  by-form unknown e t gr = absurd (let u : T false = search (and-r) in u)
+  by-form mmio e t gr = one-formed mmio (G 3) e t (ap (λ (v : ℕ). memory (N 3) (N 4) (pinChoice (choiceAt (N 6) (N 7)) v)) (gr 3 (omega arith)))
+  by-form pio e t gr = one-formed pio (G 3) e t (ap (λ (v : ℕ). ports (N 3) (N 4) (pinChoice (choiceAt (N 6) (N 7)) v)) (gr 3 (omega arith)))
+  by-form input e t gr = one-formed input (G 4) e t (ap (λ (v : ℕ). wire (N 3) (N 4) (N 5) (pinChoice (choiceAt (N 6) (N 7)) v)) (gr 4 (omega arith)))
+  by-form host e t gr = one-formed host (G 3) e t (ap (λ (v : ℕ). irq (pinChoice (choiceAt (N 6) (N 7)) v)) (gr 3 (omega arith)))
+  by-form messages e t gr =
+      three-choices i (G 5) (G 6) (G 7) rq long
+      ∙ ap
+      (λ (F : Form). formed (N 1) (N 2) (N 3) (N 4) (N 5) (N 6) (N 7) (N 8) (N 9) (N 10) (N 11) cs F (pinCode (N 6)) (pinNumber (N 6) (N 7) (G 5)) (pinCode (N 8)) (pinNumber (N 8) (N 9) (G 6)) (pinCode (N 10)) (pinNumber (N 10) (N 11) (G 7)))
+      e
+      ∙ form-three (N 1) (N 2) (N 3) (N 4) (N 5) (N 6) (N 7) (N 8) (N 9) (N 10) (N 11) cs (G 5) (G 6) (G 7) t (gr 5 (omega arith)) (gr 6 (omega arith)) (gr 7 (omega arith))
+
+-- a good request could be read
+good-reads : (b : Bool) (r : Request) → T (goodRequest (orBad b r)) → T b
+unfolding goodRequest
+good-reads true r t = tt
+good-reads false r t = t
+
+-- the i-th request, pinned from a record that holds the grant's numbers
+pub one-pinned : (res : List ℕ) (i : ℕ) (rq : List ℕ) (g : Grant) → requestSize * i + requestSize ≤ length rq → requestAt rq i ≡ g .request → T (goodRequest (g .request))
+    → ((j : ℕ) → j < recordSize → grantedAt res i j ≡ getD (recordOf g) j 0) → requestAt (pinOne res i rq) i ≡ pinned g
+unfolding pinOne requestAt requestIn
+one-pinned res i rq g long e good gr =
+    let f : Form = formAt (numberAt rq i 0) in
+    let r : Request = asked i rq (grantedAt res i) (g .rows) long f in
+    let b : Bool = can-read i rq (grantedAt res i) (g .rows) long f in
+    let t : T b = good-reads b r (subst (λ (v : Request). T (goodRequest v)) (sym e) good) in
+    let is : requestAt rq i ≡ r = ap (λ (v : Bool). orBad v r) (T-true b t) in
+    let same : g .request ≡ r = sym e ∙ is in
+    by-form i rq (grantedAt res i) (g .rows) long f refl t (λ j s. gr j s ∙ ap (λ (v : Request). getD (recordOf (grant v (g .rows))) j 0) same)
+    ∙ ap (λ (v : Request). pinned (grant v (g .rows))) (sym same)
+
+-- ---- the list
+
+-- the other requests stay
+form-other : (f : Form) (G : ℕ → ℕ) (i : ℕ) (rq : List ℕ) (h j : ℕ) → j < requestSize → (h ≡ i → ⊥) → numberAt (pinForm f G (requestSize * i) rq) h j ≡ numberAt rq h j
+form-other f G i rq h j s u = go f
+  where
+    one : (q g : ℕ) (xs : List ℕ) → q ≤ 10 → numberAt (pinChoiceAt (requestSize * i + q) g xs) h j ≡ numberAt xs h j
+    one q g xs l = choice-other (requestSize * i + q) g xs (requestSize * h + j) (λ e. u (omega arith)) (λ e. u (omega arith))
+
+    go : (f′ : Form) → numberAt (pinForm f′ G (requestSize * i) rq) h j ≡ numberAt rq h j
+    go unknown = refl
+    go mmio = one 6 (G 3) rq (omega arith)
+    go pio = one 6 (G 3) rq (omega arith)
+    go input = one 6 (G 4) rq (omega arith)
+    go host = one 6 (G 3) rq (omega arith)
+    go messages =
+        let p : ℕ = requestSize * i in
+        one 10 (G 7) (pinChoiceAt (p + 8) (G 6) (pinChoiceAt (p + 6) (G 5) rq)) (omega arith) ∙ one 8 (G 6) (pinChoiceAt (p + 6) (G 5) rq) (omega arith) ∙ one 6 (G 5) rq (omega arith)
+
+one-other : (res : List ℕ) (i : ℕ) (rq : List ℕ) (h j : ℕ) → j < requestSize → (h ≡ i → ⊥) → numberAt (pinOne res i rq) h j ≡ numberAt rq h j
+unfolding pinOne
+one-other res i rq h j s u = form-other (formAt (numberAt rq i 0)) (grantedAt res i) i rq h j s u
+
+from-before : (res : List ℕ) (i k : ℕ) (rq : List ℕ) (h j : ℕ) → j < requestSize → h < i → numberAt (pinFrom res i k rq) h j ≡ numberAt rq h j
+unfolding pinFrom
+from-before res i zero rq h j s l = refl
+from-before res i (suc k) rq h j s l = from-before res (suc i) k (pinOne res i rq) h j s (omega arith) ∙ one-other res i rq h j s (λ e. omega arith)
+
+pub from-length : (res : List ℕ) (i k : ℕ) (rq : List ℕ) → length (pinFrom res i k rq) ≡ length rq
+unfolding pinFrom
+from-length res i zero rq = refl
+from-length res i (suc k) rq = from-length res (suc i) k (pinOne res i rq) ∙ one-length res i rq
+
+-- as many numbers as before
+pub pinned-length : (rq res : List ℕ) → length (pinnedNumbers rq res) ≡ length rq
+unfolding pinnedNumbers
+pinned-length rq res = from-length res 0 (min (length rq / requestSize) (length res / recordSize)) rq
+
+abbrev AllGood : List Grant → Type 0
+AllGood [] = Unit {0}
+AllGood (g ∷ gs) = T (goodRequest (g .request)) × AllGood gs
+
+abbrev requests : List Grant → List Request
+requests gs = map (λ g. g .request) gs
+
+from-pinned : (res : List ℕ) (gs : List Grant) (i : ℕ) (rq : List ℕ) → requestSize * (i + length gs) ≤ length rq → requests gs ≡ requestsFrom rq i (length gs) → AllGood gs
+    → ((h : ℕ) → h < recordSize * length gs → getD res (recordSize * i + h) 0 ≡ getD (records gs) h 0)
+    → requestsFrom (pinFrom res i (length gs) rq) i (length gs) ≡ map pinned gs
+unfolding requestsFrom pinFrom records
+from-pinned res [] i rq l e good gr = refl
+from-pinned res (g ∷ gs) i rq l e good gr =
+    let rq₁ : List ℕ = pinOne res i rq in
+    let n₁ : length rq₁ ≡ length rq = one-length res i rq in
+    let e₀ : requestAt rq i ≡ g .request = cc in
+    let e₁ : requests gs ≡ requestsFrom rq (suc i) (length gs) = cc in
+    let n : length (recordOf g) ≡ recordSize = record-length g in
+    let here : requestAt rq₁ i ≡ pinned g = one-pinned res i rq g (omega arith) e₀ (good .0) (λ j s. gr j (omega arith) ∙ List·getD-append (recordOf g) (records gs) 0 j (omega arith)) in
+    let stays : requestAt (pinFrom res (suc i) (length gs) rq₁) i ≡ requestAt rq₁ i = request-reads (pinFrom res (suc i) (length gs) rq₁) rq₁ i i (λ j s. from-before res (suc i) (length gs) rq₁ i j s (omega arith)) in
+    let same : requestsFrom rq₁ (suc i) (length gs) ≡ requestsFrom rq (suc i) (length gs) = requests-read rq₁ rq (suc i) (suc i) (length gs) (λ h m j s. one-other res i rq (suc i + h) j s (λ z. omega arith)) in
+    let more : requestsFrom (pinFrom res (suc i) (length gs) rq₁) (suc i) (length gs) ≡ map pinned gs =
+    from-pinned res gs (suc i) rq₁ (omega arith) (e₁ ∙ sym same) (good .1) (λ h s. moved h ∙ gr (recordSize + h) (omega arith) ∙ behind n h) in
+    λ t. (stays ∙ here) t ∷ more t
+  where
+    moved : (h : ℕ) → getD res (recordSize * suc i + h) 0 ≡ getD res (recordSize * i + (recordSize + h)) 0
+    moved h = let z : recordSize * suc i + h ≡ recordSize * i + (recordSize + h) = omega arith in ap (λ (k : ℕ). getD res k 0) z
+
+    behind : length (recordOf g) ≡ recordSize → (h : ℕ) → getD (recordOf g ++ records gs) (recordSize + h) 0 ≡ getD (records gs) h 0
+    behind n h = ap (λ (k : ℕ). getD (recordOf g ++ records gs) (k + h) 0) (sym n) ∙ getD-append-add (recordOf g) (records gs) h 0
+
+-- every accepted request is a good one
+resolve-good : (P : Pools) (S : Holders) (r : Request) (cs : List Claim) → resolve P S r ≡ accepted cs → T (goodRequest r)
+unfolding resolve
+resolve-good P S r cs e = require-accepted (goodRequest r) badInput (claims P S (r .requester) (r .want) then λ ds. require (room S ds) full (accepted ds)) e .0
+
+run-good : (P : Pools) (rs : List Request) (S : Holders) (gs : List Grant) → run P S rs ≡ done gs → AllGood gs
+unfolding run
+run-good P [] S gs e = let z : gs ≡ [] = cc in rw z tt
+run-good P (r ∷ rs) S gs e = go (run-good P rs) (resolve P S r) refl
+  where
+    go : ((X : Holders) (hs : List Grant) → run P X rs ≡ done hs → AllGood hs) → (a : Answer (List Claim)) → resolve P S r ≡ a → AllGood gs
+    go below (refused x) q = absurd (not-done (sym (run-refused P S r rs x q) ∙ e))
+    go below (accepted cs) q =
+        let (hs, e₁, z) = after-done (grant r cs) (run P (S ⊕ cs) rs) gs (sym (run-accepted P S r rs cs q) ∙ e) in
+        rw z (resolve-good P S r cs q, below (S ⊕ cs) hs e₁)
+
+-- as many grants as requests
+pub grants-length : (rq : List ℕ) (s : State) (out : List ℕ) (gs : List Grant) → planRun (requestsOf rq) s out ≡ done gs → length gs ≡ length rq / requestSize
+grants-length rq s out gs e = sym (length-map gs (λ g. g .request)) ∙ ap length (plan-requests (requestsOf rq) s out gs e) ∙ requests-length rq
+
+-- WRITTEN BACK IS WHAT WAS GRANTED: an accepted plan's requests, pinned with the results that it wrote, are the definition's pinned requests
+pub requests-pinned : (rq : List ℕ) (s : State) (out : List ℕ) (gs : List Grant) → planRun (requestsOf rq) s out ≡ done gs
+    → requestsOf (pinnedNumbers rq (written (records gs) out)) ≡ map pinned gs
+unfolding requestsOf pinnedNumbers
+requests-pinned rq s out gs e =
+    let res : List ℕ = written (records gs) out in
+    let n : length gs ≡ length rq / requestSize = grants-length rq s out gs e in
+    let m : length (records gs) ≡ recordSize * length gs = records-length gs in
+    let r : length res ≡ length (records gs) + length (drop (length (records gs)) out) = length-append (records gs) (drop (length (records gs)) out) in
+    let k : min (length rq / requestSize) (length res / recordSize) ≡ length gs = omega arith in
+    let few : length (pinnedNumbers rq res) / requestSize ≡ length gs = ap (λ (v : ℕ). v / requestSize) (pinned-length rq res) ∙ sym n in
+    let is : requests gs ≡ requestsFrom rq 0 (length gs) = plan-requests (requestsOf rq) s out gs e ∙ ap (requestsFrom rq 0) (sym n) in
+    ap (requestsFrom (pinnedNumbers rq res) 0) few ∙ ap (λ (v : ℕ). requestsFrom (pinFrom res 0 v rq) 0 (length gs)) k
+    ∙ from-pinned res gs 0 rq (omega arith) is (run-good (poolsOf s) (requestsOf rq) (ownersOf s) gs (plan-says (requestsOf rq) s out gs e .ran)) (λ h l. first h ∙ List·getD-append (records gs) (drop (length (records gs)) out) 0 h (omega arith))
+  where
+    first : (h : ℕ) → getD (written (records gs) out) (recordSize * 0 + h) 0 ≡ getD (written (records gs) out) h 0
+    first h = let z : recordSize * 0 + h ≡ h = omega arith in ap (λ (k : ℕ). getD (written (records gs) out) k 0) z

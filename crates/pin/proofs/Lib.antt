@@ -1,0 +1,2 @@
+pub mod PinLaws
+pub mod BackLaws

@@ -1,0 +1,77 @@
+-- What the steps' code does, in the words of Steps.antt. Assumes nothing.
+use mathlib.Core.Path.{_≡_, refl, ap, ap₂, sym, _∙_}
+use mathlib.Core.Bool.{Bool, true, false, _&&_}
+use mathlib.Core.List.{List, [], _++_, append-nil}
+use Prim.Native.Nat.{ℕ, _*_, _/_, _-_, _<_, _≤_}
+use native.Mathlib.Omega.{arith}
+use lib.Dec.{T, leb, ltb, eqb, eqb→eq}
+use lib.ListN.{length, take, drop, length-drop, drop-of-length-le}
+use lib.Seq.{take-all}
+use borrow.Author.Tests.{lt-ltb, le-ltb}
+use borrow.Rule.Slice.PartMut.{putMid}
+use Rattle.definition.specs.BaseLaws.{T-false}
+use Rattle.definition.specs.Rows.{planLimit, recordSize, kinds}
+use Rattle.definition.specs.Refusal.{malformed, short, silence, tell, require}
+use Rattle.definition.specs.Request.{Request}
+use Rattle.definition.specs.Calls.{State, sound, saying}
+use Rattle.definition.specs.Plan.{Lent, lent, allocateInto}
+use Rattle.steps.specs.Steps.{clear, opened, indexed, numbered, answered, turned, settled}
+
+pub is-clear : (s : State) → s .said .number ≡ 0 → clear s ≡ true
+is-clear s e = ap (λ (k : ℕ). eqb k 0) e
+
+pub not-clear : (s : State) → (s .said .number ≡ 0 → ⊥) → clear s ≡ false
+not-clear s f = T-false (clear s) (λ t. f (eqb→eq (s .said .number) 0 t))
+
+-- ---- before the first
+
+pub opened-unsound : (n room : ℕ) (s : State) → sound kinds s ≡ false → saying (tell 0 malformed) s ≡ opened n room s
+unfolding opened require
+opened-unsound n room s e = rw e
+
+pub opened-short : (n room : ℕ) (s : State) → sound kinds s ≡ true → leb n planLimit && leb (recordSize * n) room ≡ false → saying (tell 0 short) s ≡ opened n room s
+unfolding opened require
+opened-short n room s e f = rw (e, f)
+
+pub opened-clear : (n room : ℕ) (s : State) → sound kinds s ≡ true → leb n planLimit && leb (recordSize * n) room ≡ true → saying silence s ≡ opened n room s
+unfolding opened require
+opened-clear n room s e f = rw (e, f)
+
+-- ---- the index of a refusal, and the last step
+
+pub numbered-clear : (i : ℕ) (s : State) → s .said .number ≡ 0 → s ≡ numbered i s
+numbered-clear i s e = sym (ap (λ (b : Bool). elim b [ true ↦ s | false ↦ saying (indexed i (s .said)) s ]) (is-clear s e))
+
+pub numbered-refused : (i : ℕ) (s : State) → (s .said .number ≡ 0 → ⊥) → saying (indexed i (s .said)) s ≡ numbered i s
+numbered-refused i s f = sym (ap (λ (b : Bool). elim b [ true ↦ s | false ↦ saying (indexed i (s .said)) s ]) (not-clear s f))
+
+pub settled-clear : (s t : State) → t .said .number ≡ 0 → t ≡ settled s t
+settled-clear s t e = sym (ap (λ (b : Bool). elim b [ true ↦ t | false ↦ saying (t .said) s ]) (is-clear t e))
+
+pub settled-refused : (s t : State) → (t .said .number ≡ 0 → ⊥) → saying (t .said) s ≡ settled s t
+settled-refused s t f = sym (ap (λ (b : Bool). elim b [ true ↦ t | false ↦ saying (t .said) s ]) (not-clear t f))
+
+-- ---- one request
+
+module _ (i : ℕ) (r : Request) (s : State) (out : List ℕ) where
+  -- where it is not answered: one before it was refused, or the list ends before its record
+  pub turned-skips : clear s && ltb i (length out / recordSize) ≡ false → lent s out ≡ turned i r s out
+  unfolding turned
+  turned-skips e = sym (ap (λ (b : Bool). elim b [ true ↦ answered i r s out | false ↦ lent s out ]) e)
+
+  pub turned-answers : s .said .number ≡ 0 → i < length out / recordSize → answered i r s out ≡ turned i r s out
+  unfolding turned
+  turned-answers e l = sym (ap (λ (b : Bool). elim b [ true ↦ answered i r s out | false ↦ lent s out ]) (ap₂ _&&_ (is-clear s e) (lt-ltb i (length out / recordSize) l)))
+
+  -- the part of the list from its own record on is lent and handed back
+  pub part-answers : (t t′ : State) (ys : List ℕ) → s .said .number ≡ 0 → i < length out / recordSize
+      → lent t ys ≡ allocateInto kinds r s (take (length out - recordSize * i) (drop (recordSize * i) out)) → t′ ≡ numbered i t
+      → lent t′ (putMid (recordSize * i) (length out - recordSize * i) out ys) ≡ turned i r s out
+  unfolding answered
+  part-answers t t′ ys e l p n =
+      let a : ℕ = recordSize * i in
+      let whole : take (length out - a) (drop a out) ≡ drop a out = take-all (length out - a) (drop a out) (simp length-drop (omega arith)) in
+      let none : drop (length out - a) (drop a out) ≡ [] = drop-of-length-le (drop a out) {i = length out - a} (simp length-drop (omega arith)) in
+      let q : lent t ys ≡ allocateInto kinds r s (drop a out) = p ∙ ap (allocateInto kinds r s) whole in
+      ap₂ (λ (u : State) (z : List ℕ). lent u (take a out ++ (ys ++ z))) n none ∙ ap (λ z. lent (numbered i t) (take a out ++ z)) (append-nil ys)
+      ∙ ap (λ (m : Lent). lent (numbered i (m .state)) (take a out ++ m .results)) q ∙ turned-answers e l

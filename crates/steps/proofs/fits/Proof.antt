@@ -1,0 +1,22 @@
+use borrow.Author.Tests.{lt-leb, le-leb}
+use Rattle.definition.specs.Rows.{planLimit}
+use borrow.Author.Needs.{needs}
+use Rattle.steps.proofs.fits.Statement.{statement}
+use Rattle.steps.proofs.fits.Tie as tie
+use Rattle.steps.proofs.fits.Reads as reads
+use Rattle.steps.proofs.fits.Lts as lts
+
+-- src/lib.rt:25:9
+returns : tie.Need-returns
+returns c = simp (lt-leb (c .before .args .n) planLimit (c .if1 .taken))
+
+-- src/lib.rt:27:5
+mul-result : tie.Need-mul-result
+mul-result c = search needs
+
+-- src/lib.rt:21:1
+returns-2 : tie.Need-returns-2
+returns-2 c = simp (le-leb (c .before .args .n) planLimit (c .if1 .left))
+
+pub fits-spec : {M : Type 1} → statement M
+fits-spec = tie.close (tie.spec returns mul-result returns-2)

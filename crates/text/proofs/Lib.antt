@@ -1,0 +1,3 @@
+pub mod GotLaws
+pub mod PlanLaws
+pub mod OutputLaws

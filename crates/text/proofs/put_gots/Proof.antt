@@ -1,0 +1,90 @@
+-- `text::put_gots` meets its contract: the first i lines are put. Assumes nothing.
+use native.Mathlib.Omega.{arith}
+use mathlib.Core.Path.{_≡_, refl, sym, ap, _∙_}
+use Prim.Native.Nat.{_≤_, _-_, _*_, _+_}
+use lib.ListN.{length, drop, length-drop}
+use borrow.Author.Needs.{needs}
+use Rattle.lines.specs.Output.{gotLine, gotLines}
+use Rattle.writers.specs.Put.{Put}
+use Rattle.writers.proofs.PutLaws.{put-length}
+use Rattle.text.proofs.GotLaws.{rest-is, gots-none, gots-room, gots-turn}
+use Rattle.text.proofs.put_gots.Statement.{statement}
+use Rattle.text.proofs.put_gots.Tie as tie
+
+abbrev Inv-loop : tie.InvT-loop
+Inv-loop out₀ n results e₀ i₀ out e i = (i ≤ n) × Put out₀ 0 (gotLines i results) e out
+
+abbrev μ-loop : tie.MeasureT-loop
+μ-loop out₀ n results e₀ i₀ out e i = n - i
+
+loop-holds : tie.Need-loop-holds Inv-loop μ-loop
+loop-holds c = let a = c .before .before .args in (omega arith, gots-none (a .out .now) (a .results .now))
+
+mul-from : tie.Need-mul-from Inv-loop μ-loop
+mul-from c = omega arith
+
+mul-put-got : tie.Need-mul-put-got Inv-loop μ-loop
+mul-put-got c = omega arith
+
+sub-put-got : tie.Need-sub-put-got Inv-loop μ-loop
+sub-put-got c = omega arith
+
+part-put-got-start : tie.Need-part-put-got-start Inv-loop μ-loop
+part-put-got-start c = search needs
+
+part-put-got-end : tie.Need-part-put-got-end Inv-loop μ-loop
+part-put-got-end c = search needs
+
+put-got-requires : tie.Need-put-got-requires Inv-loop μ-loop
+put-got-requires c κs =
+    let a = c .before .before .before .before .before .before .args in
+    let l = c .before .before .before .loop in
+    let p : Put (a .out .now) 0 (gotLines (l .i) (a .results .now)) (l .e) (l .out) = l .inv .1 in
+    rw (rest-is (a .results .now) (9 * l .i)) (
+      omega (arith, length-drop (9 * l .i) (a .results .now)),
+      omega (arith, p .0, gots-room (a .n) (l .i) (a .results .now) (omega arith), put-length (a .out .now) 0 (gotLines (l .i) (a .results .now)) (l .e) (l .out) p),
+    )
+
+add-i : tie.Need-add-i Inv-loop μ-loop
+add-i c = omega arith
+
+loop-less : tie.Need-loop-less Inv-loop μ-loop
+loop-less c = omega arith
+
+loop-again : tie.Need-loop-again Inv-loop μ-loop
+loop-again c =
+    let a = c .before .before .before .before .before .before .before .before .before .args in
+    let l = c .before .before .before .before .before .before .loop in
+    let p : Put (a .out .now) 0 (gotLines (l .i) (a .results .now)) (l .e) (l .out) = l .inv .1 in
+    let q : Put (l .out) (l .e) (gotLine (drop (9 * l .i) (a .results .now))) (c .before .before .put-got .result) (c .before .before .put-got .last .0) =
+    rw (rest-is (a .results .now) (9 * l .i)) at (c .before .before .put-got .ensures) in
+    (omega arith, gots-turn (a .out .now) (a .results .now) (l .i) (l .e) (c .before .before .put-got .result) (l .out) (c .before .before .put-got .last .0) p q)
+
+same-length : tie.Need-same-length Inv-loop μ-loop
+same-length c = let a = c .before .before .before .before .args in let l = c .before .loop in put-length (a .out .now) 0 (gotLines (l .i) (a .results .now)) (l .e) (l .out) (l .inv .1)
+
+returns : tie.Need-returns Inv-loop μ-loop
+returns c =
+    let a = c .before .before .before .before .args in
+    let l = c .before .loop in
+    let e : l .i ≡ a .n = omega arith in
+    rw (← e) (l .inv .1)
+
+pub put-gots-spec : {M : Type 1} → statement M
+put-gots-spec =
+    tie.close
+    (tie.spec
+    Inv-loop
+    μ-loop
+    loop-holds
+    mul-from
+    mul-put-got
+    sub-put-got
+    part-put-got-start
+    part-put-got-end
+    put-got-requires
+    add-i
+    loop-less
+    loop-again
+    same-length
+    returns)

@@ -1,0 +1,22 @@
+-- `wants::one::messages` meets its contract: its numbers can be read. Assumes nothing.
+use mathlib.Core.Path.{_≡_, refl, ap}
+use mathlib.Core.Option.{some}
+use Prim.Native.Nat.{_≤_}
+use native.Mathlib.Omega.{arith}
+use borrow.Author.Tests.{le-leb}
+use Rattle.definition.specs.Rows.{top}
+use Rattle.flat.specs.Flat.{readable, wantAt}
+use Rattle.wants.proofs.AskedLaws.{asked-is, all-fit}
+use Rattle.wants.proofs.one.messages.Statement.{statement}
+use Rattle.wants.proofs.one.messages.Tie as tie
+
+returns : tie.Need-returns
+unfolding readable wantAt
+returns c =
+    let a = c .args in
+    let known = le-leb (a .code) 1 (omega arith) in
+    let fit = all-fit (a .controller) (a .its) (a .count) (omega arith) (omega arith) (omega arith) in
+    ap some (asked-is 5 (a .requester) (a .slot) (a .controller) (a .its) (a .count) (a .code) (a .device) (a .code) (a .event) (a .code) (a .lpi) (omega arith) (omega arith) (rw (fit, known)))
+
+pub messages-spec : {M : Type 1} → statement M
+messages-spec = tie.close (tie.spec returns)
