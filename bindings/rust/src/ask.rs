@@ -1,0 +1,313 @@
+//! What can be asked: pool ranges, reservations, requests; each as the numbers that the planner reads.
+
+use core::ops::Range;
+
+/// Which pools a range is added to: those that automatic requests search, or those that fixed requests are allowed in.
+#[derive(Clone, Copy, Debug, PartialEq, Eq)]
+pub enum Use {
+    Automatic = 0,
+    Fixed = 1,
+}
+
+/// A pool range. Ranges are half-open.
+#[derive(Clone, Debug, PartialEq, Eq)]
+pub enum Pool {
+    Mmio {
+        start: u64,
+        end: u64,
+    },
+    Pio {
+        start: u16,
+        end: u16,
+    },
+    Input {
+        controller: u32,
+        start: u64,
+        end: u64,
+    },
+    Host {
+        start: u64,
+        end: u64,
+    },
+    Msi {
+        controller: u32,
+        its: u32,
+        devices: Range<u32>,
+        events: Range<u32>,
+        lpis: Range<u32>,
+    },
+}
+
+impl Pool {
+    pub(crate) fn numbers(&self, used: Use) -> [u64; 11] {
+        let (kind, n): (u64, [u64; 8]) = match self {
+            Pool::Mmio { start, end } => (1, [*start, *end, 0, 0, 0, 0, 0, 0]),
+            Pool::Pio { start, end } => (2, [(*start).into(), (*end).into(), 0, 0, 0, 0, 0, 0]),
+            Pool::Input {
+                controller,
+                start,
+                end,
+            } => (3, [(*controller).into(), *start, *end, 0, 0, 0, 0, 0]),
+            Pool::Host { start, end } => (4, [*start, *end, 0, 0, 0, 0, 0, 0]),
+            Pool::Msi {
+                controller,
+                its,
+                devices,
+                events,
+                lpis,
+            } => {
+                let n = [
+                    *controller,
+                    *its,
+                    devices.start,
+                    devices.end,
+                    events.start,
+                    events.end,
+                    lpis.start,
+                    lpis.end,
+                ];
+                (5, n.map(u64::from))
+            }
+        };
+        [
+            1,
+            used as u64,
+            kind,
+            n[0],
+            n[1],
+            n[2],
+            n[3],
+            n[4],
+            n[5],
+            n[6],
+            n[7],
+        ]
+    }
+}
+
+/// What an owner reserves. Triggers: 0 to 3; sharing: 0 exclusive, 1 shared. A pair is one input, exclusive, and one host IRQ, both or neither.
+#[derive(Clone, Debug, PartialEq, Eq)]
+pub enum Hold {
+    Mmio {
+        start: u64,
+        end: u64,
+    },
+    Pio {
+        start: u16,
+        end: u16,
+    },
+    Input {
+        controller: u32,
+        input: u64,
+        trigger: u32,
+        sharing: u32,
+    },
+    Host {
+        start: u64,
+        end: u64,
+    },
+    Device {
+        controller: u32,
+        its: u32,
+        devices: Range<u32>,
+    },
+    Event {
+        controller: u32,
+        its: u32,
+        device: u32,
+        events: Range<u32>,
+    },
+    Lpi {
+        controller: u32,
+        lpis: Range<u32>,
+    },
+    Pair {
+        controller: u32,
+        input: u64,
+        trigger: u32,
+        host: u64,
+    },
+}
+
+impl Hold {
+    pub(crate) fn numbers(&self, owner: u32) -> [u64; 8] {
+        let (kind, n): (u64, [u64; 5]) = match self {
+            Hold::Mmio { start, end } => (1, [*start, *end, 0, 0, 0]),
+            Hold::Pio { start, end } => (2, [(*start).into(), (*end).into(), 0, 0, 0]),
+            Hold::Input {
+                controller,
+                input,
+                trigger,
+                sharing,
+            } => (
+                3,
+                [
+                    (*controller).into(),
+                    *input,
+                    (*trigger).into(),
+                    (*sharing).into(),
+                    0,
+                ],
+            ),
+            Hold::Host { start, end } => (4, [*start, *end, 0, 0, 0]),
+            Hold::Device {
+                controller,
+                its,
+                devices,
+            } => (
+                5,
+                [*controller, *its, devices.start, devices.end, 0].map(u64::from),
+            ),
+            Hold::Event {
+                controller,
+                its,
+                device,
+                events,
+            } => (
+                6,
+                [*controller, *its, *device, events.start, events.end].map(u64::from),
+            ),
+            Hold::Lpi { controller, lpis } => {
+                (7, [*controller, lpis.start, lpis.end, 0, 0].map(u64::from))
+            }
+            Hold::Pair {
+                controller,
+                input,
+                trigger,
+                host,
+            } => (
+                8,
+                [(*controller).into(), *input, (*trigger).into(), *host, 0],
+            ),
+        };
+        [2, owner.into(), kind, n[0], n[1], n[2], n[3], n[4]]
+    }
+}
+
+/// Left to the planner, or asked for by its number.
+#[derive(Clone, Copy, Debug, PartialEq, Eq)]
+pub enum Choice<T> {
+    Auto,
+    Fixed(T),
+}
+
+impl<T: Into<u64> + Copy> Choice<T> {
+    fn numbers(&self) -> [u64; 2] {
+        match *self {
+            Choice::Auto => [0, 0],
+            Choice::Fixed(n) => [1, n.into()],
+        }
+    }
+}
+
+/// What a request wants. An alignment has exactly one bit set.
+#[derive(Clone, Copy, Debug, PartialEq, Eq)]
+pub enum Want {
+    Mmio {
+        size: u64,
+        alignment: u64,
+        choice: Choice<u64>,
+    },
+    Pio {
+        size: u16,
+        alignment: u16,
+        choice: Choice<u16>,
+    },
+    Input {
+        controller: u32,
+        trigger: u32,
+        sharing: u32,
+        choice: Choice<u64>,
+    },
+    HostIrq {
+        choice: Choice<u64>,
+    },
+    Msi {
+        controller: u32,
+        its: u32,
+        count: u32,
+        device: Choice<u32>,
+        event: Choice<u32>,
+        lpi: Choice<u32>,
+    },
+}
+
+/// A request: who asks, for which of its slots, and what.
+#[derive(Clone, Copy, Debug, PartialEq, Eq)]
+pub struct Request {
+    pub requester: u32,
+    pub slot: u32,
+    pub want: Want,
+}
+
+impl Request {
+    /// The twelve numbers of the request.
+    ///
+    /// ```
+    /// use thurgoleo::{Choice, Request, Want};
+    /// let r = Request { requester: 5, slot: 2, want: Want::HostIrq { choice: Choice::Fixed(40) } };
+    /// assert_eq!(r.numbers(), [4, 5, 2, 0, 0, 0, 1, 40, 0, 0, 0, 0]);
+    /// ```
+    pub fn numbers(&self) -> [u64; 12] {
+        let none = [0, 0];
+        let (kind, abc, x, y, z): (u64, [u64; 3], [u64; 2], [u64; 2], [u64; 2]) = match &self.want {
+            Want::Mmio {
+                size,
+                alignment,
+                choice,
+            } => (1, [*size, *alignment, 0], choice.numbers(), none, none),
+            Want::Pio {
+                size,
+                alignment,
+                choice,
+            } => (
+                2,
+                [(*size).into(), (*alignment).into(), 0],
+                choice.numbers(),
+                none,
+                none,
+            ),
+            Want::Input {
+                controller,
+                trigger,
+                sharing,
+                choice,
+            } => (
+                3,
+                [*controller, *trigger, *sharing].map(u64::from),
+                choice.numbers(),
+                none,
+                none,
+            ),
+            Want::HostIrq { choice } => (4, [0; 3], choice.numbers(), none, none),
+            Want::Msi {
+                controller,
+                its,
+                count,
+                device,
+                event,
+                lpi,
+            } => (
+                5,
+                [*controller, *its, *count].map(u64::from),
+                device.numbers(),
+                event.numbers(),
+                lpi.numbers(),
+            ),
+        };
+        [
+            kind,
+            self.requester.into(),
+            self.slot.into(),
+            abc[0],
+            abc[1],
+            abc[2],
+            x[0],
+            x[1],
+            y[0],
+            y[1],
+            z[0],
+            z[1],
+        ]
+    }
+}

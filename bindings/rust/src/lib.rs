@@ -1,0 +1,280 @@
+//! A safe face of the device planner that cannot hand the same number to two devices.
+//!
+//! The planner itself is proved; what stands here only puts typed requests into its lists of numbers and reads its
+//! answers back. A [`Planner`] owns its state, a [`Plan`] its requests and results: nothing is allocated.
+//!
+//! ```
+//! use thurgoleo::{Choice, Kind, Part, Planner, Pool, Refusal, Request, Use, Want};
+//!
+//! let mut planner = Planner::new();
+//! planner.add_pool(Use::Automatic, Pool::Mmio { start: 0x1000, end: 0x9000 })?;
+//! planner.start()?;
+//!
+//! let request = Request {
+//!     requester: 7,
+//!     slot: 0,
+//!     want: Want::Mmio { size: 0x1000, alignment: 0x1000, choice: Choice::Auto },
+//! };
+//! let granted = planner.allocate(&request)?;
+//! assert_eq!(granted.numbers(), [1, 7, 0, 0x1000, 0x1000, 0, 0, 0, 0]);
+//! assert_eq!(planner.used(Part::Owners, Kind::Mmio), 1);
+//!
+//! // no automatic host IRQs were pooled
+//! let irq = Request { requester: 7, slot: 1, want: Want::HostIrq { choice: Choice::Auto } };
+//! let refusal = planner.allocate(&irq).unwrap_err();
+//! assert_eq!(refusal, Refusal::Exhausted { namespace: 4 });
+//! # Ok::<(), Refusal>(())
+//! ```
+#![no_std]
+
+mod ask;
+mod plan;
+mod raw;
+mod refusal;
+
+pub use ask::{Choice, Hold, Pool, Request, Use, Want};
+pub use plan::{Granted, Plan, PlanRefusal};
+pub use refusal::Refusal;
+
+/// The bytes of a state.
+pub const STATE_SIZE: usize = 66312;
+
+/// The bytes of the longest output that a text has.
+pub const TEXT_OUTPUT: usize = 22553;
+
+const WORDS: usize = STATE_SIZE / 8;
+
+/// Which tables: the pools of automatic requests, those that fixed requests are allowed in, the reservations, the owners.
+#[derive(Clone, Copy, Debug, PartialEq, Eq)]
+pub enum Part {
+    Automatic = 1,
+    Fixed = 2,
+    Reservations = 3,
+    Owners = 4,
+}
+
+impl Part {
+    /// The rows that a table of this part has.
+    pub const fn rows(self) -> usize {
+        match self {
+            Part::Automatic | Part::Fixed => 32,
+            Part::Reservations | Part::Owners => 128,
+        }
+    }
+}
+
+/// Which table of a part.
+#[derive(Clone, Copy, Debug, PartialEq, Eq)]
+pub enum Kind {
+    Mmio = 1,
+    Pio = 2,
+    Input = 3,
+    Host = 4,
+    Device = 5,
+    Event = 6,
+    Lpi = 7,
+}
+
+/// One row of a table, as it is stored. A row of an input is one number, `start`; its `end` is 0. What a table does not keep is 0.
+#[derive(Clone, Copy, Debug, PartialEq, Eq)]
+pub struct Row {
+    pub controller: u64,
+    pub its: u64,
+    pub device: u64,
+    pub start: u64,
+    pub end: u64,
+    pub trigger: u64,
+    pub sharing: u64,
+    pub owner: u64,
+}
+
+/// The planner with its tables: 66,312 bytes, on the stack unless it is put elsewhere. Calls take up to 768 KB of stack, as measured: give a thread 1 MB.
+#[derive(Clone)]
+pub struct Planner {
+    state: [u64; WORDS],
+}
+
+impl Default for Planner {
+    fn default() -> Self {
+        Self::new()
+    }
+}
+
+impl Planner {
+    /// A planner without pools, reservations and owners.
+    ///
+    /// ```
+    /// use thurgoleo::{Kind, Part, Planner};
+    /// assert_eq!(Planner::new().used(Part::Reservations, Kind::Lpi), 0);
+    /// ```
+    pub fn new() -> Self {
+        let mut planner = Self { state: [0; WORDS] };
+        raw::fresh(&mut planner.state);
+        planner
+    }
+
+    /// A planner over tables kept elsewhere, whatever they hold: each call judges them and refuses unsound ones.
+    ///
+    /// ```
+    /// use thurgoleo::{Planner, Refusal, STATE_SIZE};
+    /// let mut junk = Planner::from_words([u64::MAX; STATE_SIZE / 8]);
+    /// assert_eq!(junk.start(), Err(Refusal::Malformed));
+    /// ```
+    pub fn from_words(state: [u64; WORDS]) -> Self {
+        Self { state }
+    }
+
+    /// The tables as they are, to be kept.
+    ///
+    /// ```
+    /// use thurgoleo::Planner;
+    /// let planner = Planner::new();
+    /// assert_eq!(Planner::from_words(*planner.as_words()).as_words(), planner.as_words());
+    /// ```
+    pub fn as_words(&self) -> &[u64; WORDS] {
+        &self.state
+    }
+
+    fn call(&mut self, numbers: &[u64]) -> Result<(), Refusal> {
+        let mut answer = [0; 5];
+        raw::call(&mut self.state, numbers, &mut answer);
+        Refusal::of(&answer)
+    }
+
+    /// Adds a range to the pools of a use. An exact duplicate is accepted and adds nothing. An MSI domain adds three ranges in turn,
+    /// and what was added before a refused one stays.
+    ///
+    /// ```
+    /// use thurgoleo::{Planner, Pool, Refusal, Use};
+    /// let mut planner = Planner::new();
+    /// assert_eq!(planner.add_pool(Use::Fixed, Pool::Host { start: 5, end: 5 }), Err(Refusal::EmptyRange));
+    /// ```
+    pub fn add_pool(&mut self, used: Use, pool: Pool) -> Result<(), Refusal> {
+        self.call(&pool.numbers(used))
+    }
+
+    /// Reserves for an owner, so that no request is granted it.
+    ///
+    /// ```
+    /// use thurgoleo::{Hold, Planner, Refusal};
+    /// let mut planner = Planner::new();
+    /// planner.reserve(3, Hold::Pio { start: 0x3f8, end: 0x400 }).unwrap();
+    /// let again = planner.reserve(4, Hold::Pio { start: 0x3ff, end: 0x500 });
+    /// assert_eq!(again, Err(Refusal::Reserved { owner: 3 }));
+    /// ```
+    pub fn reserve(&mut self, owner: u32, hold: Hold) -> Result<(), Refusal> {
+        self.call(&hold.numbers(owner))
+    }
+
+    /// Starts: the owners become the reservations, and all grants are forgotten.
+    ///
+    /// ```
+    /// use thurgoleo::{Hold, Kind, Part, Planner};
+    /// let mut planner = Planner::new();
+    /// planner.reserve(3, Hold::Host { start: 8, end: 9 }).unwrap();
+    /// planner.start().unwrap();
+    /// assert_eq!(planner.row(Part::Owners, Kind::Host, 0).unwrap().owner, 3);
+    /// ```
+    pub fn start(&mut self) -> Result<(), Refusal> {
+        self.call(&[3])
+    }
+
+    /// One request. A refused one changes no table.
+    pub fn allocate(&mut self, request: &Request) -> Result<Granted, Refusal> {
+        let mut record = [0; 9];
+        raw::allocate(&mut self.state, &request.numbers(), &mut record);
+        Refusal::of(&self.answer()).map(|()| Granted::of(record))
+    }
+
+    /// A plan: its requests in order. If one is refused the tables are put back, and the results keep what was granted before it.
+    ///
+    /// ```
+    /// use thurgoleo::{Choice, Plan, Planner, Pool, Refusal, Request, Use, Want};
+    /// let mut planner = Planner::new();
+    /// planner.add_pool(Use::Automatic, Pool::Host { start: 32, end: 33 }).unwrap();
+    /// let mut plan = Plan::new();
+    /// for slot in 0..2 {
+    ///     plan.push(&Request { requester: 1, slot, want: Want::HostIrq { choice: Choice::Auto } }).unwrap();
+    /// }
+    /// let refused = planner.plan(&mut plan).unwrap_err();
+    /// assert_eq!((refused.index, refused.refusal), (1, Refusal::Exhausted { namespace: 4 }));
+    /// assert_eq!(plan.granted().count(), 1);
+    /// ```
+    pub fn plan(&mut self, plan: &mut Plan) -> Result<(), PlanRefusal> {
+        plan.run(&mut self.state);
+        let answer = self.answer();
+        Refusal::of(&answer).map_err(|refusal| PlanRefusal {
+            index: answer[1] as usize,
+            refusal,
+        })
+    }
+
+    fn answer(&self) -> [u64; 5] {
+        let mut answer = [0; 5];
+        raw::read(&self.state, &[0], &mut answer);
+        answer
+    }
+
+    fn seen(&self, part: Part, kind: Kind, row: usize) -> Option<[u64; 9]> {
+        let mut out = [0; 9];
+        let number = raw::read(
+            &self.state,
+            &[part as u64, kind as u64, row as u64],
+            &mut out,
+        );
+        (number == 0).then_some(out)
+    }
+
+    /// How many rows of a table are used, as its count says.
+    pub fn used(&self, part: Part, kind: Kind) -> u64 {
+        self.seen(part, kind, 0).map_or(0, |out| out[0])
+    }
+
+    /// A row of a table, used or not; none past its end.
+    pub fn row(&self, part: Part, kind: Kind, row: usize) -> Option<Row> {
+        self.seen(part, kind, row).map(|x| Row {
+            controller: x[1],
+            its: x[2],
+            device: x[3],
+            start: x[4],
+            end: x[5],
+            trigger: x[6],
+            sharing: x[7],
+            owner: x[8],
+        })
+    }
+
+    /// The used rows of a table, in its order.
+    ///
+    /// ```
+    /// use thurgoleo::{Kind, Part, Planner, Pool, Use};
+    /// let mut planner = Planner::new();
+    /// planner.add_pool(Use::Automatic, Pool::Mmio { start: 0x4000, end: 0x5000 }).unwrap();
+    /// planner.add_pool(Use::Automatic, Pool::Mmio { start: 0x1000, end: 0x2000 }).unwrap();
+    /// let mut rows = planner.rows(Part::Automatic, Kind::Mmio);
+    /// assert_eq!(rows.next().unwrap().start, 0x1000);
+    /// assert_eq!(rows.next().unwrap().start, 0x4000);
+    /// assert!(rows.next().is_none());
+    /// ```
+    pub fn rows(&self, part: Part, kind: Kind) -> impl Iterator<Item = Row> + '_ {
+        let used = usize::try_from(self.used(part, kind))
+            .unwrap_or(usize::MAX)
+            .min(part.rows());
+        (0..used).filter_map(move |i| self.row(part, kind, i))
+    }
+}
+
+/// What the planner's program answers to a text of lines. The buffer is at least [`TEXT_OUTPUT`] bytes long, whatever the text.
+///
+/// ```
+/// use thurgoleo::{text, Refusal, TEXT_OUTPUT};
+/// let mut out = [0; TEXT_OUTPUT];
+/// assert_eq!(text(b"", &mut out), Ok(&b"end\t0\n"[..]));
+/// assert_eq!(text(b"", &mut out[..100]), Err(Refusal::Short));
+/// ```
+pub fn text<'a>(lines: &[u8], out: &'a mut [u8]) -> Result<&'a [u8], Refusal> {
+    match raw::text(lines, out) as usize {
+        0 => Err(Refusal::Short),
+        n => Ok(&out[..n.min(out.len())]),
+    }
+}

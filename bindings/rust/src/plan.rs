@@ -1,0 +1,140 @@
+//! Plans: requests, their results, and the results written back into the requests.
+
+use crate::{raw, Refusal, Request, WORDS};
+use core::fmt;
+
+const MOST: usize = 128;
+
+/// What was granted: nine numbers. Kind, requester, slot; then of memory and ports base and size, of an input controller, input, trigger and
+/// sharing, of a host IRQ its number, of an MSI request controller, ITS, device, first event, first LPI and count.
+#[derive(Clone, Copy, Debug, PartialEq, Eq)]
+pub struct Granted([u64; 9]);
+
+impl Granted {
+    pub(crate) fn of(record: [u64; 9]) -> Self {
+        Self(record)
+    }
+
+    pub fn numbers(&self) -> [u64; 9] {
+        self.0
+    }
+
+    pub fn requester(&self) -> u64 {
+        self.0[1]
+    }
+
+    pub fn slot(&self) -> u64 {
+        self.0[2]
+    }
+
+    /// The number chosen: the base, the input, the host IRQ; of an MSI request the device.
+    pub fn number(&self) -> u64 {
+        match self.0[0] {
+            3 => self.0[4],
+            5 => self.0[5],
+            _ => self.0[3],
+        }
+    }
+}
+
+/// A refused plan: which request, and why. Of tables or lists that do not do the index is 0.
+#[derive(Clone, Copy, Debug, PartialEq, Eq)]
+pub struct PlanRefusal {
+    pub index: usize,
+    pub refusal: Refusal,
+}
+
+impl fmt::Display for PlanRefusal {
+    fn fmt(&self, f: &mut fmt::Formatter<'_>) -> fmt::Result {
+        write!(f, "request {}: {}", self.index, self.refusal)
+    }
+}
+
+impl core::error::Error for PlanRefusal {}
+
+/// Up to 128 requests, and room for their results.
+///
+/// ```
+/// use thurgoleo::{Choice, Plan, Planner, Pool, Request, Use, Want};
+///
+/// let mut planner = Planner::new();
+/// for used in [Use::Automatic, Use::Fixed] {
+///     planner.add_pool(used, Pool::Input { controller: 0, start: 16, end: 24 }).unwrap();
+/// }
+/// let again = planner.clone();
+///
+/// let mut plan = Plan::new();
+/// plan.push(&Request { requester: 1, slot: 0, want: Want::Input { controller: 0, trigger: 0, sharing: 0, choice: Choice::Auto } }).unwrap();
+/// planner.plan(&mut plan).unwrap();
+/// assert_eq!(plan.granted().next().unwrap().number(), 16);
+///
+/// // pinned, the plan asks for what it was given, and gets it again
+/// plan.pin();
+/// assert_eq!(plan.requests()[6..8], [1, 16]);
+/// let mut planner = again;
+/// planner.plan(&mut plan).unwrap();
+/// assert_eq!(plan.granted().next().unwrap().number(), 16);
+/// ```
+#[derive(Clone)]
+pub struct Plan {
+    requests: [u64; 12 * MOST],
+    asked: usize,
+    results: [u64; 9 * MOST],
+    filled: usize,
+}
+
+impl Default for Plan {
+    fn default() -> Self {
+        Self::new()
+    }
+}
+
+impl Plan {
+    pub const fn new() -> Self {
+        Self {
+            requests: [0; 12 * MOST],
+            asked: 0,
+            results: [0; 9 * MOST],
+            filled: 0,
+        }
+    }
+
+    /// One request more; a plan has at most 128.
+    pub fn push(&mut self, request: &Request) -> Result<(), Refusal> {
+        if self.asked == MOST {
+            return Err(Refusal::Short);
+        }
+        self.requests[12 * self.asked..][..12].copy_from_slice(&request.numbers());
+        self.asked += 1;
+        Ok(())
+    }
+
+    /// The numbers of the requests, twelve each.
+    pub fn requests(&self) -> &[u64] {
+        &self.requests[..12 * self.asked]
+    }
+
+    /// What the last run granted, in the requests' order.
+    pub fn granted(&self) -> impl Iterator<Item = Granted> + '_ {
+        self.results[..self.filled]
+            .chunks_exact(9)
+            .map(|x| Granted(core::array::from_fn(|i| x[i])))
+    }
+
+    /// Writes what was granted back into the requests: what was automatic is then asked for by its number.
+    pub fn pin(&mut self) {
+        raw::pin(
+            &mut self.requests[..12 * self.asked],
+            &self.results[..self.filled],
+        );
+    }
+
+    pub(crate) fn run(&mut self, state: &mut [u64; WORDS]) {
+        let filled = raw::plan(
+            state,
+            &self.requests[..12 * self.asked],
+            &mut self.results[..9 * self.asked],
+        );
+        self.filled = (filled as usize).min(9 * self.asked);
+    }
+}

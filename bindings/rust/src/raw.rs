@@ -1,0 +1,115 @@
+//! The exported functions, and nothing else. Every pointer here comes from a reference or a slice that outlives the call, with its own length,
+//! so none is null; the state has the size that is passed.
+
+use crate::{STATE_SIZE, WORDS};
+
+extern "C" {
+    fn planner_fresh(state: *mut u64, size: u64) -> u64;
+    fn planner_call(
+        state: *mut u64,
+        size: u64,
+        numbers: *const u64,
+        n: usize,
+        answer: *mut u64,
+        m: usize,
+    ) -> u64;
+    fn planner_allocate(
+        state: *mut u64,
+        size: u64,
+        request: *const u64,
+        n: usize,
+        record: *mut u64,
+        m: usize,
+    ) -> u64;
+    fn planner_plan(
+        state: *mut u64,
+        size: u64,
+        requests: *const u64,
+        n: usize,
+        results: *mut u64,
+        m: usize,
+    ) -> u64;
+    fn planner_read(
+        state: *const u64,
+        size: u64,
+        what: *const u64,
+        n: usize,
+        out: *mut u64,
+        m: usize,
+    ) -> u64;
+    fn planner_pin(requests: *mut u64, n: usize, results: *const u64, m: usize);
+    fn planner_text(text: *const u8, n: usize, out: *mut u8, m: usize) -> u64;
+}
+
+const SIZE: u64 = STATE_SIZE as u64;
+
+pub fn fresh(state: &mut [u64; WORDS]) {
+    unsafe { planner_fresh(state.as_mut_ptr(), SIZE) };
+}
+
+pub fn call(state: &mut [u64; WORDS], numbers: &[u64], answer: &mut [u64]) -> u64 {
+    unsafe {
+        planner_call(
+            state.as_mut_ptr(),
+            SIZE,
+            numbers.as_ptr(),
+            numbers.len(),
+            answer.as_mut_ptr(),
+            answer.len(),
+        )
+    }
+}
+
+pub fn allocate(state: &mut [u64; WORDS], request: &[u64], record: &mut [u64]) -> u64 {
+    unsafe {
+        planner_allocate(
+            state.as_mut_ptr(),
+            SIZE,
+            request.as_ptr(),
+            request.len(),
+            record.as_mut_ptr(),
+            record.len(),
+        )
+    }
+}
+
+pub fn plan(state: &mut [u64; WORDS], requests: &[u64], results: &mut [u64]) -> u64 {
+    unsafe {
+        planner_plan(
+            state.as_mut_ptr(),
+            SIZE,
+            requests.as_ptr(),
+            requests.len(),
+            results.as_mut_ptr(),
+            results.len(),
+        )
+    }
+}
+
+pub fn read(state: &[u64; WORDS], what: &[u64], out: &mut [u64]) -> u64 {
+    unsafe {
+        planner_read(
+            state.as_ptr(),
+            SIZE,
+            what.as_ptr(),
+            what.len(),
+            out.as_mut_ptr(),
+            out.len(),
+        )
+    }
+}
+
+pub fn pin(requests: &mut [u64], results: &[u64]) {
+    unsafe {
+        planner_pin(
+            requests.as_mut_ptr(),
+            requests.len(),
+            results.as_ptr(),
+            results.len(),
+        )
+    }
+}
+
+pub fn text(text: &[u8], out: &mut [u8]) -> u64 {
+    unsafe { planner_text(text.as_ptr(), text.len(), out.as_mut_ptr(), out.len()) }
+}

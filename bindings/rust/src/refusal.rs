@@ -1,0 +1,141 @@
+//! The refusals, with words.
+
+use core::fmt;
+
+/// Why a call was refused. Namespaces: 1 MMIO, 2 PIO, 3 input of a controller, 4 host IRQ, 5 an ITS of a controller, 6 LPI of a controller.
+/// Details: 1 address ranges overlap, 2 trigger differs, 3 not shareable, 4 host IRQ taken, 5 DeviceID taken, 6 events overlap, 7 LPIs overlap.
+#[derive(Clone, Copy, Debug, PartialEq, Eq)]
+pub enum Refusal {
+    Malformed,
+    BadInput,
+    BadOwner,
+    EmptyRange,
+    Reserved {
+        owner: u32,
+    },
+    FixedNotAllowed {
+        namespace: u32,
+    },
+    Exhausted {
+        namespace: u32,
+    },
+    Conflict {
+        namespace: u32,
+        owner: u32,
+        detail: u32,
+    },
+    Full,
+    BadLine,
+    Short,
+}
+
+impl Refusal {
+    /// The refusal that an answer's five numbers (number, index, namespace, owner, detail) say.
+    pub(crate) fn of(answer: &[u64; 5]) -> Result<(), Refusal> {
+        let [number, _, namespace, owner, detail] = answer.map(|n| n as u32);
+        Err(match number {
+            0 => return Ok(()),
+            1 => Refusal::Malformed,
+            2 => Refusal::BadInput,
+            3 => Refusal::BadOwner,
+            4 => Refusal::EmptyRange,
+            5 => Refusal::Reserved { owner },
+            6 => Refusal::FixedNotAllowed { namespace },
+            7 => Refusal::Exhausted { namespace },
+            8 => Refusal::Conflict {
+                namespace,
+                owner,
+                detail,
+            },
+            9 => Refusal::Full,
+            10 => Refusal::BadLine,
+            _ => Refusal::Short,
+        })
+    }
+
+    /// Its number.
+    pub const fn number(&self) -> u32 {
+        match self {
+            Refusal::Malformed => 1,
+            Refusal::BadInput => 2,
+            Refusal::BadOwner => 3,
+            Refusal::EmptyRange => 4,
+            Refusal::Reserved { .. } => 5,
+            Refusal::FixedNotAllowed { .. } => 6,
+            Refusal::Exhausted { .. } => 7,
+            Refusal::Conflict { .. } => 8,
+            Refusal::Full => 9,
+            Refusal::BadLine => 10,
+            Refusal::Short => 11,
+        }
+    }
+}
+
+fn namespace_words(namespace: u32) -> &'static str {
+    match namespace {
+        1 => "memory",
+        2 => "ports",
+        3 => "inputs of a controller",
+        4 => "host IRQs",
+        5 => "an ITS of a controller",
+        6 => "LPIs of a controller",
+        _ => "nothing known",
+    }
+}
+
+fn detail_words(detail: u32) -> &'static str {
+    match detail {
+        1 => "the address ranges overlap",
+        2 => "the trigger differs",
+        3 => "it is not shareable",
+        4 => "the host IRQ is taken",
+        5 => "the DeviceID is taken",
+        6 => "the events overlap",
+        7 => "the LPIs overlap",
+        _ => "no detail known",
+    }
+}
+
+impl fmt::Display for Refusal {
+    /// ```
+    /// use thurgoleo::Refusal;
+    /// let refusal = Refusal::Conflict { namespace: 4, owner: 9, detail: 4 };
+    /// assert_eq!(refusal.to_string(), "owner 9 stands in the way among host IRQs: the host IRQ is taken");
+    /// ```
+    fn fmt(&self, f: &mut fmt::Formatter<'_>) -> fmt::Result {
+        match *self {
+            Refusal::Malformed => f.write_str("the tables handed in are not sound"),
+            Refusal::BadInput => f.write_str("a number or a code makes no sense"),
+            Refusal::BadOwner => f.write_str("owner 0 is nobody"),
+            Refusal::EmptyRange => f.write_str("the range holds no number"),
+            Refusal::Reserved { owner } => write!(f, "owner {owner} has reserved some of it"),
+            Refusal::FixedNotAllowed { namespace } => write!(
+                f,
+                "the number asked for is not allowed among {}",
+                namespace_words(namespace)
+            ),
+            Refusal::Exhausted { namespace } => write!(
+                f,
+                "nothing that fits is free among {}",
+                namespace_words(namespace)
+            ),
+            Refusal::Conflict {
+                namespace,
+                owner,
+                detail,
+            } => {
+                write!(
+                    f,
+                    "owner {owner} stands in the way among {}: {}",
+                    namespace_words(namespace),
+                    detail_words(detail)
+                )
+            }
+            Refusal::Full => f.write_str("the table is full"),
+            Refusal::BadLine => f.write_str("the line cannot be read"),
+            Refusal::Short => f.write_str("a list is too short, or a plan too long"),
+        }
+    }
+}
+
+impl core::error::Error for Refusal {}

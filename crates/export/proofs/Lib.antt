@@ -1,0 +1,5 @@
+pub mod SizeLaws
+pub mod FaceWalk
+pub mod ReadWalk
+pub mod FreshWalk
+pub mod FilledLaws

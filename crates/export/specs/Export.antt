@@ -1,0 +1,54 @@
+-- What an exported call leaves and answers, by the size of the state that it is lent. Assumes nothing.
+use mathlib.Core.Bool.{true, false}
+use mathlib.Core.List.{List}
+use Prim.Native.Nat.{ℕ}
+use lib.Dec.{eqb}
+use Rattle.definition.specs.Calls.{State as Given}
+use Rattle.definition.specs.Plan.{Lent, lent}
+use Rattle.tables.specs.Whole.{freshState}
+use Rattle.tables.specs.declared.State.{State}
+use Rattle.text.specs.Respond.{Replied}
+use Rattle.face.specs.Lent.{filledIn}
+use Rattle.face.specs.Rows.{Told, told}
+
+-- the bytes of a state: 14 pool tables of 776, 12 range tables of 4104, 2 input tables of 3080, and five numbers
+abbrev pub stateSize : ℕ
+stateSize = 66312
+
+-- the state and the list afterwards, and the number answered
+pub record Answered : Type 0 where
+  pub left : Lent
+  pub number : ℕ
+
+abbrev pub answered : Lent → ℕ → Answered
+answered v n = record { left = v; number = n }
+
+-- most calls answer with the number of the answer
+abbrev pub numbered : Lent → Answered
+numbered v = answered v (v .state .said .number)
+
+-- a plan of so many numbers answers with how many numbers it has filled
+abbrev pub counted : ℕ → Lent → Answered
+counted n v = answered v (filledIn (v .state) n)
+
+-- a state of another size: nothing is touched, and the answer is 1
+unfoldable pub sized : ℕ → Given → List ℕ → Answered → Answered
+sized size s out a = elim (eqb size stateSize) [ true ↦ a | false ↦ answered (lent s out) 1 ]
+
+unfoldable pub sizedRead : ℕ → List ℕ → Told → Told
+sizedRead size out w = elim (eqb size stateSize) [ true ↦ w | false ↦ told 1 out ]
+
+-- a fresh state, whatever stood there
+pub record Begun : Type 0 where
+  pub state : State
+  pub number : ℕ
+
+abbrev pub begun : State → ℕ → Begun
+begun s n = record { state = s; number = n }
+
+unfoldable pub sizedFresh : ℕ → State → Begun
+sizedFresh size s = elim (eqb size stateSize) [ true ↦ begun freshState 0 | false ↦ begun s 1 ]
+
+-- the text call answers with how many bytes it has written
+abbrev pub bytesTold : Replied → Told
+bytesTold w = told (w .bytes) (w .buffer)

@@ -1,0 +1,125 @@
+// The planner for callers in C and Rust. The state is the caller's memory, lent with its size: a state of another size is not touched and answers 1.
+// Numbers come and go in lists. Nothing is required of them: whatever cannot be read gets its refusal.
+use face::lent::allocate_into;
+use face::lent::call_into;
+use face::lent::filled;
+use face::lent::number_of;
+use face::lent::read;
+use tables::State;
+use tables::fresh;
+use text::respond;
+ghost use mathlib.Core.Path.{_≡_};
+ghost use lib.ListN.{length};
+ghost use Rattle.definition.specs.Plan.{lent};
+ghost use Rattle.tables.specs.Views.{stateView};
+ghost use Rattle.flat.specs.Flat.{flatPlan};
+ghost use Rattle.face.specs.Rows.{told};
+ghost use Rattle.face.specs.Lent.{callTold, flatAllocate, readTold};
+ghost use Rattle.pin.specs.Pin.{pinnedNumbers};
+ghost use Rattle.text.specs.Respond.{respondsTo};
+ghost use Rattle.export.specs.Export.{stateSize, begun, sizedFresh, answered, sized, numbered, counted, sizedRead, bytesTold};
+
+// The bytes of a state.
+const STATE: u64 = 66312;
+
+// How many bytes a state has.
+#[no_mangle]
+pub extern "C" fn planner_state_size() -> u64
+    ensures { λ r. ⌜ r ≡ stateSize ⌝ }
+{
+    STATE
+}
+
+// A fresh state: tables without rows, five zeros.
+#[no_mangle]
+pub extern "C" fn planner_fresh(state: &mut State, size: u64) -> u64
+    ensures { λ r. ⌜ begun (now (state .exit)) r ≡ sizedFresh size (now (state .entry)) ⌝ }
+{
+    if size == STATE {
+        *state = fresh();
+        return 0;
+    }
+    1
+}
+
+// A call that adds or starts, or one request, from its numbers. It answers with the number of the answer; all five are told where the list has room for them.
+#[no_mangle]
+pub extern "C" fn planner_call(
+    state: &mut State,
+    size: u64,
+    numbers: &[u64],
+    answer: &mut [u64],
+) -> u64
+    ensures { λ r. ⌜ answered (lent (stateView (now (state .exit))) (now (answer .exit))) r ≡ sized size (stateView (now (state .entry))) (now (answer .entry)) (numbered (callTold (now (numbers .entry)) (stateView (now (state .entry))) (now (answer .entry)))) ⌝ }
+{
+    if size == STATE {
+        let next = call_into(*state, numbers, answer);
+        *state = next;
+        return number_of(next, numbers);
+    }
+    1
+}
+
+// One request of twelve numbers, with its record of nine.
+#[no_mangle]
+pub extern "C" fn planner_allocate(
+    state: &mut State,
+    size: u64,
+    request: &[u64],
+    out: &mut [u64],
+) -> u64
+    ensures { λ r. ⌜ answered (lent (stateView (now (state .exit))) (now (out .exit))) r ≡ sized size (stateView (now (state .entry))) (now (out .entry)) (numbered (flatAllocate (now (request .entry)) (stateView (now (state .entry))) (now (out .entry)))) ⌝ }
+{
+    if size == STATE {
+        let next = allocate_into(*state, request, out);
+        *state = next;
+        return number_of(next, request);
+    }
+    1
+}
+
+// A plan of requests, twelve numbers each. It answers with how many numbers of `results` it has filled, nine for each request granted; the answer itself stands in the state.
+#[no_mangle]
+pub extern "C" fn planner_plan(
+    state: &mut State,
+    size: u64,
+    requests: &[u64],
+    results: &mut [u64],
+) -> u64
+    ensures { λ r. ⌜ answered (lent (stateView (now (state .exit))) (now (results .exit))) r ≡ sized size (stateView (now (state .entry))) (now (results .entry)) (counted (length (now (requests .entry))) (flatPlan (now (requests .entry)) (stateView (now (state .entry))) (now (results .entry)))) ⌝ }
+{
+    if size == STATE {
+        let next = plan::plan(*state, requests, results);
+        *state = next;
+        return filled(next, requests);
+    }
+    1
+}
+
+// Reading back: the last answer's five numbers (0), or one row of a table (part, kind, row).
+#[no_mangle]
+pub extern "C" fn planner_read(state: &State, size: u64, what: &[u64], out: &mut [u64]) -> u64
+    ensures { λ r. ⌜ told r (now (out .exit)) ≡ sizedRead size (now (out .entry)) (readTold (now (what .entry)) (stateView (now (state .entry))) (now (out .entry))) ⌝ }
+{
+    if size == STATE {
+        return read(*state, what, out);
+    }
+    1
+}
+
+// The granted numbers of a plan written back into its requests.
+#[no_mangle]
+pub extern "C" fn planner_pin(requests: &mut [u64], results: &[u64])
+    ensures { λ _. ⌜ now (requests .exit) ≡ pinnedNumbers (now (requests .entry)) (now (results .entry)) ⌝ }
+{
+    pin::pin(requests, results);
+}
+
+// The text call: what the program answers, in front of `out`. It answers with how many bytes were written: 0 where `out` is shorter than the longest output there is.
+#[no_mangle]
+pub extern "C" fn planner_text(text: &[u8], out: &mut [u8]) -> u64
+    ensures { λ r. ⌜ told r (now (out .exit)) ≡ bytesTold (respondsTo (now (text .entry)) (now (out .entry))) ⌝ }
+{
+    let r = respond(text, out);
+    r.length as u64
+}

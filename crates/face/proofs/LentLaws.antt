@@ -1,0 +1,61 @@
+-- Calls with lists lent beside the numbers: one law for each way out. Assumes nothing.
+use mathlib.Core.Path.{_≡_, refl, sym, ap, _∙_}
+use mathlib.Core.Bool.{Bool, true, false}
+use mathlib.Core.List.{List}
+use Prim.Native.Nat.{ℕ, _≤_, _<_, _*_, _/_}
+use lib.Dec.{leb, eqb}
+use lib.ListN.{length}
+use borrow.Author.Tests.{le-leb, lt-leb, eq-eqb, ne-eqb}
+use Rattle.definition.specs.Rows.{kinds}
+use Rattle.definition.specs.Refusal.{malformed, short, refused, require}
+use Rattle.definition.specs.Request.{Request}
+use Rattle.definition.specs.Calls.{State, sound, settle}
+use Rattle.definition.specs.Plan.{Lent, lent, allocateInto}
+use Rattle.flat.specs.Flat.{requestAt}
+use Rattle.face.specs.Face.{number, faceCall}
+use Rattle.face.specs.Rows.{Told, told, rowTold, answerTold}
+use Rattle.face.specs.Lent.{telling, callTold, flatAllocate, readTold, filledIn}
+
+pub call-told : (xs : List ℕ) (s t : State) (out zs : List ℕ) (y : ℕ) → t ≡ faceCall xs s → told y zs ≡ answerTold t out → lent t zs ≡ callTold xs s out
+call-told xs s t out zs y e a = ap (λ (w : Told). lent t (w .out)) a ∙ ap (λ (v : State). telling v out) e
+
+module _ (xs : List ℕ) (s : State) (out : List ℕ) where
+  pub alloc-long : 12 ≤ length xs → (v : Lent) (r : Request) → r ≡ requestAt xs 0 → v ≡ allocateInto kinds r s out → v ≡ flatAllocate xs s out
+  unfolding flatAllocate
+  alloc-long l v r e w = w ∙ ap (λ (x : Request). allocateInto kinds x s out) e ∙ rw (le-leb 12 (length xs) l, flatAllocate)
+
+  pub alloc-short : length xs < 12 → (t : State) (b : Bool) → b ≡ sound kinds s → t ≡ settle s (require b malformed (refused short)) → lent t out ≡ flatAllocate xs s out
+  unfolding flatAllocate
+  alloc-short l t b e w = ap (λ (v : State). lent v out) (w ∙ ap (λ (x : Bool). settle s (require x malformed (refused short))) e) ∙ rw (lt-leb 12 (length xs) l, flatAllocate)
+
+  pub read-none : length xs ≡ 0 → told 11 out ≡ readTold xs s out
+  unfolding readTold
+  read-none e = rw (eq-eqb (length xs) 0 e, readTold)
+
+  module _ (n : length xs ≡ 0 → ⊥) (part : ℕ) (e₀ : part ≡ number xs 0) where
+    pub read-answer : part ≡ 0 → (w : Told) → w ≡ answerTold s out → w ≡ readTold xs s out
+    unfolding readTold
+    read-answer e w a = a ∙ rw (ne-eqb (length xs) 0 n, eq-eqb (number xs 0) 0 (sym e₀ ∙ e), readTold)
+
+    pub read-short : (part ≡ 0 → ⊥) → length xs < 3 → told 11 out ≡ readTold xs s out
+    unfolding readTold
+    read-short p l = rw (ne-eqb (length xs) 0 n, ne-eqb (number xs 0) 0 (λ e. p (e₀ ∙ e)), lt-leb 3 (length xs) l, readTold)
+
+    pub read-row : (part ≡ 0 → ⊥) → 3 ≤ length xs → (kind i : ℕ) → kind ≡ number xs 1 → i ≡ number xs 2 → (w : Told) → w ≡ rowTold s part kind i out → w ≡ readTold xs s out
+    unfolding readTold
+    read-row p l kind i e₁ e₂ w a =
+        a ∙ ap (λ (x : ℕ). rowTold s x kind i out) e₀ ∙ ap (λ (x : ℕ). rowTold s (number xs 0) x i out) e₁ ∙ ap (λ (x : ℕ). rowTold s (number xs 0) (number xs 1) x out) e₂
+        ∙ rw (ne-eqb (length xs) 0 n, ne-eqb (number xs 0) 0 (λ e. p (e₀ ∙ e)), le-leb 3 (length xs) l, readTold)
+
+module _ (s : State) (n : ℕ) where
+  pub filled-all : s .said .number ≡ 0 → 9 * (n / 12) ≡ filledIn s n
+  unfolding filledIn
+  filled-all e = rw (eq-eqb (s .said .number) 0 e, filledIn)
+
+  pub filled-far : (s .said .number ≡ 0 → ⊥) → 128 < s .said .index → 0 ≡ filledIn s n
+  unfolding filledIn
+  filled-far f l = rw (ne-eqb (s .said .number) 0 f, lt-leb (s .said .index) 128 l, filledIn)
+
+  pub filled-front : (s .said .number ≡ 0 → ⊥) → s .said .index ≤ 128 → 9 * s .said .index ≡ filledIn s n
+  unfolding filledIn
+  filled-front f l = rw (ne-eqb (s .said .number) 0 f, le-leb (s .said .index) 128 l, filledIn)

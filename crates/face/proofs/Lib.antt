@@ -1,0 +1,4 @@
+pub mod NarrowLaws
+pub mod CallLaws
+pub mod ReadLaws
+pub mod LentLaws

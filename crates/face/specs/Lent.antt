@@ -1,0 +1,47 @@
+-- The same calls with lists lent beside the numbers, and what an exported call answers with. Assumes nothing.
+use mathlib.Core.Bool.{true, false}
+use mathlib.Core.List.{List}
+use Prim.Native.Nat.{ℕ, _*_, _/_}
+use lib.Dec.{leb, eqb}
+use lib.ListN.{length}
+use Rattle.definition.specs.Rows.{planLimit, recordSize, kinds}
+use Rattle.definition.specs.Refusal.{malformed, short, refused, require}
+use Rattle.definition.specs.Calls.{State, sound, settle}
+use Rattle.definition.specs.Plan.{Lent, lent, allocateInto}
+use Rattle.flat.specs.Flat.{requestSize, requestAt}
+use Rattle.face.specs.Face.{number, faceCall}
+use Rattle.face.specs.Rows.{Told, told, rowTold, answerTold}
+
+-- a call, and its answer's numbers where the list has room for them
+abbrev pub telling : State → List ℕ → Lent
+telling t out = lent t (answerTold t out .out)
+
+abbrev pub callTold : List ℕ → State → List ℕ → Lent
+callTold xs s out = telling (faceCall xs s) out
+
+-- one request of twelve numbers, with its record
+unfoldable pub flatAllocate : List ℕ → State → List ℕ → Lent
+flatAllocate xs s out =
+    elim (leb requestSize (length xs)) [
+      | true ↦ allocateInto kinds (requestAt xs 0) s out
+      | false ↦ lent (settle s (require (sound kinds s) malformed (refused short))) out
+    ]
+
+-- reading back: 0 is the last answer, all else a part, with a kind and a row; a list too short is 11
+unfoldable pub readTold : List ℕ → State → List ℕ → Told
+readTold xs s out =
+    elim (eqb (length xs) 0) [
+      | true ↦ told 11 out
+      | false ↦ elim (eqb (number xs 0) 0) [
+        | true ↦ answerTold s out
+        | false ↦ elim (leb 3 (length xs)) [ true ↦ rowTold s (number xs 0) (number xs 1) (number xs 2) out | false ↦ told 11 out ]
+      ]
+    ]
+
+-- how many numbers a plan of so many numbers has filled, told by the state that it leaves: nine a request, of all its requests or of those before the refused one
+unfoldable pub filledIn : State → ℕ → ℕ
+filledIn s n =
+    elim (eqb (s .said .number) 0) [
+      | true ↦ recordSize * (n / requestSize)
+      | false ↦ elim (leb (s .said .index) planLimit) [ true ↦ recordSize * s .said .index | false ↦ 0 ]
+    ]

@@ -1,0 +1,73 @@
+// The same calls with lists lent beside the numbers: the answer's five numbers, one request's record, what is read back. And what an exported call answers with.
+use super::call;
+use super::number;
+use super::row;
+use super::too_short;
+use tables::State;
+ghost use mathlib.Core.Path.{_≡_};
+ghost use lib.ListN.{length};
+ghost use Rattle.definition.specs.Plan.{lent};
+ghost use Rattle.tables.specs.Views.{stateView};
+ghost use Rattle.face.specs.Rows.{told};
+ghost use Rattle.face.specs.Lent.{callTold, flatAllocate, readTold, filledIn};
+
+// A call, and its answer's five numbers where the list has room for them.
+pub fn call_into(s: State, numbers: &[u64], answer: &mut [u64]) -> State
+    ensures { λ t. ⌜ lent (stateView t) (now (answer .exit)) ≡ callTold (now (numbers .entry)) (stateView s) (now (answer .entry)) ⌝ }
+{
+    let t = call(s, numbers);
+    let _room = row::answer(t, answer);
+    t
+}
+
+// One request of twelve numbers, with its record: 1, 11, 2 and the rest.
+pub fn allocate_into(s: State, request: &[u64], out: &mut [u64]) -> State
+    ensures { λ t. ⌜ lent (stateView t) (now (out .exit)) ≡ flatAllocate (now (request .entry)) (stateView s) (now (out .entry)) ⌝ }
+{
+    if 12 <= request.len() {
+        let r = flat::request_at(request, 0);
+        return allocation::allocate_into(s, r, out);
+    }
+    let judged = sound::sound(s);
+    too_short(s, judged)
+}
+
+// Reading back: the last answer (0), or a row (part, kind, row).
+pub fn read(s: State, what: &[u64], out: &mut [u64]) -> u64
+    ensures { λ r. ⌜ told r (now (out .exit)) ≡ readTold (now (what .entry)) (stateView s) (now (out .entry)) ⌝ }
+{
+    let part = number(what, 0);
+    let kind = number(what, 1);
+    let i = number(what, 2);
+    if what.len() == 0 {
+        return 11;
+    }
+    if part == 0 {
+        return row::answer(s, out);
+    }
+    if what.len() < 3 {
+        return 11;
+    }
+    row::row(s, part, kind, i, out)
+}
+
+// The number of the last answer.
+pub fn number_of(s: State, numbers: &[u64]) -> u64
+    ensures { λ r. ⌜ r ≡ stateView s .said .number ⌝ }
+{
+    s.number
+}
+
+// How many numbers of its results a plan has filled: nine a request, of all its requests or of those before the refused one.
+pub fn filled(s: State, requests: &[u64]) -> u64
+    ensures { λ r. ⌜ r ≡ filledIn (stateView s) (length (now (requests .entry))) ⌝ }
+{
+    if s.number == 0 {
+        let n = requests.len() / 12;
+        return 9 * n as u64;
+    }
+    if 128 < s.index {
+        return 0;
+    }
+    9 * s.index
+}

@@ -1,0 +1,1 @@
+pool	auto	pio	65535	65535

@@ -1,0 +1,1 @@
+pool	fixed	host	9	8

@@ -1,0 +1,1 @@
+pool	auto	input	1	7	7

@@ -1,0 +1,1 @@
+pool	fixed	input	1	7	6

@@ -1,0 +1,1 @@
+hold	0	mmio	0	1

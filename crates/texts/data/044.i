@@ -1,0 +1,1 @@
+hold	0	host	0	1

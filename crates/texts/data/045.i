@@ -1,0 +1,1 @@
+hold	0	input	0	0	0	0

@@ -1,0 +1,1 @@
+hold	1	mmio	1	0

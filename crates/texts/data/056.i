@@ -1,0 +1,1 @@
+hold	1	event	0	0	8	4	4

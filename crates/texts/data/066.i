@@ -1,0 +1,2 @@
+hold	7	mmio	0	1
+hold	7	mmio	0	1

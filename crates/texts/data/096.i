@@ -1,0 +1,2 @@
+pool	auto	input	0	0	9
+want	1	1	input	0	0	2	auto

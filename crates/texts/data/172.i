@@ -1,0 +1,1 @@
+poll	auto	mmio	0	1

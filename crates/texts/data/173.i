@@ -1,0 +1,1 @@
+pools	auto	mmio	0	1

@@ -1,0 +1,1 @@
+pool	both	mmio	0	1

@@ -1,0 +1,1 @@
+pool	autos	mmio	0	1

@@ -1,0 +1,1 @@
+pool	auto	mem	0	1

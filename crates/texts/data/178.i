@@ -1,0 +1,1 @@
+pool	auto	device	0	0	0	1

@@ -1,0 +1,1 @@
+hold	1	memory	0	1

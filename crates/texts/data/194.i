@@ -1,0 +1,1 @@
+pool	1	mmio	0	1

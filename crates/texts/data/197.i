@@ -1,0 +1,1 @@
+POOL	auto	mmio	0	1

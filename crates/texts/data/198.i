@@ -1,0 +1,1 @@
+pool	Auto	mmio	0	1

@@ -1,0 +1,1 @@
+Hold	1	mmio	0	1

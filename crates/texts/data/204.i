@@ -1,0 +1,1 @@
+hold	01	mmio	0	1

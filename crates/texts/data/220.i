@@ -1,0 +1,1 @@
+hold		mmio	0	1

@@ -1,0 +1,1 @@
+pool		mmio	0	1

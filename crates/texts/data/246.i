@@ -1,0 +1,1 @@
+pool	auto	mmio	0	1want	1	1	mmio	1	1	auto

@@ -1,0 +1,2 @@
+nonsense
+pool	auto	mmio	1	1

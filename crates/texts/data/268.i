@@ -1,0 +1,2 @@
+pool	auto	mmio	1	1
+nonsense

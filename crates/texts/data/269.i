@@ -1,0 +1,2 @@
+hold	0	mmio	0	1
+nonsense

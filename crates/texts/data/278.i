@@ -1,0 +1,2 @@
+want	1	1	host	auto
+pool	auto	host	0	9

@@ -1,0 +1,1 @@
+pool	auto	host	0	9	0

@@ -1,0 +1,1 @@
+pool	fixed	input	4294967296	0	9

@@ -1,0 +1,1 @@
+pool	fixed	input	4294967295	0	9

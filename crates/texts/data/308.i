@@ -1,0 +1,1 @@
+pool	fixed	input	0	0

@@ -1,0 +1,1 @@
+pool	fixed	input	0	0	9	0

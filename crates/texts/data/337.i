@@ -1,0 +1,1 @@
+hold	1	mmio	0	9	0

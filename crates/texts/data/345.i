@@ -1,0 +1,1 @@
+hold	1	pio	0

@@ -1,0 +1,1 @@
+want	4294967296	1	mmio	1	1	auto

@@ -1,0 +1,1 @@
+want	1	4294967296	host	auto

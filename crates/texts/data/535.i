@@ -1,0 +1,2 @@
+pool	auto	host
+want	1	1	host	auto

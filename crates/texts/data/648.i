@@ -1,0 +1,13 @@
+pool	auto	host	1	10
+pool	fixed	host	2	11
+hold	3	host	2	3
+pool	fixed	host	8	18
+want	4294967295	1	host	6
+want	4294967295	4294967295	host	auto
+want	1	0	host	7
+want	3	2	host	auto
+want	3	0	host	8
+want	1	2	host	10
+want	2	0	host	auto
+want	4294967295	2	host	auto
+want	4294967295	0	host	auto

@@ -1,0 +1,15 @@
+pool	auto	host	1	11
+pool	fixed	host	0	10
+hold	1	host	7	8
+hold	4294967295	host	10	11
+hold	2	host	6	8
+want	4294967295	1	host	6
+want	3	4294967295	host	auto
+want	3	4294967295	host	auto
+want	4294967295	2	host	auto
+want	4294967295	4294967295	host	4
+want	4294967295	1	host	auto
+want	1	4294967295	host	5
+want	2	4294967295	host	7
+want	1	0	host	auto
+want	4294967295	2	host	6

@@ -1,0 +1,14 @@
+pool	fixed	host	15	26
+want	2	4294967295	host	25
+want	2	1	host	auto
+want	1	4294967295	host	24
+want	9	4294967295	host	22
+want	9	4294967295	host	17
+want	4294967295	0	host	18446744073709551615
+want	4294967295	2	host	17
+want	4294967295	1	host	24
+want	3	1	host	auto
+want	3	2	host	26
+want	1	2	host	25
+want	4294967295	2	host	auto
+want	4294967295	4294967295	host	19

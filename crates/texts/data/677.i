@@ -1,0 +1,12 @@
+pool	auto	msi	1	0	4294967286	4294967295	16	25	2	11
+pool	fixed	msi	1	0	4294967288	4294967293	16	24	0	10
+pool	fixed	msi	1	2	4294967290	4294967292	16	17	11	14
+want	4294967295	0	msi	1	2	1	auto
+want	3	1	msi	1	4294967295	1	auto
+want	4294967295	2	msi	1	0	1	4294967288	14	5
+want	9	0	msi	1	2	3	auto
+want	1	0	msi	1	2	1	auto
+want	1	2	msi	1	0	1	auto
+want	4294967295	2	msi	1	2	1	auto
+want	4294967295	2	msi	1	4294967295	1	auto
+want	2	0	msi	1	0	1	auto

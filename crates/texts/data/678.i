@@ -1,0 +1,11 @@
+pool	auto	host	1	11
+pool	fixed	host	1	10
+hold	9	host	9	10
+want	3	2	host	auto
+want	3	4294967295	host	auto
+want	9	0	host	auto
+want	2	0	host	4
+want	3	0	host	auto
+want	3	1	host	auto
+want	9	1	host	auto
+want	4294967295	0	host	auto

@@ -1,0 +1,12 @@
+pool	auto	msi	0	1	0	10	1	10	65528	65538
+pool	fixed	msi	0	1	0	11	1	11	65528	65536
+pool	auto	msi	0	1	7	8	10	15	65537	65548
+pool	fixed	msi	0	0	7	8	8	10	65537	65540
+hold	9	lpi	0	65536	4294967295
+hold	2	lpi	0	65531	65532
+pool	auto	msi	0	0	0	1	1	5	65526	65530
+pool	auto	msi	0	1	1	7	3	10	65536	65545
+pool	auto	msi	0	0	6	7	11	12	65530	65531
+want	3	0	msi	0	0	2147483648	5	7	4294967295
+want	4294967295	2	msi	0	0	1	auto
+want	3	2	msi	0	1	1	auto

@@ -1,0 +1,11 @@
+pool	auto	host	65526	65538
+pool	auto	host	65526	65530
+hold	2	host	65529	65531
+pool	auto	host	65534	65535
+pool	fixed	host	65533	65537
+hold	9	host	65537	65539
+hold	4294967295	host	65532	65533
+pool	fixed	host	65526	65527
+want	2	4294967295	host	auto
+want	3	0	host	auto
+want	3	1	host	65528

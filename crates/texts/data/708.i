@@ -1,0 +1,11 @@
+pool	auto	mmio	0	3072
+pool	fixed	mmio	256	2816
+pool	fixed	pio	91	251
+pool	auto	input	0	1	11
+pool	fixed	input	0	2	12
+pool	fixed	host	17219330328350399240	17219330328350399251
+pool	fixed	msi	0	2	4294967284	4294967293	4294967291	4294967294	24	33
+pool	auto	msi	0	2	4294967285	4294967293	4294967292	4294967294	23	34
+hold	3	input	0	0	1	1
+pool	auto	input	0	0	10
+want	2	4294967295	msi	0	2	1	auto

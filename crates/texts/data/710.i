@@ -1,0 +1,10 @@
+pool	auto	pio	28	39
+pool	fixed	pio	30	39
+pool	auto	input	1	18446744073709551608	18446744073709551614
+pool	fixed	input	1	18446744073709551610	18446744073709551615
+pool	auto	host	65531	65540
+pool	auto	msi	1	4294967295	16	25	82	94	1	11
+pool	fixed	msi	1	1	15	24	83	92	0	11
+pool	auto	msi	1	1	16	24	83	94	1	12
+hold	9	device	1	1	17	18
+pool	fixed	host	65539	65541

@@ -1,0 +1,17 @@
+pool	fixed	host	39	47
+hold	3	host	38	39
+pool	fixed	host	45	49
+pool	fixed	host	48	49
+pool	auto	host	37	45
+hold	1	host	44	46
+pool	auto	host	40	42
+pool	fixed	host	38	45
+want	1	4294967295	host	auto
+want	3	4294967295	host	42
+want	3	0	host	41
+want	2	1	host	auto
+want	3	4294967295	host	auto
+want	4294967295	1	host	auto
+want	4294967295	0	host	auto
+want	9	0	host	40
+want	1	0	host	auto

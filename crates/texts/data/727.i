@@ -1,0 +1,11 @@
+pool	auto	host	1052491592993755384	1052491592993755393
+pool	fixed	host	1052491592993755384	1052491592993755393
+want	1	0	host	auto
+want	1	2	host	1052491592993755392
+want	9	1	host	auto
+want	9	4294967295	host	auto
+want	1	4294967295	host	auto
+want	2	0	host	1052491592993755391
+want	2	2	host	auto
+want	9	0	host	auto
+want	9	4294967295	host	auto

@@ -1,0 +1,13 @@
+pool	auto	host	1	11
+pool	fixed	host	1	10
+pool	fixed	host	9	14
+pool	fixed	host	8	9
+want	2	2	host	auto
+want	2	1	host	auto
+want	4294967295	2	host	auto
+want	4294967295	1	host	auto
+want	9	0	host	auto
+want	2	2	host	7
+want	1	0	host	auto
+want	2	1	host	auto
+want	1	2	host	auto

@@ -1,0 +1,12 @@
+pool	auto	host	4294967285	4294967296
+pool	fixed	host	4294967285	4294967294
+pool	fixed	host	4294967288	4294967290
+want	2	4294967295	host	auto
+want	9	4294967295	host	auto
+want	2	2	host	auto
+want	3	2	host	4294967291
+want	9	0	host	auto
+want	2	0	host	auto
+want	2	1	host	auto
+want	9	2	host	auto
+want	4294967295	1	host	auto

@@ -1,0 +1,10 @@
+pool	auto	pio	1	10
+pool	fixed	pio	0	12
+pool	auto	pio	8	9
+pool	fixed	pio	1	7
+pool	auto	pio	8	16
+pool	fixed	pio	3	4
+pool	fixed	pio	8	16
+pool	auto	pio	3	4
+pool	auto	pio	2	6
+hold	9	pio	4	6

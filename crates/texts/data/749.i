@@ -1,0 +1,11 @@
+pool	auto	mmio	18446744073709506560	18446744073709543424
+pool	auto	pio	65529	65535
+pool	fixed	pio	65531	65534
+pool	auto	input	2	47	58
+pool	fixed	input	2	46	58
+pool	auto	host	2	10
+pool	fixed	host	1	12
+pool	fixed	msi	2	4294967295	4294967283	4294967295	48	58	65526	65538
+hold	3	mmio	18446744073709518848	18446744073709522944
+want	3	1	host	auto
+want	9	2	input	2	0	1	auto

@@ -1,0 +1,14 @@
+pool	auto	pio	93	157
+pool	fixed	pio	77	165
+pool	fixed	msi	1	0	429496790	4294967294	4154822395	4154822405	3007889384	3007889394
+want	2	4294967295	pio	8	8	101
+pool	auto	mmio	0	4096
+want	9	4294967295	msi	1	0	2	auto
+want	2	2	input	1	2	1	auto
+want	1	4294967295	mmio	8193	1	auto
+want	2	4294967295	msi	1	0	1	auto
+want	1	2	mmio	4096	1	28672
+want	3	4294967295	host	auto
+want	2	4294967295	host	auto
+want	4294967295	4294967295	host	auto
+want	3	4294967295	mmio	4096	1	auto

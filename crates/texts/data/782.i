@@ -1,0 +1,12 @@
+pool	auto	host	2	11
+pool	fixed	host	1	10
+want	3	4294967295	host	auto
+want	1	1	host	auto
+want	3	1	host	6
+want	4294967295	4294967295	hst	-0
+want	9	4294967295	host	auto
+want	4294967295	4294967295	host	auto
+want	4294967295	0	host	1
+want	3	1	host	8
+want	4294967295	1	host	auto
+want	3	4294967295	host	5

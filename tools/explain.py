@@ -1,0 +1,85 @@
+"""Says a plan's refusal in words: the answer goes through unchanged, and below it stand the line, what was asked, and who is in the way.
+
+Reads the answer on standard input and the plan from the file that is named. Every word comes from the tables below.
+"""
+import sys
+
+REFUSALS = {
+    1: ("Malformed", "the tables handed in are not sound"),
+    2: ("BadInput", "a number or a code of the line makes no sense: a size, count or requester of 0, an alignment that is no power of two, an unknown trigger or sharing"),
+    3: ("BadOwner", "owner 0 cannot hold anything"),
+    4: ("EmptyRange", "the range is empty: its start is not below its end"),
+    5: ("Reserved", "the range overlaps a reservation of owner {owner}"),
+    6: ("FixedNotAllowed", "no fixed pool of {namespace} allows these numbers, or they are not aligned as asked"),
+    7: ("Exhausted", "no automatic pool of {namespace} has room for it"),
+    8: ("Conflict", "{detail}; owner {owner} holds {namespace} there"),
+    9: ("Full", "the table has no free row"),
+    10: ("BadLine", "the line is not of a form that a plan can have"),
+    11: ("Short", "a plan has at most 128 wants"),
+}
+NAMESPACES = {0: "", 1: "MMIO", 2: "PIO", 3: "wired inputs", 4: "host IRQs", 5: "the ITS", 6: "LPIs"}
+DETAILS = {
+    0: "",
+    1: "the address ranges overlap",
+    2: "the input is held with another trigger",
+    3: "the input is not shareable",
+    4: "the host IRQ is taken",
+    5: "the DeviceID is taken",
+    6: "the events overlap",
+    7: "the LPIs overlap",
+}
+# the words of the lines that can hold numbers of a namespace
+HOLDERS = {1: ["mmio"], 2: ["pio"], 3: ["input"], 4: ["host"], 5: ["device", "event", "msi"], 6: ["lpi", "msi"]}
+TOO_LONG = "the text is longer than 32,768 bytes"
+OPEN = "the last line has no newline"
+
+
+def shown(line):
+    return " ".join(line.decode("ascii", "backslashreplace").split("\t"))
+
+
+def kind(line):
+    """The word of a `hold` or `want` line that names its kind."""
+    fields = line.decode("ascii", "replace").split("\t")
+    place = {"hold": 2, "want": 3}.get(fields[0], len(fields))
+    return fields[place] if place < len(fields) else ""
+
+
+def holders(lines, asked, owner, namespace):
+    """The lines above the one asked in which the owner got or reserved numbers of the namespace (of the same kind, where none is named)."""
+    kinds = HOLDERS.get(namespace, [kind(lines[asked - 1])])
+    for number, line in enumerate(lines[: asked - 1], 1):
+        if line.split(b"\t")[1:2] == [b"%d" % owner] and kind(line) in kinds:
+            yield number, line
+
+
+def explained(answer, text):
+    fields = answer.split(b"\t")
+    if fields[0] != b"no":
+        return []
+    line, number, namespace, owner, detail = (int(f) for f in fields[1:])
+    name, words = REFUSALS[number]
+    if line == 0:
+        return [f"refused with {number} ({name}): {TOO_LONG}"]
+    lines = text.split(b"\n")
+    words = words.format(owner=owner, namespace=NAMESPACES[namespace], detail=DETAILS[detail])
+    if number == 10 and line == len(lines):
+        words = OPEN
+    said = [f"line {line}: {shown(lines[line - 1])}", f"refused with {number} ({name}): {words}"]
+    for at, held in holders(lines, line, owner, namespace) if owner else []:
+        said.append(f"  line {at}: {shown(held)}")
+    return said
+
+
+def main():
+    answer = sys.stdin.buffer.read()
+    with open(sys.argv[1], "rb") as plan:
+        text = plan.read()
+    sys.stdout.buffer.write(answer)
+    sys.stdout.flush()
+    for line in explained(answer.rstrip(b"\n"), text):
+        print(line)
+
+
+if __name__ == "__main__":
+    main()
