@@ -59,6 +59,9 @@ fn main() {
     }
     println!("cargo:rustc-env=ORACLE_ORIGINAL_FOLDER={}", original.display());
     println!("cargo:rustc-env=ORACLE_ORIGINAL_FILES={}", ORIGINAL.join(" "));
+    if env::var_os("CARGO_FEATURE_OURS").is_some() {
+        link_ours(&here);
+    }
     println!("cargo:rerun-if-env-changed=ORACLE_ORIGINAL");
     println!("cargo:rerun-if-changed=build.rs");
 }
@@ -72,6 +75,20 @@ fn original_folder(here: &Path) -> PathBuf {
     fs::canonicalize(&folder).unwrap_or_else(|_| {
         panic!("the original is not at {}: set ORACLE_ORIGINAL to its resources folder", folder.display())
     })
+}
+
+/// The static library of our own code: ORACLE_LIBRARY names its folder, else the build folder of the project.
+fn link_ours(here: &Path) {
+    let folder = match env::var("ORACLE_LIBRARY") {
+        Ok(given) => PathBuf::from(given),
+        Err(_) => here.join("../target/staticlib"),
+    };
+    let library = folder.join("libexport.a");
+    assert!(library.exists(), "our library is not at {}: see ./run", library.display());
+    println!("cargo:rustc-link-search=native={}", folder.display());
+    println!("cargo:rustc-link-lib=static=export");
+    println!("cargo:rerun-if-changed={}", library.display());
+    println!("cargo:rerun-if-env-changed=ORACLE_LIBRARY");
 }
 
 fn lay(from: &Path, files: &[&str], tree: &Path) {

@@ -11,9 +11,13 @@ include!(concat!(env!("OUT_DIR"), "/unchanged.rs"));
 use resources::{DeviceManagerError, DeviceManagerResult};
 
 pub mod added;
+pub mod broken;
 pub mod calls;
 pub mod cases;
+pub mod compare;
 pub mod departures;
 pub mod gen;
 pub mod judge;
+#[cfg(feature = "ours")]
+pub mod ours;
 pub mod text;

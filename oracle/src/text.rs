@@ -1,7 +1,7 @@
 // The plan-reading program of 01: bytes in, the whole output out. The line rules are 01's and the rulings', read anew.
 
 use crate::added::PLAN_REQUESTS;
-use crate::calls::{no, Add, Answer, Choice, Hold, Need, PoolRange, Record, Refusal, Request};
+use crate::calls::{no, Add, Answer, Call, Choice, Hold, Need, PoolRange, Record, Refusal, Request, Tables};
 use crate::judge::Judge;
 
 /// Bytes of a text at most.
@@ -25,6 +25,11 @@ pub struct Stopped {
 
 /// The whole output for a text.
 pub fn run(text: &[u8]) -> Result<Vec<u8>, Stopped> {
+    run_seen(text, &mut |_, _| {})
+}
+
+/// The same; each call that a line comes to is shown beforehand, with the tables that it meets.
+pub fn run_seen(text: &[u8], see: &mut dyn FnMut(&Tables, &Call)) -> Result<Vec<u8>, Stopped> {
     if text.len() > TEXT {
         return Ok(refused(0, &Refusal::plain(no::BAD_LINE)));
     }
@@ -32,7 +37,7 @@ pub fn run(text: &[u8]) -> Result<Vec<u8>, Stopped> {
     let unfinished = lines.pop().unwrap_or_default();
     let mut reader = Reader::new();
     for (index, line) in lines.iter().enumerate() {
-        match reader.step(line) {
+        match reader.step_seen(line, see) {
             Answer::Refused(refusal) => return Ok(refused(index + 1, &refusal)),
             Answer::Panicked(message) => return Err(Stopped { line: index + 1, message }),
             Answer::Accepted | Answer::Granted(_) => {}
@@ -58,22 +63,22 @@ impl Reader {
 
     /// Takes one line, without its newline.
     pub fn step(&mut self, line: &[u8]) -> Answer {
-        match read_line(line) {
-            Some(Line::Add(add)) if !self.wanting => self.judge.add(&add),
-            Some(Line::Want(request)) => self.want(&request),
-            _ => Answer::plain(no::BAD_LINE),
-        }
+        self.step_seen(line, &mut |_, _| {})
     }
 
-    fn want(&mut self, request: &Request) -> Answer {
-        if self.granted.len() == PLAN_REQUESTS {
-            return Answer::plain(no::SHORT);
-        }
-        if !self.wanting {
+    fn step_seen(&mut self, line: &[u8], see: &mut dyn FnMut(&Tables, &Call)) -> Answer {
+        let call = match read_line(line) {
+            Some(Line::Add(add)) if !self.wanting => Call::Add(add),
+            Some(Line::Want(_)) if self.granted.len() == PLAN_REQUESTS => return Answer::plain(no::SHORT),
+            Some(Line::Want(request)) => Call::Request(request),
+            _ => return Answer::plain(no::BAD_LINE),
+        };
+        if matches!(call, Call::Request(_)) && !self.wanting {
             self.judge.start();
             self.wanting = true;
         }
-        let answer = self.judge.request(request);
+        see(self.judge.tables(), &call);
+        let answer = self.judge.call(&call).answer;
         if let Answer::Granted(record) = answer {
             self.granted.push(record);
         }

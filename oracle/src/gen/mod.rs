@@ -13,7 +13,7 @@ pub use damage::damaged;
 pub use lines::{line_of_add, line_of_request};
 pub use rng::Rng;
 pub use scene::{Ruler, Scene};
-pub use sequence::calls;
+pub use sequence::{calls, tight_calls};
 pub use texts::good_text;
 
 /// The text of a number under a seed, the same on every machine: three in four are good ones, the others damaged.
@@ -30,6 +30,11 @@ pub fn text(seed: u64, index: u64) -> Vec<u8> {
 /// The call sequence of a number under a seed.
 pub fn sequence(seed: u64, index: u64) -> Vec<crate::calls::Call> {
     calls(&mut Rng::new(seed, index))
+}
+
+/// The call sequence of a number under a seed, over few numbers.
+pub fn tight_sequence(seed: u64, index: u64) -> Vec<crate::calls::Call> {
+    tight_calls(&mut Rng::new(seed, index))
 }
 
 /// How many inputs a test runs: so many, unless ORACLE_RUNS says otherwise.

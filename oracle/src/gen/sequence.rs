@@ -8,19 +8,30 @@ use crate::calls::{Add, Call, Kind, Request};
 pub fn calls(rng: &mut Rng) -> Vec<Call> {
     let heavy = rng.chance(3);
     let scene = Scene::random(rng, if heavy { 200 } else { 12 });
+    calls_on(rng, &scene, heavy)
+}
+
+/// Calls over so few numbers that most of them meet.
+pub fn tight_calls(rng: &mut Rng) -> Vec<Call> {
+    let cells = rng.between(2, 5);
+    let scene = Scene::random(rng, cells);
+    calls_on(rng, &scene, false)
+}
+
+fn calls_on(rng: &mut Rng, scene: &Scene, heavy: bool) -> Vec<Call> {
     let mut calls = Vec::new();
     calls.extend(scene.wide_pools(rng).into_iter().map(Call::Add));
     if heavy {
-        fill(rng, &scene, &mut calls);
+        fill(rng, scene, &mut calls);
     }
     for _ in 0..rng.between(0, 12) {
-        calls.push(Call::Add(any_add(rng, &scene)));
+        calls.push(Call::Add(any_add(rng, scene)));
     }
     if rng.chance(90) {
         calls.push(Call::Start);
     }
     for _ in 0..rng.between(1, if heavy { 40 } else { 16 }) {
-        let call = later(rng, &scene);
+        let call = later(rng, scene);
         let restart = matches!(call, Call::Add(_)) && rng.chance(60);
         calls.push(call);
         if restart {

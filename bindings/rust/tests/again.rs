@@ -1,0 +1,289 @@
+//! Plans of 128 requests of all kinds: accepted, pinned, run again in part and in any order; too long, too short, refused in the middle. Each test has a stack of 1 MiB.
+
+use thurgoleo::{
+    Choice, Hold, Kind, Part, Plan, Planner, Pool, Refusal, Request, Use, Want, STATE_SIZE,
+};
+
+const KINDS: [Kind; 7] = [
+    Kind::Mmio,
+    Kind::Pio,
+    Kind::Input,
+    Kind::Host,
+    Kind::Device,
+    Kind::Event,
+    Kind::Lpi,
+];
+
+extern "C" {
+    fn planner_plan(
+        state: *mut u64,
+        size: u64,
+        requests: *const u64,
+        n: usize,
+        results: *mut u64,
+        m: usize,
+    ) -> u64;
+}
+
+fn small_stack(run: fn()) {
+    std::thread::Builder::new()
+        .stack_size(1 << 20)
+        .spawn(run)
+        .unwrap()
+        .join()
+        .unwrap();
+}
+
+// The numbers of a splitmix64 generator.
+struct Rng(u64);
+
+impl Rng {
+    fn below(&mut self, n: usize) -> usize {
+        self.0 = self.0.wrapping_add(0x9e37_79b9_7f4a_7c15);
+        let mut x = self.0;
+        x = (x ^ (x >> 30)).wrapping_mul(0xbf58_476d_1ce4_e5b9);
+        x = (x ^ (x >> 27)).wrapping_mul(0x94d0_49bb_1331_11eb);
+        ((x ^ (x >> 31)) % n as u64) as usize
+    }
+}
+
+fn stand() -> Box<Planner> {
+    let mut p = Box::new(Planner::new());
+    for used in [Use::Automatic, Use::Fixed] {
+        p.add_pool(
+            used,
+            Pool::Mmio {
+                start: 0x1000,
+                end: 0x100_0000,
+            },
+        )
+        .unwrap();
+        p.add_pool(
+            used,
+            Pool::Pio {
+                start: 0x100,
+                end: 0xf000,
+            },
+        )
+        .unwrap();
+        p.add_pool(
+            used,
+            Pool::Input {
+                controller: 0,
+                start: 16,
+                end: 200,
+            },
+        )
+        .unwrap();
+        p.add_pool(
+            used,
+            Pool::Host {
+                start: 32,
+                end: 400,
+            },
+        )
+        .unwrap();
+        p.add_pool(
+            used,
+            Pool::Msi {
+                controller: 0,
+                its: 0,
+                devices: 0..64,
+                events: 0..256,
+                lpis: 8192..9000,
+            },
+        )
+        .unwrap();
+    }
+    p.reserve(
+        9,
+        Hold::Mmio {
+            start: 0x2000,
+            end: 0x3000,
+        },
+    )
+    .unwrap();
+    p.reserve(9, Hold::Host { start: 33, end: 35 }).unwrap();
+    p.start().unwrap();
+    p
+}
+
+fn mixed(n: u32) -> Vec<Request> {
+    (0..n)
+        .map(|i| {
+            let want = match i % 5 {
+                0 => Want::Mmio {
+                    size: 0x1000 << (i % 3),
+                    alignment: 0x1000,
+                    choice: Choice::Auto,
+                },
+                1 => Want::Pio {
+                    size: 8,
+                    alignment: 8,
+                    choice: Choice::Auto,
+                },
+                2 => Want::Input {
+                    controller: 0,
+                    trigger: 1,
+                    sharing: 0,
+                    choice: Choice::Auto,
+                },
+                3 => Want::HostIrq {
+                    choice: Choice::Auto,
+                },
+                _ => Want::Msi {
+                    controller: 0,
+                    its: 0,
+                    count: 1 + i % 4,
+                    device: Choice::Auto,
+                    event: Choice::Auto,
+                    lpi: Choice::Auto,
+                },
+            };
+            Request {
+                requester: 100 + i,
+                slot: i,
+                want,
+            }
+        })
+        .collect()
+}
+
+fn numbers(requests: &[Request]) -> Vec<u64> {
+    let mut plan = Box::new(Plan::new());
+    let mut all = Vec::new();
+    for part in requests.chunks(128) {
+        *plan = Plan::new();
+        part.iter().for_each(|r| plan.push(r).unwrap());
+        all.extend_from_slice(plan.requests());
+    }
+    all
+}
+
+// The call itself, on lists of any length: the numbers filled.
+fn run(words: &mut [u64], requests: &[u64], results: &mut [u64]) -> usize {
+    unsafe {
+        planner_plan(
+            words.as_mut_ptr(),
+            STATE_SIZE as u64,
+            requests.as_ptr(),
+            requests.len(),
+            results.as_mut_ptr(),
+            results.len(),
+        ) as usize
+    }
+}
+
+// The last five numbers of a state: number, index, namespace, owner, detail.
+fn answer(words: &[u64]) -> &[u64] {
+    &words[words.len() - 5..]
+}
+
+#[test]
+fn the_same_again_in_any_choice_and_order() {
+    small_stack(|| {
+        let mut first = stand();
+        let mut plan = Box::new(Plan::new());
+        mixed(128).iter().for_each(|r| plan.push(r).unwrap());
+        first.plan(&mut plan).unwrap();
+        let granted: Vec<_> = plan.granted().map(|g| g.numbers()).collect();
+        plan.pin();
+        let pinned = plan.requests().to_vec();
+        let mut rng = Rng(7);
+        for turn in 0..200 {
+            let mut order: Vec<usize> = (0..128).collect();
+            (1..128).rev().for_each(|i| order.swap(i, rng.below(i + 1)));
+            order.truncate(if turn < 20 { 128 } else { rng.below(129) });
+            let lines: Vec<u64> = order
+                .iter()
+                .flat_map(|i| pinned[12 * i..12 * i + 12].to_vec())
+                .collect();
+            let mut words = stand().as_words().to_vec();
+            let mut results = vec![5; 9 * order.len() + 3];
+            assert_eq!(run(&mut words, &lines, &mut results), 9 * order.len());
+            assert_eq!(answer(&words), [0; 5]);
+            order
+                .iter()
+                .enumerate()
+                .for_each(|(k, i)| assert_eq!(results[9 * k..9 * k + 9], granted[*i]));
+            assert_eq!(results[9 * order.len()..], [5; 3]);
+            let again = Box::new(Planner::from_words(words.try_into().unwrap()));
+            let rows: u64 = KINDS.iter().map(|k| again.used(Part::Owners, *k)).sum();
+            let msi = order.iter().filter(|i| **i % 5 == 4).count();
+            assert_eq!(rows as usize, 2 + order.len() + 2 * msi);
+        }
+    });
+}
+
+#[test]
+fn too_many_and_too_short() {
+    small_stack(|| {
+        let before = stand().as_words().to_vec();
+        for (requests, room) in [(129, 9 * 129), (128, 9 * 128 - 1), (1, 8), (1, 0)] {
+            let mut words = before.clone();
+            let mut results = vec![5; room];
+            assert_eq!(run(&mut words, &numbers(&mixed(requests)), &mut results), 0);
+            assert_eq!(answer(&words), [11, 0, 0, 0, 0]);
+            assert_eq!(words[..words.len() - 5], before[..before.len() - 5]);
+            assert!(results.iter().all(|x| *x == 5));
+        }
+        for cut in 1..12 {
+            let mut words = before.clone();
+            assert_eq!(run(&mut words, &numbers(&mixed(2))[cut..], &mut [0; 18]), 0);
+            assert_eq!(answer(&words)[0], 11);
+        }
+        let mut words = before.clone();
+        assert_eq!(run(&mut words, &[], &mut []), 0);
+        assert_eq!(answer(&words), [0; 5]);
+    });
+}
+
+#[test]
+fn a_refusal_in_the_middle_puts_everything_back() {
+    small_stack(|| {
+        let before = stand().as_words().to_vec();
+        let mut requests = mixed(128);
+        requests[77].want = Want::HostIrq {
+            choice: Choice::Fixed(33),
+        };
+        let mut words = before.clone();
+        let mut results = vec![5; 9 * 128];
+        assert_eq!(run(&mut words, &numbers(&requests), &mut results), 9 * 77);
+        assert_eq!(answer(&words), [8, 77, 4, 9, 4]);
+        assert_eq!(words[..words.len() - 5], before[..before.len() - 5]);
+        let mut alone = before.clone();
+        let mut first = vec![5; 9 * 77];
+        run(&mut alone, &numbers(&requests[..77]), &mut first);
+        assert_eq!(results[..9 * 77], first);
+        assert!(results[9 * 77..].iter().all(|x| *x == 5));
+    });
+}
+
+#[test]
+fn a_count_too_large_in_any_table_is_malformed() {
+    small_stack(|| {
+        let before = stand().as_words().to_vec();
+        // the counts stand first in each table: 14 pool tables of 97 words, then twice six range tables of 513 and one of inputs of 385
+        let mut at = 0;
+        let sizes: Vec<usize> = [97; 14]
+            .into_iter()
+            .chain([513, 513, 385, 513, 513, 513, 513].repeat(2))
+            .collect();
+        for size in sizes {
+            for count in [129, u64::MAX] {
+                let mut words = before.clone();
+                words[at] = count;
+                let kept = words.clone();
+                assert_eq!(run(&mut words, &numbers(&mixed(3)), &mut [0; 27]), 0);
+                assert_eq!(answer(&words), [1, 0, 0, 0, 0]);
+                assert_eq!(words[..words.len() - 5], kept[..kept.len() - 5]);
+            }
+            at += size;
+        }
+        assert_eq!(at + 5, before.len());
+        assert_eq!(
+            Planner::from_words([u64::MAX; STATE_SIZE / 8]).start(),
+            Err(Refusal::Malformed)
+        );
+    });
+}

@@ -1,0 +1,302 @@
+// Small spaces of calls, all of them: few numbers, every pool, every hold, every two or three requests.
+
+use super::flat::{step_of, Step};
+use super::run::Family;
+use super::Digits;
+use crate::calls::{Add, Answer, Call, Choice, Hold, Need, PoolRange, Request};
+use crate::judge::Judge;
+
+/// Set-ups, and requests that are asked upon each of them, so many one after the other.
+struct Space {
+    name: &'static str,
+    setups: Vec<Vec<Add>>,
+    needs: Vec<Need>,
+    depth: usize,
+}
+
+pub fn families(large: bool) -> Vec<Family> {
+    let numbers = if large { 4 } else { 3 };
+    let mut all: Vec<Family> = [
+        addresses("mmio at 0", 0, numbers, mmio),
+        addresses("mmio at the top", u64::MAX - numbers, numbers, mmio),
+        addresses("pio at the top", u64::from(u16::MAX) - numbers, numbers, pio),
+        hosts(numbers),
+        inputs(),
+        messages(large),
+    ]
+    .into_iter()
+    .map(asked)
+    .collect();
+    all.push(added("pools", pools(), 3));
+    all.push(added("holds", holds(), 3));
+    all.push(added("inputs and pairs", pairs(), 3));
+    all
+}
+
+/// One sequence for each set-up and first request, with every choice of later ones behind it.
+fn asked(space: Space) -> Family {
+    let firsts = space.needs.len() as u64;
+    let name = format!("all calls of {}", space.name);
+    Family::calls(&name, space.setups.len() as u64 * firsts, move |index| {
+        let mut digits = Digits(index);
+        let first = digits.pick(&space.needs);
+        let mut tour = Tour { judge: Judge::fresh(), steps: Vec::new(), path: Vec::new() };
+        for add in digits.pick(&space.setups) {
+            tour.call(Call::Add(add));
+        }
+        tour.call(Call::Start);
+        tour.visit(&first, &space);
+        tour.steps
+    })
+}
+
+/// Calls that go through every list of requests. What is refused changes nothing, so only a granted one is undone: by a start
+/// and the requests before it once more.
+struct Tour {
+    judge: Judge,
+    steps: Vec<Step>,
+    path: Vec<Request>,
+}
+
+impl Tour {
+    fn call(&mut self, call: Call) -> Answer {
+        self.steps.push(step_of(&call));
+        self.judge.call(&call).answer
+    }
+
+    fn visit(&mut self, need: &Need, space: &Space) {
+        let request = Request { requester: self.path.len() as u32 + 1, slot: 0, need: need.clone() };
+        if self.call(Call::Request(request.clone())).is_refused() {
+            return;
+        }
+        self.path.push(request);
+        if self.path.len() < space.depth {
+            for need in &space.needs {
+                self.visit(need, space);
+            }
+        }
+        self.path.pop();
+        self.call(Call::Start);
+        for request in self.path.clone() {
+            self.call(Call::Request(request));
+        }
+    }
+}
+
+/// Every list of so many of the calls that add, from fresh tables.
+fn added(name: &str, adds: Vec<Add>, length: u32) -> Family {
+    let count = (adds.len() as u64).pow(length);
+    Family::calls(&format!("all calls that add {name}"), count, move |index| {
+        let mut digits = Digits(index);
+        (0..length).map(|_| step_of(&Call::Add(digits.pick(&adds)))).collect()
+    })
+}
+
+/// All ranges between a base and so many numbers behind it.
+fn ranges(base: u64, numbers: u64) -> Vec<std::ops::Range<u64>> {
+    (0..numbers).flat_map(|start| (start + 1..=numbers).map(move |end| base + start..base + end)).collect()
+}
+
+fn with_none<T: Clone>(some: &[T]) -> Vec<Option<T>> {
+    std::iter::once(None).chain(some.iter().cloned().map(Some)).collect()
+}
+
+/// A kind of address: a pool range and a hold of it, and a request by size, alignment and base.
+struct Address {
+    pool: fn(std::ops::Range<u64>) -> PoolRange,
+    hold: fn(std::ops::Range<u64>) -> Hold,
+    need: fn(u64, u64, Choice<u64>) -> Need,
+}
+
+const fn mmio() -> Address {
+    Address {
+        pool: PoolRange::Mmio,
+        hold: Hold::Mmio,
+        need: |size, alignment, base| Need::Mmio { size, alignment, base },
+    }
+}
+
+const fn pio() -> Address {
+    Address {
+        pool: |r| PoolRange::Pio(r.start as u16..r.end as u16),
+        hold: |r| Hold::Pio(r.start as u16..r.end as u16),
+        need: |size, alignment, base| {
+            let base = match base {
+                Choice::Auto => Choice::Auto,
+                Choice::Fixed(number) => Choice::Fixed(number as u16),
+            };
+            Need::Pio { size: size as u16, alignment: alignment as u16, base }
+        },
+    }
+}
+
+/// One or two pools, for both uses, and a hold or none.
+fn range_setups(
+    base: u64,
+    numbers: u64,
+    pool: impl Fn(std::ops::Range<u64>) -> PoolRange,
+    hold: impl Fn(std::ops::Range<u64>) -> Hold,
+) -> Vec<Vec<Add>> {
+    let ranges = ranges(base, numbers);
+    let mut setups = Vec::new();
+    for first in &ranges {
+        for second in with_none(&ranges) {
+            for held in with_none(&ranges) {
+                let mut adds = Vec::new();
+                for range in [Some(first.clone()), second.clone()].into_iter().flatten() {
+                    for fixed in [false, true] {
+                        adds.push(Add::Pool { fixed, range: pool(range.clone()) });
+                    }
+                }
+                adds.extend(held.map(|range| Add::Hold { owner: 9, what: hold(range) }));
+                setups.push(adds);
+            }
+        }
+    }
+    setups
+}
+
+fn choices(base: u64, numbers: u64) -> Vec<Choice<u64>> {
+    let mut choices = vec![Choice::Auto];
+    choices.extend((0..=numbers).map(|number| Choice::Fixed(base + number)));
+    choices
+}
+
+fn addresses(name: &'static str, base: u64, numbers: u64, kind: fn() -> Address) -> Space {
+    let Address { pool, hold, need } = kind();
+    let mut needs = Vec::new();
+    for size in 1..=numbers.min(3) {
+        for alignment in if numbers > 3 { vec![1, 2, 4] } else { vec![1, 2] } {
+            needs.extend(choices(base, numbers).into_iter().map(|base| need(size, alignment, base)));
+        }
+    }
+    Space { name, setups: range_setups(base, numbers, pool, hold), needs, depth: 2 }
+}
+
+fn hosts(numbers: u64) -> Space {
+    let needs = choices(0, numbers).into_iter().map(|irq| Need::Host { irq }).collect();
+    Space { name: "host", setups: range_setups(0, numbers, PoolRange::Host, Hold::Host), needs, depth: 3 }
+}
+
+/// Two numbers, two triggers, both sharings.
+fn inputs() -> Space {
+    let codes = [(0, 0), (0, 1), (1, 0), (1, 1)];
+    let holds: Vec<Hold> = (0..2)
+        .flat_map(|input| codes.map(|(trigger, sharing)| Hold::Input { controller: 0, input, trigger, sharing }))
+        .collect();
+    let mut setups = Vec::new();
+    for first in ranges(0, 2) {
+        for second in ranges(0, 2) {
+            for held in with_none(&holds) {
+                let pool = |fixed, inputs| Add::Pool { fixed, range: PoolRange::Input { controller: 0, inputs } };
+                let mut adds = vec![pool(false, first.clone()), pool(true, second.clone())];
+                adds.extend(held.map(|what| Add::Hold { owner: 9, what }));
+                setups.push(adds);
+            }
+        }
+    }
+    let mut needs = Vec::new();
+    for input in choices(0, 1) {
+        needs.extend(codes.map(|(trigger, sharing)| Need::Input { controller: 0, trigger, sharing, input }));
+    }
+    Space { name: "input", setups, needs, depth: 3 }
+}
+
+/// One or two ITSs of one controller; each of the three choices automatic or fixed on its own.
+fn messages(large: bool) -> Space {
+    let mut setups = Vec::new();
+    let ends: &[[u32; 3]] =
+        if large { &[[1, 1, 1], [1, 2, 3], [2, 1, 3], [2, 2, 2], [2, 2, 4]] } else { &[[1, 2, 3], [2, 2, 4]] };
+    let its = if large { 2 } else { 1 };
+    let holds = [
+        Hold::Device { controller: 0, its: 0, devices: 0..1 },
+        Hold::Event { controller: 0, its: 0, device: 0, events: 0..1 },
+        Hold::Lpi { controller: 0, lpis: 0..1 },
+    ];
+    for [devices, events, lpis] in ends {
+        for held in with_none(&holds) {
+            let mut adds = Vec::new();
+            for its in 0..its {
+                for fixed in [false, true] {
+                    let (devices, events, lpis) = (0..*devices, 0..*events, 0..*lpis);
+                    adds.push(Add::Domain { fixed, controller: 0, its, devices, events, lpis });
+                }
+            }
+            adds.extend(held.map(|what| Add::Hold { owner: 9, what }));
+            setups.push(adds);
+        }
+    }
+    let three = [Choice::Auto, Choice::Fixed(0), Choice::Fixed(1)];
+    let mut needs = Vec::new();
+    for its in 0..its {
+        for count in [1, 2] {
+            for device in three {
+                for event in three {
+                    needs.extend(three.map(|lpi| Need::Msi { controller: 0, its, count, device, event, lpi }));
+                }
+            }
+        }
+    }
+    Space { name: "msi", setups, needs, depth: 2 }
+}
+
+/// Pool ranges of both uses, empty and turned round ones too, and MSI domains.
+fn pools() -> Vec<Add> {
+    let mut adds = Vec::new();
+    for (start, end) in [(0, 1), (0, 2), (1, 2), (1, 3), (2, 2), (3, 1)] {
+        let wide = start..end;
+        let (narrow, half) = (start as u32..end as u32, start as u16..end as u16);
+        for range in [
+            PoolRange::Mmio(wide.clone()),
+            PoolRange::Pio(half),
+            PoolRange::Host(wide.clone()),
+            PoolRange::Input { controller: 0, inputs: wide.clone() },
+            PoolRange::Input { controller: 1, inputs: wide },
+        ] {
+            adds.push(Add::Pool { fixed: start == 1, range });
+        }
+        let other = narrow.clone();
+        for (devices, events, lpis) in [(narrow.clone(), 0..1, 0..1), (0..1, narrow, 0..1), (0..1, 0..1, other)] {
+            adds.push(Add::Domain { fixed: start == 1, controller: 0, its: 1, devices, events, lpis });
+        }
+    }
+    adds
+}
+
+/// Reservations of the range kinds in two domains.
+fn holds() -> Vec<Add> {
+    let mut adds = Vec::new();
+    for (owner, start, end) in [(1, 0, 1), (2, 0, 3), (3, 1, 2), (4, 2, 2), (0, 4, 5)] {
+        let wide = start..end;
+        let narrow = || start as u32..end as u32;
+        for what in [
+            Hold::Mmio(wide.clone()),
+            Hold::Pio(start as u16..end as u16),
+            Hold::Host(wide),
+            Hold::Device { controller: 0, its: 0, devices: narrow() },
+            Hold::Device { controller: 0, its: 1, devices: narrow() },
+            Hold::Event { controller: 0, its: 0, device: 0, events: narrow() },
+            Hold::Event { controller: 0, its: 0, device: 1, events: narrow() },
+            Hold::Lpi { controller: 0, lpis: narrow() },
+        ] {
+            adds.push(Add::Hold { owner, what });
+        }
+    }
+    adds
+}
+
+/// Inputs, host IRQs and the two together.
+fn pairs() -> Vec<Add> {
+    let mut adds = Vec::new();
+    for owner in [0, 1, 2] {
+        for trigger in [0, 4] {
+            adds.push(Add::Hold { owner, what: Hold::Input { controller: 0, input: 0, trigger, sharing: 1 } });
+            for (input, host) in [(0, 0), (0, 1), (1, 0), (u64::MAX, u64::MAX - 1), (1, u64::MAX)] {
+                adds.push(Add::Pair { owner, controller: 0, input, host, trigger });
+            }
+        }
+        adds.push(Add::Hold { owner, what: Hold::Host(0..1) });
+        adds.push(Add::Hold { owner, what: Hold::Host(1..u64::MAX) });
+    }
+    adds
+}

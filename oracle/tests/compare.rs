@@ -1,0 +1,82 @@
+// The comparison itself: nothing differs from itself, every broken answer is noticed, numbers mean what they should.
+
+use oracle::broken;
+use oracle::calls::{Call, Choice, Need, Request};
+use oracle::compare::face::{Behind, Face, Plain};
+use oracle::compare::flat::{meaning, request_of, step_of, Meaning, Step};
+use oracle::compare::{families, run};
+use oracle::gen;
+
+#[test]
+fn every_call_is_read_back() {
+    for index in 0..2_000 {
+        for call in gen::sequence(11, index) {
+            let meant = match &call {
+                Call::OfKind(request) => Meaning::Lent(request.clone(), 9),
+                call => Meaning::Call(call.clone()),
+            };
+            assert_eq!(meaning(&step_of(&call)), meant);
+        }
+    }
+}
+
+#[test]
+fn the_judge_does_not_differ_from_itself() {
+    for family in families(300, 3) {
+        if family.count < 60_000 {
+            let report = run(&family, 2, &|| Box::new(Behind::new(Plain)));
+            assert_eq!((report.compared, report.differ), (family.count, 0), "{}: {:?}", family.name, report.shown);
+        }
+    }
+}
+
+#[test]
+fn every_broken_answer_is_noticed() {
+    let families = families(2_000, 7);
+    let all = broken::all();
+    assert!(all.len() >= 12);
+    for broken in all {
+        assert!(broken.noticed(&families).is_some(), "{}", broken.name);
+    }
+}
+
+/// Answers to calls that no typed call is.
+#[test]
+fn odd_numbers() {
+    let mut face = Behind::new(Plain);
+    let mut number = |numbers: &[u64]| face.step(&Step::Call(numbers.to_vec())).answer[0];
+    assert_eq!(number(&[]), 11);
+    assert_eq!(number(&[0]), 2);
+    assert_eq!(number(&[5]), 2);
+    assert_eq!(number(&[1, 0, 1, 0]), 11);
+    assert_eq!(number(&[1, 2, 1, 0, 1]), 2);
+    assert_eq!(number(&[1, 0, 6]), 2);
+    assert_eq!(number(&[1, 0, 2, 0, 65_536]), 2);
+    assert_eq!(number(&[1, 0, 1, 0, 8, 99, 99]), 0);
+    assert_eq!(number(&[2, 1 << 32, 1, 0, 1]), 2);
+    assert_eq!(number(&[2, 0, 1, 0, 1]), 3);
+    assert_eq!(number(&[2, 1, 1, 0, 1]), 0);
+    // Asked before a start: the owner table does not begin with the reservation.
+    assert_eq!(number(&[4]), 1);
+    assert_eq!(number(&[4, 1, 1, 0, 1, 1, 0, 0, 0, 0, 0, 0, 0]), 1);
+    assert_eq!(number(&[3]), 0);
+    assert_eq!(number(&[4]), 11);
+    assert_eq!(number(&[4, 1, 1, 0, 1, 1, 0, 2, 0, 0, 0, 0, 0]), 2);
+    assert_eq!(number(&[4, 1, 1, 0, 1, 1, 0, 0, 0, 7, 7, 7, 7]), 0);
+    let rows = face.tables().owners[0].iter().map(|row| (row.start, row.end)).collect::<Vec<_>>();
+    assert_eq!(rows, [(0, 1), (1, 2)]);
+}
+
+#[test]
+fn a_request_of_numbers() {
+    let bad = Request { requester: 0, slot: 0, need: Need::Host { irq: Choice::Auto } };
+    let msi = [5, 1, 2, 3, 4, 5, 0, 99, 1, 7, 0, 1 << 40];
+    let need =
+        Need::Msi { controller: 3, its: 4, count: 5, device: Choice::Auto, event: Choice::Fixed(7), lpi: Choice::Auto };
+    assert_eq!(request_of(&msi), Request { requester: 1, slot: 2, need });
+    for at in [0, 1, 2, 3, 4, 5, 6, 8, 9, 10] {
+        let mut odd = msi;
+        odd[at] = 1 << 32;
+        assert_eq!(request_of(&odd), bad, "{at}");
+    }
+}
