@@ -137,7 +137,7 @@ impl Library {
     /// Now and then, by the library's own call, the last answer and one row against what is stored: each time another table.
     fn look(&mut self, tables: &Tables) {
         self.calls += 1;
-        if self.calls % LOOK != 0 {
+        if !self.calls.is_multiple_of(LOOK) {
             return;
         }
         self.looks += 1;

@@ -118,7 +118,10 @@ impl fmt::Display for Report {
         for (name, (inputs, places)) in &self.excused {
             writeln!(f, "departure {name}: {inputs} inputs, {places} places, compared with 01's answer")?;
         }
-        writeln!(f, "{} answers under no departure are the bare original's word for word", self.bare_same)
+        if self.bare_same > 0 {
+            writeln!(f, "{} answers under no departure are the bare original's word for word", self.bare_same)?;
+        }
+        Ok(())
     }
 }
 
