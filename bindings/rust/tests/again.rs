@@ -227,6 +227,16 @@ fn too_many_and_too_short() {
             assert_eq!(words[..words.len() - 5], before[..before.len() - 5]);
             assert!(results.iter().all(|x| *x == 5));
         }
+        for room in 0..=9 {
+            let mut words = before.clone();
+            let mut results = vec![5; room];
+            let filled = run(&mut words, &numbers(&mixed(1)), &mut results);
+            assert_eq!(
+                (filled, answer(&words)[0]),
+                if room == 9 { (9, 0) } else { (0, 11) }
+            );
+            assert!(room == 9 || results.iter().all(|x| *x == 5));
+        }
         for cut in 1..12 {
             let mut words = before.clone();
             assert_eq!(run(&mut words, &numbers(&mixed(2))[cut..], &mut [0; 18]), 0);
