@@ -1,7 +1,7 @@
 // Both sides give the same answers and leave the same tables: looked at before anything is timed.
 
 use crate::input::{flat, Input};
-use crate::ours::{self, OfKind};
+use crate::ours::{self, CoreOf, OfKind};
 use crate::tables::{State, Told, RECORD};
 use crate::theirs::{spelt, Theirs};
 use oracle::calls::{Answer, Request};
@@ -25,6 +25,7 @@ pub fn check(input: &Input, requests: &[Request]) {
     let mut allocated = resolved.clone();
     let mut told = Box::new(Told { state: *resolved, record: [0; RECORD] });
     let mut kinds: Vec<OfKind> = (1..=5).map(|kind| OfKind::of(&resolved, kind)).collect();
+    let mut cores: Vec<CoreOf> = (1..=5).map(|kind| CoreOf::of(&resolved, kind)).collect();
     for request in requests {
         assert!(sound(&resolved), "{}: tables before {request:?}", input.name);
         let granted = judge.request(request);
@@ -33,6 +34,9 @@ pub fn check(input: &Input, requests: &[Request]) {
         let numbers = flat(request);
         // SAFETY: the tables were found sound.
         unsafe { ours::resolve(&mut resolved, &numbers) };
+        let core = &mut cores[numbers[0] as usize - 1];
+        // SAFETY: they are among the tables that were found sound.
+        unsafe { core.grant(&numbers) };
         ours::allocate(&mut allocated, &numbers);
         ours::allocate_into(&mut told, &numbers);
         let kind = &mut kinds[numbers[0] as usize - 1];
@@ -43,6 +47,7 @@ pub fn check(input: &Input, requests: &[Request]) {
         assert!(told.state == *expected, "{}: allocate_into after {request:?}", input.name);
         assert_eq!(told.record, record, "{}: the record of {request:?}", input.name);
         assert!(kind.stands_in(&expected), "{}: the kind's call after {request:?}", input.name);
+        assert!(*core == CoreOf::of(&expected, numbers[0]), "{}: the kind's core after {request:?}", input.name);
     }
 }
 
@@ -59,22 +64,46 @@ pub fn lent(state: &State) -> Box<crate::tables::Lent> {
     Box::new(crate::tables::Lent { state: *state, results: [0; RECORD * crate::tables::ROWS] })
 }
 
-/// The same requests as one plan: every record, every number behind them, every column.
+/// The tables before a plan, and what it must leave: every record, every number behind them, every column.
 #[cfg(feature = "plan")]
-pub fn check_plan(input: &Input, requests: &[Request]) {
+fn planned(input: &Input, requests: &[Request]) -> (Box<State>, Box<crate::tables::Lent>) {
     let mut judge = judge(input);
     let state = State::of(judge.tables());
-    let (mut bare, mut whole) = (lent(&state), lent(&state));
-    let numbers: Vec<ours::Flat> = requests.iter().map(flat).collect();
-    let granted = judge.plan(requests, bare.results.len());
+    let granted = judge.plan(requests, RECORD * crate::tables::ROWS);
     assert_eq!(granted.answer, Answer::Accepted, "{}", input.name);
     let mut expected = lent(&State::of(judge.tables()));
     expected.results[..granted.records.len() * RECORD].copy_from_slice(granted.records.as_flattened());
+    (state, expected)
+}
+
+#[cfg(feature = "plan")]
+fn same(input: &Input, call: &str, got: &crate::tables::Lent, expected: &crate::tables::Lent) {
+    assert!(got.state == expected.state, "{}: the tables after {call}", input.name);
+    assert_eq!(got.results, expected.results, "{}: the records of {call}", input.name);
+}
+
+/// The same requests as one plan.
+#[cfg(feature = "plan")]
+pub fn check_plan(input: &Input, requests: &[Request]) {
+    let (state, expected) = planned(input, requests);
+    let (mut bare, mut whole) = (lent(&state), lent(&state));
+    let numbers: Vec<ours::Flat> = requests.iter().map(flat).collect();
     // SAFETY: the tables of a judge that has just started are sound.
     unsafe { ours::run(&mut bare, &numbers) };
     ours::plan(&mut whole, &numbers);
-    for (got, call) in [(&bare, "run"), (&whole, "plan")] {
-        assert!(got.state == expected.state, "{}: the tables after {call}", input.name);
-        assert_eq!(got.results, expected.results, "{}: the records of {call}", input.name);
-    }
+    same(input, "run", &bare, &expected);
+    same(input, "plan", &whole, &expected);
+}
+
+/// The same requests as a list of structs, through both doors; the part handed back is all records.
+#[cfg(feature = "list")]
+pub fn check_list(input: &Input, requests: &[Request]) {
+    let (state, expected) = planned(input, requests);
+    let (mut left, mut handed) = (lent(&state), lent(&state));
+    let list: Vec<_> = requests.iter().map(crate::list::Request::of).collect();
+    ours::list_in(&mut left, &list);
+    let filled = ours::list_part(&mut handed, &list);
+    same(input, "listed::plan_in", &left, &expected);
+    same(input, "listed::plan", &handed, &expected);
+    assert_eq!(filled, requests.len() * RECORD, "{}: the filled part", input.name);
 }

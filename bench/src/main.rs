@@ -2,6 +2,8 @@
 
 mod agree;
 mod input;
+#[cfg(feature = "list")]
+mod list;
 mod ours;
 mod stack;
 mod tables;
@@ -9,7 +11,7 @@ mod theirs;
 mod time;
 
 use input::{flat, request, run, Input, RUN, SHORT};
-use ours::OfKind;
+use ours::{CoreOf, OfKind};
 use stack::taken_by;
 use tables::{State, Told, RECORD};
 use theirs::{spelt, Spelt, Theirs};
@@ -29,6 +31,8 @@ fn main() {
         }
         #[cfg(feature = "plan")]
         [RUN, SHORT].iter().for_each(|length| agree::check_plan(input, &run(*length)));
+        #[cfg(feature = "list")]
+        [RUN, SHORT].iter().for_each(|length| agree::check_list(input, &run(*length)));
     }
     println!("answers and tables agree\n");
     tests(&inputs);
@@ -62,8 +66,11 @@ fn tests(inputs: &[Input]) {
 }
 
 fn single_requests(input: &Input) {
-    println!("| one request, {} | original | `resolve` | ratio | kind's call, with its test | ratio |", input.name);
-    println!("|---|---|---|---|---|---|");
+    println!(
+        "| one request, {} | original | kind's core | ratio | kind's call, with its test | ratio | `resolve` | ratio |",
+        input.name
+    );
+    println!("|---|---|---|---|---|---|---|---|");
     let state = started(input);
     let pools = Theirs::with(&input.adds);
     for (kind, fixed) in singles() {
@@ -74,19 +81,23 @@ fn single_requests(input: &Input) {
         let resolve = median(BATCH, || state.clone(), |state| unsafe { ours::resolve(state, &numbers) });
         let of_kind = || Box::new(OfKind::of(&state, numbers[0]));
         let call = median(BATCH, of_kind, |tables| tables.allocate(&numbers));
+        let core_of = || Box::new(CoreOf::of(&state, numbers[0]));
+        // SAFETY: the tables were found sound.
+        let core = median(BATCH, core_of, |tables| unsafe { tables.grant(&numbers) });
         let choice = if fixed { "fixed" } else { "automatic" };
         println!(
-            "| {}, {choice} | {base:.3} us | {resolve:.2} us | {:.1} | {call:.2} us | {:.1} |",
+            "| {}, {choice} | {base:.3} us | {core:.3} us | {:.1} | {call:.2} us | {:.1} | {resolve:.2} us | {:.1} |",
             KINDS[kind - 1],
-            resolve / base,
-            call / base
+            core / base,
+            call / base,
+            resolve / base
         );
     }
     // SAFETY: the tables were found sound.
     let find = median(BATCH, || state.clone(), |state| unsafe { ours::find(state, 0x1000, 0x1000) });
     let words = spelt(&request(1, false, 0));
     let base = median(BATCH, || pools.started(), |theirs| theirs.allocate(&words));
-    println!("| the search alone, MMIO | {base:.3} us | {find:.3} us | {:.2} | | |\n", find / base);
+    println!("| the search alone, MMIO | {base:.3} us | {find:.3} us | {:.2} | | | | |\n", find / base);
 }
 
 /// Requests one after another, and as one plan where there are plans.
@@ -130,6 +141,13 @@ fn run_of(input: &Input, length: usize) {
         // SAFETY: the tables were found sound.
         row("`run`, one plan", median(1, make, |lent| unsafe { ours::run(lent, &numbers) }));
         row("`plan`, the test and one plan", median(1, make, |lent| ours::plan(lent, &numbers)));
+    }
+    #[cfg(feature = "list")]
+    {
+        let make = || agree::lent(&state);
+        let list: Vec<_> = requests.iter().map(list::Request::of).collect();
+        row("`listed::plan_in`, over a list of structs", median(1, make, |lent| ours::list_in(lent, &list)));
+        row("`listed::plan`, its filled part handed back", median(1, make, |lent| ours::list_part(lent, &list)));
     }
 }
 
@@ -181,6 +199,16 @@ fn stacks(input: &Input) {
         // SAFETY: the tables were found sound.
         row("`run`, one plan", taken_by(|| unsafe { ours::run(&mut bare, &numbers) }));
         row("`plan`, the test and one plan", taken_by(|| ours::plan(&mut whole, &numbers)));
+    }
+    #[cfg(feature = "list")]
+    {
+        let list: Vec<_> = run(RUN).iter().map(list::Request::of).collect();
+        let (mut left, mut handed) = (agree::lent(&state), agree::lent(&state));
+        row("`listed::plan_in`", taken_by(|| ours::list_in(&mut left, &list)));
+        let part = || {
+            std::hint::black_box(ours::list_part(&mut handed, &list));
+        };
+        row("`listed::plan`", taken_by(part));
     }
     let find = || {
         // SAFETY: the tables were found sound.

@@ -1,8 +1,10 @@
 // The proved calls. This is the one place that names the symbols of the linked library.
 
+#[cfg(feature = "list")]
+use crate::list::Request;
 #[cfg(feature = "plan")]
 use crate::tables::Lent;
-use crate::tables::{MsiSet, Ranges, Set, State, Told, Wires, POOL_ROWS, ROWS};
+use crate::tables::{Core, MsiCore, MsiSet, Ranges, Set, State, Told, Wires, POOL_ROWS, ROWS};
 
 /// A request as twelve numbers.
 pub type Flat = [u64; 12];
@@ -22,6 +24,9 @@ mod symbols {
         pub fn timed_input(tables: *mut Set<Wires>, request: *const u64, n: usize);
         pub fn timed_host(tables: *mut Set<Ranges>, request: *const u64, n: usize);
         pub fn timed_msi(tables: *mut MsiSet, request: *const u64, n: usize);
+        pub fn timed_range_core(tables: *mut Core<Ranges>, request: *const u64, n: usize);
+        pub fn timed_wire_core(tables: *mut Core<Wires>, request: *const u64, n: usize);
+        pub fn timed_msi_core(tables: *mut MsiCore, request: *const u64, n: usize);
         #[cfg(feature = "plan")]
         pub fn timed_run(lent: *mut Lent, requests: *const u64, n: usize);
         #[cfg(feature = "plan")]
@@ -41,6 +46,32 @@ mod symbols {
             size: u64,
             alignment: u64,
         ) -> u64;
+    }
+}
+
+/// A slice as the proved code passes it on: behind a pointer to these two.
+#[cfg(feature = "list")]
+#[repr(C)]
+struct Slice<T> {
+    first: *mut T,
+    n: usize,
+}
+
+#[cfg(feature = "list")]
+mod doors {
+    use super::*;
+
+    // No exports, but the library's own functions, which `run` makes visible.
+    extern "C" {
+        #[link_name = "listed::plan_in"]
+        pub fn plan_in(state: *mut State, requests: *const Slice<Request>, results: *const Slice<u64>);
+        #[link_name = "listed::plan"]
+        pub fn plan(
+            part: *mut Slice<u64>,
+            state: *mut State,
+            requests: *const Slice<Request>,
+            results: *const Slice<u64>,
+        );
     }
 }
 
@@ -87,6 +118,37 @@ impl OfKind {
             OfKind::Input(tables) => *tables == state.input(),
             OfKind::Host(tables) => *tables == state.host(),
             OfKind::Msi(tables) => *tables == state.msi(),
+        }
+    }
+}
+
+/// The tables of one kind that are known to be sound, without the reservations: what the kind's core takes and hands back.
+#[derive(PartialEq)]
+pub enum CoreOf {
+    Range(Core<Ranges>),
+    Wire(Core<Wires>),
+    Msi(MsiCore),
+}
+
+impl CoreOf {
+    pub fn of(state: &State, kind: u64) -> Self {
+        match OfKind::of(state, kind) {
+            OfKind::Mmio(tables) | OfKind::Pio(tables) | OfKind::Host(tables) => CoreOf::Range(tables.core()),
+            OfKind::Input(tables) => CoreOf::Wire(tables.core()),
+            OfKind::Msi(tables) => CoreOf::Msi(tables.core()),
+        }
+    }
+
+    /// The by-value call of the kind, without a test.
+    ///
+    /// # Safety
+    /// The tables are sound: `judge` says 0.
+    pub unsafe fn grant(&mut self, request: &Flat) {
+        let (list, n) = (request.as_ptr(), request.len());
+        match self {
+            CoreOf::Range(tables) => symbols::timed_range_core(tables, list, n),
+            CoreOf::Wire(tables) => symbols::timed_wire_core(tables, list, n),
+            CoreOf::Msi(tables) => symbols::timed_msi_core(tables, list, n),
         }
     }
 }
@@ -162,4 +224,31 @@ pub fn plan(lent: &mut Lent, requests: &[Flat]) {
     let list = requests.as_flattened();
     // SAFETY: a whole state with its room, and a whole list; the call requires nothing more.
     unsafe { symbols::timed_plan(lent, list.as_ptr(), list.len()) }
+}
+
+/// The list and the results as the doors take them.
+#[cfg(feature = "list")]
+fn slices(results: &mut [u64], requests: &[Request]) -> (Slice<Request>, Slice<u64>) {
+    (
+        Slice { first: requests.as_ptr().cast_mut(), n: requests.len() },
+        Slice { first: results.as_mut_ptr(), n: results.len() },
+    )
+}
+
+/// A plan over a list of requests, on the state lent.
+#[cfg(feature = "list")]
+pub fn list_in(lent: &mut Lent, requests: &[Request]) {
+    let (list, results) = slices(&mut lent.results, requests);
+    // SAFETY: a whole state, and whole lists; the call requires nothing more, and reads the requests only.
+    unsafe { doors::plan_in(&mut lent.state, &list, &results) }
+}
+
+/// The same, and how long the filled part is that it hands back.
+#[cfg(feature = "list")]
+pub fn list_part(lent: &mut Lent, requests: &[Request]) -> usize {
+    let (list, results) = slices(&mut lent.results, requests);
+    let mut part = Slice { first: std::ptr::null_mut(), n: 0 };
+    // SAFETY: as in `list_in`; the part is written by the call.
+    unsafe { doors::plan(&mut part, &mut lent.state, &list, &results) };
+    part.n
 }

@@ -5,9 +5,8 @@ use mathlib.Core.Logic.{_⊎_, inl, inr}
 use mathlib.Core.List.{List, [], _∷_}
 use Prim.Native.Nat.{ℕ}
 use lib.Dec.{T}
-use Rattle.definition.specs.Rows.{poolLimit, Kind, sameKind, Span, sameSpan, Row}
-use Rattle.definition.specs.Refusal.{Said, says, Answer, accepted, refused}
-use Rattle.definition.specs.Sound.{Table, used, blankSpan, tidy}
+use Rattle.definition.specs.Tables.{poolLimit, Kind, sameKind, Span, sameSpan, Row, Table, used, blankSpan, tidy}
+use Rattle.definition.specs.Base.{Said, says, Answer, accepted, refused}
 use Rattle.definition.specs.Pools.{at-kind, addRange}
 use Rattle.definition.specs.Request.{Use, automatic, fixed}
 use Rattle.definition.specs.Calls.{State as Given, state, sameUse, addAll}

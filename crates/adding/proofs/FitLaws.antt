@@ -2,10 +2,9 @@
 use mathlib.Core.Path.{_≡_}
 use mathlib.Core.Bool.{false}
 use Prim.Native.Nat.{ℕ, _≤_}
-use lib.Dec.{T, leb}
+use lib.Dec.{T}
 use borrow.Author.Tests.{le-leb}
-use Rattle.definition.specs.Rows.{top, dom, within, Kind, nature, span, rangeRow}
-use Rattle.definition.specs.Sound.{fits, fitsSpan}
+use Rattle.definition.specs.Tables.{top, dom, within, Kind, nature, span, rangeRow, fits, fitsSpan}
 
 module _ (k : Kind) (c i : ℕ) (hc : c ≤ nature k .domTop .controller) (hi : i ≤ nature k .domTop .its)
     (s e : ℕ) (hs : s ≤ nature k .top) (he : e ≤ nature k .top) where

@@ -5,10 +5,8 @@ use mathlib.Core.Logic.{_⊎_, inl, inr}
 use mathlib.Core.List.{List, [], _∷_}
 use Prim.Native.Nat.{_≤_}
 use lib.Dec.{T}
-use Rattle.definition.specs.Base.{allOf}
-use Rattle.definition.specs.Rows.{rowLimit, Kind, input, sameKind, Row}
-use Rattle.definition.specs.Refusal.{Said, Answer, accepted, refused, _then_}
-use Rattle.definition.specs.Sound.{Table}
+use Rattle.definition.specs.Base.{allOf, Said, Answer, accepted, refused, _then_}
+use Rattle.definition.specs.Tables.{rowLimit, Kind, input, sameKind, Row, Table}
 use Rattle.definition.specs.Pools.{at-kind, Holders as Rows, Claim, rowsOf, room, allUnreserved, reserve}
 use Rattle.definition.specs.Calls.{State as Given, state, heldOf, pushAll, holding, settle}
 use Rattle.definition.specs.BaseLaws.{T-true, T-false, either}

@@ -1,9 +1,8 @@
 -- An input and a host IRQ reserved together: both or neither. Assumes nothing.
 use mathlib.Core.Path.{_≡_, refl, sym, _∙_, ap}
 use mathlib.Core.List.{List, [], _∷_}
-use Rattle.definition.specs.Rows.{Kind, input, host, sameKind, Row}
-use Rattle.definition.specs.Refusal.{Answer, accepted, refused}
-use Rattle.definition.specs.Sound.{used}
+use Rattle.definition.specs.Tables.{Kind, input, host, sameKind, Row, used}
+use Rattle.definition.specs.Base.{Answer, accepted, refused}
 use Rattle.definition.specs.Pools.{at-kind, Claim, rowsOf, reserve}
 use Rattle.definition.specs.Calls.{State as Given, state, heldOf, pushAll}
 use Rattle.definition.specs.TableLaws.{push-nil}

@@ -1,7 +1,7 @@
 -- One table put for another: what each kind reads afterwards. Assumes nothing.
 use mathlib.Core.Path.{_≡_, refl}
 use mathlib.Core.Bool.{true, false}
-use Rattle.definition.specs.Rows.{Kind, mmio, pio, input, host, device, event, lpi, sameKind}
+use Rattle.definition.specs.Tables.{Kind, mmio, pio, input, host, device, event, lpi, sameKind}
 use Rattle.tables.specs.Views.{poolOf, rangesView, wiresView, holdersView}
 use Rattle.tables.specs.declared.Pool.{Pool}
 use Rattle.tables.specs.declared.Ranges.{Ranges}

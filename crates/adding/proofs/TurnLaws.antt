@@ -2,9 +2,8 @@
 use mathlib.Core.Path.{_≡_, refl, sym, _∙_, ap}
 use mathlib.Core.List.{List, [], _∷_}
 use Prim.Native.Nat.{ℕ}
-use Rattle.definition.specs.Rows.{Span}
-use Rattle.definition.specs.Refusal.{says, Answer, accepted, refused}
-use Rattle.definition.specs.Sound.{used}
+use Rattle.definition.specs.Tables.{Span, used}
+use Rattle.definition.specs.Base.{says, Answer, accepted, refused}
 use Rattle.definition.specs.Pools.{In, addRange}
 use Rattle.definition.specs.Request.{Use}
 use Rattle.definition.specs.Calls.{State, state, addAll}

@@ -1,5 +1,5 @@
 -- The kinds that code names, as the definition's. Assumes nothing.
-use Rattle.definition.specs.Rows.{Kind as DKind, mmio, pio, input, host, device, event, lpi}
+use Rattle.definition.specs.Tables.{Kind as DKind, mmio, pio, input, host, device, event, lpi}
 use Rattle.adding.specs.declared.insert.Kind.{Kind}
 use Rattle.adding.specs.declared.insert.Kind.the-variants as K
 use Rattle.adding.specs.declared.reserve.RangeKind.{RangeKind}

@@ -4,9 +4,8 @@ use mathlib.Core.Bool.{true, false}
 use mathlib.Core.List.{List}
 use lib.Dec.{T}
 use Prim.Native.Nat.{ℕ, _≤_}
-use Rattle.definition.specs.Rows.{poolLimit, rowLimit, top, Kind, mmio, pio, input, host, device, event, lpi, sameKind, Span, sameSpan, Row}
-use Rattle.definition.specs.Refusal.{Said, says, accepted, _then_}
-use Rattle.definition.specs.Sound.{Table, used, blankSpan, tidy}
+use Rattle.definition.specs.Tables.{poolLimit, rowLimit, top, Kind, mmio, pio, input, host, device, event, lpi, sameKind, Span, sameSpan, Row, Table, used, blankSpan, tidy}
+use Rattle.definition.specs.Base.{Said, says, accepted, _then_}
 use Rattle.definition.specs.Pools.{In, addRange, Claim, reserve}
 use Rattle.definition.specs.Request.{Use, automatic, fixed}
 use Rattle.definition.specs.Calls.{State as Given, state, heldOf, holding, settle, addAll}

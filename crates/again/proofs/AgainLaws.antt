@@ -6,8 +6,8 @@ use Prim.Native.Nat.{ℕ, _*_, _/_}
 use native.Mathlib.Omega.{arith}
 use lib.ListN.{length, drop, length-map}
 use Rattle.definition.specs.BaseLaws.{eq→eqb, T-true}
-use Rattle.definition.specs.Rows.{recordSize, Kind, kinds}
-use Rattle.definition.specs.Refusal.{malformed, short, refused, require}
+use Rattle.definition.specs.Tables.{recordSize, Kind, kinds}
+use Rattle.definition.specs.Base.{malformed, short, refused, require}
 use Rattle.definition.specs.Pools.{rowsOf}
 use Rattle.definition.specs.Request.{Request}
 use Rattle.definition.specs.Calls.{State, poolsOf, heldOf, ownersOf, start, serve, sound, settle, granting, starting}

@@ -6,8 +6,8 @@ use Prim.Native.Nat.{ℕ, zero, suc, _+_, _*_, _≤_, _<_}
 use native.Mathlib.Omega.{arith}
 use lib.ListN.{length, getD, take, drop, length-append, length-take, length-drop, List·getD-map}
 use lib.Seq.{getD-take, getD-drop, take-at, drop-append-add}
-use Rattle.definition.specs.Rows.{recordSize, mmio, pio, input, host, device, event, lpi, dom, Row}
-use Rattle.definition.specs.Refusal.{Answer, accepted, refused, badInput, full, require, _then_}
+use Rattle.definition.specs.Tables.{recordSize, mmio, pio, input, host, device, event, lpi, dom, Row}
+use Rattle.definition.specs.Base.{Answer, accepted, refused, badInput, full, require, _then_}
 use Rattle.definition.specs.Pools.{Holders, Claim, _⊕_, room, at-kind}
 use Rattle.definition.specs.Request.{Choice, auto, at, Want, memory, ports, wire, irq, msi, Request, goodRequest, Need, need, wireNeed, one, rowAt, found, lowest, allowed, obstacle, unopposed, automatic, fixed, Pools, place, claims, resolve}
 use Rattle.definition.specs.Plan.{Grant, grant, done, run, allRows, record-of, recordOf, records}

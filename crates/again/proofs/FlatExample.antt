@@ -5,10 +5,8 @@ use Prim.Native.Nat.{ℕ}
 use lib.Count.{onesIn}
 use lib.Dec.{lit≤}
 use lib.ListN.{replicate}
-use Rattle.definition.specs.Base.{anyOf, allOf, pairsOf, firstOf, lower, leastOf}
-use Rattle.definition.specs.Rows.{recordSize, kinds, sameKind, sameDom, within, sameSpan, sameRow, overlap, meets, joins, clash}
-use Rattle.definition.specs.Refusal.{require}
-use Rattle.definition.specs.Sound.{tidy, fits, fitsSpan, goodRow, goodSpan, begins, inOrder, soundTable}
+use Rattle.definition.specs.Base.{anyOf, allOf, pairsOf, firstOf, lower, leastOf, require}
+use Rattle.definition.specs.Tables.{recordSize, kinds, sameKind, sameDom, within, sameSpan, sameRow, overlap, meets, joins, clash, tidy, fits, fitsSpan, goodRow, goodSpan, begins, inOrder, soundTable}
 use Rattle.definition.specs.Pools.{mmioPool, pioPool, hostPool, inputPool, msiPool, insert, unlessThere, addRange, rowsOf, _⊕_, room, mmioHold, inputHold, unreserved, allUnreserved, reserve}
 use Rattle.definition.specs.Request.{goodChoice, oneBit, goodWant, goodRequest, rowAt, aligned, holds, free, alignUp, candidates, lowest, allowed, unjoined, obstacle, detail, found, unopposed, Use, automatic, fixed, place, claims, resolve}
 use Rattle.definition.specs.Calls.{State, fresh, poolsOf, givenAt, soundAt, given, sound, pushAll, granting, starting, Call, pool, hold, start, addAll, serve}

@@ -2,9 +2,8 @@
 use mathlib.Core.Path.{_≡_, sym, ap, _∙_}
 use mathlib.Core.List.{List, _++_}
 use Prim.Native.Nat.{ℕ}
-use Rattle.definition.specs.Rows.{recordSize, Kind, kinds}
-use Rattle.definition.specs.Refusal.{silence, says}
-use Rattle.definition.specs.Sound.{used}
+use Rattle.definition.specs.Tables.{recordSize, Kind, kinds, used}
+use Rattle.definition.specs.Base.{silence, says}
 use Rattle.definition.specs.Pools.{rowsOf}
 use Rattle.definition.specs.Calls.{ownersOf, heldOf, start, serve, granting, starting}
 use Rattle.definition.specs.Calls as D

@@ -3,7 +3,7 @@ use mathlib.Core.Path.{_≡_}
 use mathlib.Core.List.{List, [], _∷_, _++_}
 use Prim.Native.Nat.{ℕ, zero, suc, _+_, _*_, _/_, _≤_}
 use lib.ListN.{length, getD, take, drop}
-use Rattle.definition.specs.Rows.{recordSize, dom, mmio, pio, input, host, device, event, lpi, kinds, rangeRow, wiredRow}
+use Rattle.definition.specs.Tables.{recordSize, dom, mmio, pio, input, host, device, event, lpi, kinds, rangeRow, wiredRow}
 use Rattle.definition.specs.Pools.{at-kind, Claim}
 use Rattle.definition.specs.Calls.{State, poolsOf, start, serve}
 use Rattle.definition.specs.Plan.{Lent}

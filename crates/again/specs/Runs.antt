@@ -3,7 +3,7 @@ use mathlib.Core.Path.{_≡_}
 use mathlib.Core.List.{List}
 use Prim.Native.Nat.{ℕ, _*_, _/_, _≤_}
 use lib.ListN.{length}
-use Rattle.definition.specs.Rows.{recordSize, kinds}
+use Rattle.definition.specs.Tables.{recordSize, kinds}
 use Rattle.definition.specs.Calls.{poolsOf, start, serve}
 use Rattle.definition.specs.Plan.{lent}
 use Rattle.definition.specs.RequestLaws.{AutoInFixed}

@@ -1,9 +1,9 @@
 -- Nine stores are the nine numbers in front of the rest. Assumes nothing.
 use mathlib.Core.Path.{_≡_, refl}
-use mathlib.Core.List.{List, [], _∷_, _++_}
+use mathlib.Core.List.{List, [], _∷_}
 use Prim.Native.Nat.{ℕ, _≤_}
 use native.Mathlib.Omega.{arith}
-use lib.ListN.{length, set, drop}
+use lib.ListN.{length, set}
 use Rattle.definition.specs.Plan.{written}
 
 pub nine-stores : (k q s a b c d e f : ℕ) (out : List ℕ) → 9 ≤ length out

@@ -1,17 +1,16 @@
 -- The tables' test before the answer, as the definition's calls have it. Assumes nothing.
-use mathlib.Core.Path.{_≡_, refl, sym, _∙_, ap, ap₂}
-use mathlib.Core.Bool.{Bool, true, false}
-use mathlib.Core.List.{List, [], _∷_}
+use mathlib.Core.Path.{_≡_, refl, _∙_, ap, ap₂}
+use mathlib.Core.Bool.{true, false}
+use mathlib.Core.List.{List}
 use Prim.Native.Nat.{ℕ, _<_, _≤_}
 use native.Mathlib.Omega.{arith}
-use lib.Dec.{leb}
 use lib.ListN.{length}
 use borrow.Author.Tests.{lt-leb, le-leb}
-use Rattle.definition.specs.Rows.{recordSize, Kind}
-use Rattle.definition.specs.Refusal.{Refusal, malformed, short, tell, Answer, accepted, refused, require, _then_}
+use Rattle.definition.specs.Tables.{recordSize, Kind}
+use Rattle.definition.specs.Base.{Refusal, malformed, short, tell, Answer, accepted, refused, require}
 use Rattle.definition.specs.Pools.{Claim}
 use Rattle.definition.specs.Request.{Request, resolve}
-use Rattle.definition.specs.Calls.{State, poolsOf, ownersOf, sound, saying, granting, settle, want, serve}
+use Rattle.definition.specs.Calls.{State, poolsOf, ownersOf, sound, saying, granting, want, serve}
 use Rattle.definition.specs.Plan.{grant, recordOf, written, lent, allocateInto}
 use Rattle.resolve.specs.Outcomes.{basesIn, after}
 use Rattle.resolve.specs.declared.Bases.{Bases}

@@ -3,7 +3,7 @@ use mathlib.Core.Path.{_≡_}
 use mathlib.Core.List.{List, [], _∷_}
 use Prim.Native.Nat.{ℕ}
 use Rattle.definition.specs.Pools.{Claim}
-use Rattle.definition.specs.Refusal.{accepted}
+use Rattle.definition.specs.Base.{accepted}
 use Rattle.definition.specs.Plan.{grant, recordOf}
 use Rattle.request.specs.Asked.{requestOf}
 use Rattle.request.specs.declared.Request.{Request}

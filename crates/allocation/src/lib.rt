@@ -7,7 +7,7 @@ use tables::State;
 ghost use mathlib.Core.Path.{_≡_};
 ghost use Prim.Native.Nat.{_≤_};
 ghost use lib.ListN.{length};
-ghost use Rattle.definition.specs.Rows.{recordSize, kinds};
+ghost use Rattle.definition.specs.Tables.{recordSize, kinds};
 ghost use Rattle.definition.specs.Calls.{want, serve};
 ghost use Rattle.definition.specs.Plan.{written, lent, allocateInto};
 ghost use Rattle.tables.specs.Views.{stateView};

@@ -1,24 +1,24 @@
 -- THE LAW: a text's wants, taken line by line, are answered as one plan of their requests. Assumes nothing.
-use mathlib.Core.Path.{_≡_, refl, sym, subst, ap, _∙_}
+use mathlib.Core.Path.{_≡_, refl, sym, ap, _∙_}
 use mathlib.Core.Bool.{Bool, true, false}
-use mathlib.Core.List.{List, [], _∷_, _++_, List·Memᴰ, append-assoc, append-nil}
-use Prim.Native.Nat.{ℕ, zero, suc, _+_, _≤_, _<_}
+use mathlib.Core.List.{List, [], _∷_, _++_, append-assoc, append-nil}
+use Prim.Native.Nat.{ℕ, suc, _+_, _≤_, _<_}
 use native.Mathlib.Omega.{arith}
-use lib.Dec.{T, eqb, ltb}
-use lib.ListN.{length, set, replicate}
-use borrow.Author.Tests.{lt-ltb, eq-eqb, ne-eqb}
-use Rattle.definition.specs.Rows.{planLimit, recordSize, Kind, kinds}
-use Rattle.definition.specs.Refusal.{Refusal, malformed, badLine, short, Said, silence, tell, Answer, accepted, refused, require}
-use Rattle.definition.specs.Sound.{Table}
+use lib.Dec.{T, eqb}
+use lib.ListN.{length, replicate}
+use borrow.Author.Tests.{lt-ltb, ne-eqb}
+use Rattle.definition.specs.Tables.{planLimit, recordSize, Kind, kinds}
+use Rattle.definition.specs.Base.{Refusal, Said, silence, tell, Answer, accepted, refused, require}
 use Rattle.definition.specs.Pools.{Holders, Claim, rowsOf, _⊕_}
-use Rattle.definition.specs.Request.{Request, Pools, resolve}
-use Rattle.definition.specs.Calls.{State, state, poolsOf, ownersOf, given, sound, saying, pushAll, granting, starting, start, serve}
-use Rattle.definition.specs.Plan.{Grant, grant, Run, done, stopped, after, run, record-of, recordOf, records, Lent, lent, allocateInto, allRows}
-use Rattle.definition.specs.BaseLaws.{T-true, true-T}
+use Rattle.definition.specs.Request.{Request, resolve}
+use Rattle.definition.specs.Calls.{State, state, poolsOf, ownersOf, given, sound, saying, pushAll, granting, starting}
+use Rattle.definition.specs.Plan.{grant, Run, done, stopped, after, run, recordOf, records, lent, allocateInto, allRows}
+use Rattle.definition.specs.BaseLaws.{T-true}
 use Rattle.definition.specs.RowLaws.{every-kind}
 use Rattle.definition.specs.ClaimLaws.{rows-append, fits-one}
+use Rattle.definition.specs.TableLaws.{push-append}
 use Rattle.definition.specs.ResolveLaws.{Resolved, resolved, rows-kept}
-use Rattle.definition.specs.StateLaws.{Sound, SoundFor, given-for, sound-for, for-sound, sound-ground, sound-fits, granting-sound, start-sound}
+use Rattle.definition.specs.StateLaws.{Sound, SoundFor, given-for, for-sound, sound-ground, sound-fits, granting-sound, start-sound}
 use Rattle.definition.specs.PlanLaws.{tell-number, start-is}
 use Rattle.definition.specs.RunLaws.{run-accepted, run-refused}
 use Rattle.lines.specs.Output.{gotLines, endLine, noLine}
@@ -27,11 +27,6 @@ use Rattle.lines.proofs.WantLaws.{want-record}
 use Rattle.asking.specs.Asking.{asks, askAll, plainly, ending, reply}
 
 -- ---- rows pushed one grant after the other, or all at once
-
-push-append : {A : Type 0} (t : Table A) (xs ys : List A) → pushAll t (xs ++ ys) ≡ pushAll (pushAll t xs) ys
-unfolding pushAll
-push-append t [] ys = refl
-push-append t (x ∷ xs) ys = push-append (record { count = suc (t .count); rows = set (t .rows) (t .count) x }) xs ys
 
 granting-append : (cs ds : List Claim) (s : State) → granting (cs ++ ds) s ≡ granting ds (granting cs s)
 granting-append cs ds s = λ i. state (s .pools) (s .held) (λ k. (ap (pushAll (s .owners k)) (rows-append k cs ds) ∙ push-append (s .owners k) (rowsOf k cs) (rowsOf k ds)) i) silence

@@ -4,20 +4,21 @@ use mathlib.Core.Logic.{_⊎_, inl, inr}
 use mathlib.Core.Bool.{Bool, true, false}
 use mathlib.Core.List.{List, [], _∷_, _++_}
 use mathlib.Core.Option.{Option, none, some}
-use Prim.Native.Nat.{ℕ, zero, suc, _+_, _≤_, _<_}
+use Prim.Native.Nat.{ℕ, suc, _+_, _≤_, _<_}
 use native.Mathlib.Omega.{arith}
 use lib.Dec.{eqb, ltb}
-use lib.ListN.{length, drop, replicate}
+use lib.ListN.{length, replicate}
 use borrow.Author.Tests.{ne-eqb}
-use Rattle.definition.specs.Rows.{planLimit, recordSize, kinds}
-use Rattle.definition.specs.Refusal.{badLine, short}
+use Rattle.definition.specs.Tables.{planLimit, recordSize, kinds}
+use Rattle.definition.specs.Base.{badLine}
 use Rattle.definition.specs.Request.{Request}
 use Rattle.definition.specs.Calls.{saying, Call, pool, hold, start, want}
 use Rattle.definition.specs.Plan.{Lent, allocateInto}
 use Rattle.lines.specs.Line.{readLine}
-use Rattle.lines.specs.Text.{Sofar, sofar, accepts, next, refuse, setUp, opened, answered, ask, take-line, step, Fed, fed, feedParts, unfinished, closedBy, close}
-use Rattle.lines.proofs.FeedLaws.{step-stands, step-bad, step-full, feed-stands, close-ended, close-open}
-use Rattle.asking.specs.Asking.{wanted, setsUp, asks, askAll, plainly, ending}
+use Rattle.lines.specs.Text.{Sofar, accepts, next, refuse, setUp, opened, answered, ask, take-line, step, feedParts, unfinished, closedBy, close}
+use Rattle.lines.specs.Head.{adds}
+use Rattle.lines.proofs.FeedLaws.{step-stands, step-full, feed-stands}
+use Rattle.asking.specs.Asking.{wanted, asks, askAll, plainly, ending}
 use Rattle.asking.proofs.AskLaws.{stands}
 
 -- ---- one want more
@@ -99,7 +100,7 @@ late : (t : Sofar) (c : Call) → 0 < t .wants → setUp t c ≡ refuse t badLin
 unfolding setUp
 late t c n = rw (ne-eqb (t .wants) 0 (λ e. omega arith), setUp)
 
-take-other : (t : Sofar) (o : Option Call) → wanted o ≡ none → (0 < t .wants) ⊎ (setsUp o ≡ false) → take-line t o ≡ refuse t badLine
+take-other : (t : Sofar) (o : Option Call) → wanted o ≡ none → (0 < t .wants) ⊎ (adds o ≡ false) → take-line t o ≡ refuse t badLine
 take-other t none e h = refl
 take-other t (some start) e h = refl
 take-other t (some (want r)) e h = absurd (let z : _≡_ {A = ℕ} 0 1 = cc in omega arith)
@@ -120,7 +121,7 @@ module _ (t : Sofar) (l : List ℕ) (ps : List (List ℕ)) where
       (λ q. ap (λ (u : Sofar). close (feedParts step u ps)) (step-stands t l q) ∙ close-stands t ps q)
 
   -- no want: 10
-  pub end-bad : wanted (readLine l) ≡ none → (accepts (t .state) ≡ true → (0 < t .wants) ⊎ (setsUp (readLine l) ≡ false)) → close (feedParts step (step t l) ps) ≡ ending 10 t
+  pub end-bad : wanted (readLine l) ≡ none → (accepts (t .state) ≡ true → (0 < t .wants) ⊎ (adds (readLine l) ≡ false)) → close (feedParts step (step t l) ps) ≡ ending 10 t
   unfolding step
   end-bad e h = end-line 10 refl (λ q. rw (q, step) (take-other t (readLine l) e (h q)))
 

@@ -1,11 +1,11 @@
 -- The wants of a text taken together: their requests in turn, what ends them, and the bytes that answer them. Assumes nothing.
-use mathlib.Core.Bool.{Bool, true, false}
+use mathlib.Core.Bool.{true, false}
 use mathlib.Core.List.{List, [], _∷_, _++_}
 use mathlib.Core.Option.{Option, none, some}
 use Prim.Native.Nat.{ℕ, suc, _+_}
 use lib.Dec.{eqb}
 use lib.ListN.{length}
-use Rattle.definition.specs.Refusal.{Said, says, tell}
+use Rattle.definition.specs.Base.{Said, says, tell}
 use Rattle.definition.specs.Request.{Request}
 use Rattle.definition.specs.Calls.{saying, Call, pool, hold, start, want}
 use Rattle.definition.specs.Plan.{Run, done, stopped, records}
@@ -20,14 +20,6 @@ wanted (some (pool u p)) = none
 wanted (some (hold o h)) = none
 wanted (some start) = none
 wanted (some (want r)) = some r
-
--- a `pool` or a `hold`
-abbrev pub setsUp : Option Call → Bool
-setsUp none = false
-setsUp (some (pool u p)) = true
-setsUp (some (hold o h)) = true
-setsUp (some start) = false
-setsUp (some (want r)) = false
 
 -- ---- requests in turn, each on what the ones before it left; a refusal stands
 

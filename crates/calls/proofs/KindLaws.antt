@@ -1,33 +1,28 @@
 -- The answer of one kind is the definition's on the state that has the kind's tables, and so are the tables afterwards. Assumes nothing.
 use mathlib.Core.Path.{_≡_, refl, sym, _∙_, ap, subst}
-use mathlib.Core.Bool.{Bool, true, false, _&&_}
+use mathlib.Core.Bool.{Bool, true, false}
 use mathlib.Core.List.{List, [], _∷_}
 use Prim.Native.Nat.{ℕ}
 use lib.Dec.{eqb}
 use lib.ListN.{replicate}
 use borrow.Author.Tests.{eq-eqb}
-use Rattle.definition.specs.Base.{allOf}
-use Rattle.definition.specs.Rows.{poolLimit, rowLimit, Kind, nature, sameKind, Span, Row}
-use Rattle.definition.specs.Refusal.{Refusal, malformed, badInput, Said, silence, tell, Answer, accepted, refused, require, _then_}
-use Rattle.definition.specs.Sound.{Table, used, blankSpan, blankRow}
-use Rattle.definition.specs.Pools.{at-kind, Claim, rowsOf}
+use Rattle.definition.specs.Base.{allOf, Refusal, malformed, badInput, Said, silence, tell, Answer, accepted, refused, require, _then_}
+use Rattle.definition.specs.BaseLaws.{and-true}
+use Rattle.definition.specs.Tables.{rowLimit, Kind, nature, sameKind, Span, Row, Table, blankRow}
+use Rattle.definition.specs.Pools.{Claim, rowsOf}
 use Rattle.definition.specs.Request.{automatic, fixed, one, claims, goodRequest, resolve}
 use Rattle.definition.specs.Request as R
 use Rattle.definition.specs.Calls.{State, state, pushAll, poolsOf, ownersOf, sound, soundAt, granting, settle, want, serve}
-use Rattle.choose.specs.Told.{told, refusalOf, chosenIn}
+use Rattle.choose.specs.Told.{told, chosenIn}
 use Rattle.choose.specs.declared.Chosen.{Chosen}
 use Rattle.choose.specs.declared.Chosen.the-variants.{Stands, Refused}
 use Rattle.grant.specs.Grants.{rowGot}
 use Rattle.resolve.specs.Outcomes.{after}
 use Rattle.resolve.proofs.AnswerLaws.{claimOf, one-claimed}
-use Rattle.calls.specs.Kinds.{onlyAt, poolAs, tablesAt, answerOf, asked, saidBy, rowsSaid}
+use Rattle.calls.specs.Kinds.{onlyAt, tablesAt, answerOf, asked, saidBy, rowsSaid}
 
 pub only-same : {A : Type 0} (k : Kind) (a b : A) → onlyAt k k a b ≡ a
 only-same k a b = rw (eq-eqb (nature k .number) (nature k .number) refl, onlyAt)
-
-and-true : (b : Bool) → b && true ≡ b
-and-true true = refl
-and-true false = refl
 
 pub sound-alone : (v : State) (k : Kind) → sound (k ∷ []) v ≡ soundAt v k
 unfolding sound allOf
@@ -97,8 +92,8 @@ kind-after k a f h o o′ i (accepted r) e = λ d.
 
 -- ---- the ways out of a call
 
-module _ (b g : Bool) (y : Answer Row) where
-  pub served-stands : (x : Answer Row) → b ≡ true → g ≡ true → x ≡ y → x ≡ require b malformed (require g badInput y)
+module _ {A : Type 0} (b g : Bool) (y : Answer A) where
+  pub served-stands : (x : Answer A) → b ≡ true → g ≡ true → x ≡ y → x ≡ require b malformed (require g badInput y)
   unfolding require
   served-stands x p q e = rw (p, q) e
 

@@ -1,31 +1,28 @@
 -- The answer of an MSI call is the definition's on the state that has its tables, and so are the tables afterwards. Assumes nothing.
 use mathlib.Core.Path.{_≡_, refl, sym, _∙_, ap, ap₂, subst}
-use mathlib.Core.Bool.{Bool, true, false, _&&_}
-use mathlib.Core.List.{List, [], _∷_}
+use mathlib.Core.Bool.{Bool, true, _&&_}
+use mathlib.Core.List.{List}
 use Prim.Native.Nat.{ℕ}
 use lib.Dec.{T}
-use Rattle.definition.specs.Base.{allOf}
-use Rattle.definition.specs.BaseLaws.{and-l, and-r, T-true, true-T}
-use Rattle.definition.specs.Rows.{Kind, mmio, pio, input, host, device, event, lpi, sameKind, Row}
-use Rattle.definition.specs.Refusal.{malformed, badInput, Said, silence, tell, Answer, accepted, refused, require}
-use Rattle.definition.specs.Sound.{Table}
+use Rattle.definition.specs.Base.{allOf, malformed, badInput, Said, silence, tell, Answer, require}
+use Rattle.definition.specs.BaseLaws.{and-l, and-r, T-true, true-T, and-true}
+use Rattle.definition.specs.Tables.{Kind, mmio, pio, input, host, device, event, lpi, sameKind, Row, Table}
 use Rattle.definition.specs.Pools.{Claim, rowsOf}
 use Rattle.definition.specs.Request.{automatic, fixed, rowAt, goodRequest, resolve}
 use Rattle.definition.specs.Request as R
-use Rattle.definition.specs.Calls.{State, state, pushAll, poolsOf, ownersOf, sound, soundAt, want, serve}
+use Rattle.definition.specs.Calls.{State, state, pushAll, poolsOf, ownersOf, sound, soundAt}
 use Rattle.definition.specs.StateLaws.{Sound, sound-says}
-use Rattle.tables.specs.Views.{poolView, rangesView}
+use Rattle.tables.specs.Views.{rangesView}
 use Rattle.tables.specs.declared.Ranges.{Ranges}
-use Rattle.spans.specs.Tests.{limitsOf}
 use Rattle.sound.proofs.KindLaws.{set-ranges}
-use Rattle.choose.specs.Told.{choiceOf, refusalOf}
-use Rattle.msi.specs.Msi.{Ready, part, msiRows, toldMsi, msiIn, msiWant}
+use Rattle.choose.specs.Told.{refusalOf}
+use Rattle.msi.specs.Msi.{Ready, msiRows, toldMsi, msiWant}
 use Rattle.msi.specs.declared.Msi.{Msi}
 use Rattle.msi.specs.declared.MsiChosen.{MsiChosen}
 use Rattle.msi.specs.declared.MsiChosen.the-variants.{Stands, Refused}
 use Rattle.grant.specs.Grants.{claimsGot}
 use Rattle.resolve.specs.Outcomes.{after}
-use Rattle.resolve.proofs.AnswerLaws.{msi-is, resolve-good}
+use Rattle.resolve.proofs.AnswerLaws.{msi-is}
 use Rattle.resolve.proofs.ReadyLaws.{ready}
 use Rattle.calls.specs.declared.RangeTables.{RangeTables}
 use Rattle.calls.specs.declared.MsiTables.{MsiTables}
@@ -33,10 +30,6 @@ use Rattle.calls.specs.declared.MsiAnswer.{MsiAnswer}
 use Rattle.calls.specs.Kinds.{answerOf, asked}
 use Rattle.calls.specs.Msis.{keeping, setOf, setMsi, amongThree, msiState, three, saidMsi, basesSaid, MsiServed, ServesMsi}
 use Rattle.calls.proofs.KindLaws.{serve-after}
-
-and-true : (b : Bool) → b && true ≡ b
-and-true true = refl
-and-true false = refl
 
 and-parts : (a b c : Bool) → a && (b && c) ≡ true → (a ≡ true) × (b ≡ true) × (c ≡ true)
 and-parts a b c e =
@@ -82,20 +75,6 @@ msi-passed t e =
       event = ready event (t .event .auto) (t .event .fixed) v f (f .given .pools automatic) (f .given .pools fixed);
       lpi = ready lpi (t .lpi .auto) (t .lpi .fixed) v l (l .given .pools automatic) (l .given .pools fixed);
     }
-
--- the ways out of a call
-module _ (b g : Bool) (y : Answer (List Claim)) where
-  pub msi-stands : (x : Answer (List Claim)) → b ≡ true → g ≡ true → x ≡ y → x ≡ require b malformed (require g badInput y)
-  unfolding require
-  msi-stands x p q e = rw (p, q) e
-
-  pub msi-bad : b ≡ true → g ≡ false → refused badInput ≡ require b malformed (require g badInput y)
-  unfolding require
-  msi-bad p q = rw (p, q)
-
-  pub msi-malformed : b ≡ false → refused malformed ≡ require b malformed (require g badInput y)
-  unfolding require
-  msi-malformed p = rw p
 
 -- the state afterwards
 msi-after : (t : MsiTables) (x y z : Table Row) (m : Msi) (c : MsiChosen) (i : Said)

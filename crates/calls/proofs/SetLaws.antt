@@ -1,13 +1,11 @@
 -- What the test of a kind's tables gives, and from the core's promise to the call's. Assumes nothing.
 use mathlib.Core.Path.{_≡_, refl, sym, _∙_, ap}
-use mathlib.Core.Bool.{Bool, true, false}
-use mathlib.Core.List.{List, [], _∷_}
+use mathlib.Core.Bool.{Bool, true}
+use mathlib.Core.List.{[], _∷_}
 use Prim.Native.Nat.{ℕ, _≤_}
-use lib.Dec.{T}
 use Rattle.definition.specs.BaseLaws.{true-T}
-use Rattle.definition.specs.Rows.{poolLimit, rowLimit, Kind, input, nature, Span, Row}
-use Rattle.definition.specs.Refusal.{malformed, badInput, Said, silence, Answer, require}
-use Rattle.definition.specs.Sound.{Table, used}
+use Rattle.definition.specs.Tables.{poolLimit, rowLimit, Kind, input, Span, Row, Table, used}
+use Rattle.definition.specs.Base.{malformed, badInput, Said, silence, Answer, require}
 use Rattle.definition.specs.Request.{automatic, fixed, one, claims, goodRequest}
 use Rattle.definition.specs.Request as R
 use Rattle.definition.specs.Calls.{State, state, poolsOf, ownersOf, sound, soundAt, want, serve}
@@ -28,7 +26,6 @@ use Rattle.search.specs.declared.Need.{Need}
 use Rattle.choose.specs.Told.{choiceOf, told, chosenIn}
 use Rattle.choose.specs.Wired.{wireAsked}
 use Rattle.choose.specs.declared.Choice.{Choice}
-use Rattle.choose.specs.declared.Chosen.{Chosen}
 use Rattle.choose.specs.declared.wired.Wire.{Wire}
 use Rattle.resolve.specs.Outcomes.{after}
 use Rattle.resolve.proofs.AnswerLaws.{claimOf}
@@ -37,8 +34,8 @@ use Rattle.calls.specs.declared.RangeTables.{RangeTables}
 use Rattle.calls.specs.declared.RangeAnswer.{RangeAnswer}
 use Rattle.calls.specs.declared.WireTables.{WireTables}
 use Rattle.calls.specs.declared.WireAnswer.{WireAnswer}
-use Rattle.calls.specs.Kinds.{onlyAt, poolAs, tablesAt, rangeState, wireState, answerOf, asked, saidBy, RangeServed, WireServed, ServesRange, ServesWire}
-use Rattle.calls.proofs.KindLaws.{only-same, sound-alone, kind-answer, rows-said, serve-after, said-told, saidIn, kind-after}
+use Rattle.calls.specs.Kinds.{poolAs, tablesAt, rangeState, wireState, answerOf, asked, saidBy, RangeServed, WireServed, ServesRange, ServesWire}
+use Rattle.calls.proofs.KindLaws.{only-same, sound-alone, kind-answer, rows-said, serve-after, said-told, kind-after}
 
 pub ranged : (k : K.Kind) → Ranged (kindOf k)
 ranged Mmio = refl

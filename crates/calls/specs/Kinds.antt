@@ -4,10 +4,9 @@ use mathlib.Core.Bool.{Bool, true, false}
 use mathlib.Core.List.{List, [], _∷_}
 use Prim.Native.Nat.{ℕ, _<_}
 use lib.Dec.{eqb}
-use Rattle.definition.specs.Rows.{poolLimit, rowLimit, Kind, input, nature, Span, Row}
-use Rattle.definition.specs.Refusal.{malformed, badInput, Said, silence, tell, Answer, accepted, refused, require, _then_}
-use Rattle.definition.specs.Sound.{Table, used, blankSpan, blankRow}
-use Rattle.definition.specs.Pools.{at-kind, Claim}
+use Rattle.definition.specs.Tables.{poolLimit, rowLimit, Kind, input, nature, Span, Row, Table, used, blankSpan, blankRow}
+use Rattle.definition.specs.Base.{malformed, badInput, Said, silence, tell, Answer, accepted, refused, require}
+use Rattle.definition.specs.Pools.{Claim}
 use Rattle.definition.specs.Request.{Use, automatic, fixed, resolve}
 use Rattle.definition.specs.Request as R
 use Rattle.definition.specs.Calls.{State, state, zeros, pushAll, poolsOf, ownersOf, sound, want, serve}

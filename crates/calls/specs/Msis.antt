@@ -3,9 +3,8 @@ use mathlib.Core.Path.{_≡_}
 use mathlib.Core.Bool.{Bool, true, _&&_}
 use mathlib.Core.List.{List, [], _∷_}
 use Prim.Native.Nat.{ℕ, _<_}
-use Rattle.definition.specs.Rows.{poolLimit, rowLimit, Kind, mmio, pio, input, host, device, event, lpi, Span, Row}
-use Rattle.definition.specs.Refusal.{malformed, badInput, Said, silence, tell, Answer, accepted, refused, require}
-use Rattle.definition.specs.Sound.{Table, blankSpan, blankRow}
+use Rattle.definition.specs.Tables.{poolLimit, rowLimit, Kind, mmio, pio, input, host, device, event, lpi, blankSpan, blankRow}
+use Rattle.definition.specs.Base.{malformed, badInput, Said, silence, tell, Answer, accepted, refused, require}
 use Rattle.definition.specs.Pools.{Claim, rowsOf}
 use Rattle.definition.specs.Request as R
 use Rattle.definition.specs.Plan.{baseAt}

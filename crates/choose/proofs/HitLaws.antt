@@ -1,28 +1,23 @@
 -- From the first row that a loop found to the definition's obstacle, and the number of used rows. Assumes nothing.
-use mathlib.Core.Path.{_≡_, refl, sym, _∙_, ap}
-use mathlib.Core.Bool.{Bool, true, false}
-use mathlib.Core.List.{List, []}
+use mathlib.Core.Path.{_≡_, refl, _∙_, ap}
 use mathlib.Core.Option.{Option, none, some}
-use Prim.Native.Nat.{ℕ, suc, _+_, _^_, _<_, _≤_}
+use Prim.Native.Nat.{ℕ, _+_, _^_, _<_, _≤_}
 use native.Mathlib.Omega.{arith}
 use lib.ListN.{length}
 use Rattle.definition.specs.Base.{firstOf}
-use Rattle.definition.specs.Rows.{rowLimit, nature, Row, rangeRow, wiredRow, overlap, meets, joins}
-use Rattle.definition.specs.Sound.{used}
+use Rattle.definition.specs.Tables.{rowLimit, nature, Row, rangeRow, meets, joins, used}
 use Rattle.definition.specs.Request.{rowAt, obstacle, unjoined}
-use Rattle.tables.specs.Below.{listed, first}
-use Rattle.tables.specs.Views.{ranges, wires, rangesView, wiresView}
+use Rattle.tables.specs.Below.{first}
+use Rattle.tables.specs.Views.{rangesView, wiresView}
 use Rattle.tables.specs.declared.Ranges.{Ranges}
 use Rattle.tables.specs.declared.Wires.{Wires}
 use Rattle.tables.specs.declared.Hit.{Hit}
-use Rattle.tables.specs.declared.Hit.the-variants.{At, Clear}
-use Rattle.tables.proofs.BelowLaws.{first-ext}
 use Rattle.tables.proofs.ListedLaws.{listed-length}
 use Rattle.search.specs.Asks.{kindOf, needOf}
 use Rattle.search.specs.declared.Kind.{Kind}
 use Rattle.search.specs.declared.Kind.the-variants.{Mmio, Pio, Host, Device, Event, Lpi}
 use Rattle.search.specs.declared.Need.{Need}
-use Rattle.search.proofs.IndexLaws.{rowHit, first-listed}
+use Rattle.tables.proofs.IndexLaws.{rowHit, first-listed}
 use Rattle.search.proofs.FoundLaws.{rangeIn, wireIn, ranges-used, wires-used}
 
 pub top-fits : (k : Kind) → nature (kindOf k) .top < 2 ^ 64

@@ -1,15 +1,14 @@
 -- The ways out of `place`, and the room test behind it, over the lists of one kind. Assumes nothing.
-use mathlib.Core.Path.{_≡_, refl, sym, _∙_, ap}
-use mathlib.Core.Bool.{Bool, true, false}
+use mathlib.Core.Path.{_≡_}
+use mathlib.Core.Bool.{true, false}
 use mathlib.Core.List.{List}
-use mathlib.Core.Option.{Option, none, some}
-use Prim.Native.Nat.{ℕ, _+_, _<_, _≤_}
-use lib.Dec.{ltb}
+use mathlib.Core.Option.{none, some}
+use Prim.Native.Nat.{ℕ, _<_, _≤_}
 use lib.ListN.{length}
 use borrow.Author.Tests.{lt-ltb, le-ltb}
-use Rattle.definition.specs.Rows.{rowLimit, nature, Span, Row}
-use Rattle.definition.specs.Refusal.{full, fixedNotAllowed, exhausted, conflict, Answer, accepted, refused, require, _then_}
-use Rattle.definition.specs.Refusal as F
+use Rattle.definition.specs.Tables.{rowLimit, nature, Span, Row}
+use Rattle.definition.specs.Base.{full, fixedNotAllowed, exhausted, conflict, Answer, accepted, refused, require}
+use Rattle.definition.specs.Base as F
 use Rattle.definition.specs.Request.{Need, auto, at, rowAt, lowest, allowed, obstacle, detail, found, unopposed, place}
 use Rattle.choose.specs.Told.{placeIn, roomed}
 

@@ -1,15 +1,14 @@
 -- What the first row on an input means for a request. Assumes nothing.
-use mathlib.Core.Path.{_≡_, refl, sym, _∙_, ap}
+use mathlib.Core.Path.{_≡_, refl, sym, _∙_}
 use mathlib.Core.Bool.{Bool, true, false, _&&_}
 use mathlib.Core.Option.{Option, none, some}
-use Prim.Native.Nat.{ℕ, suc, _+_, _<_, _≤_}
+use Prim.Native.Nat.{ℕ, _≤_}
 use native.Mathlib.Numerals.{add-one}
 use native.Mathlib.Omega.{arith}
 use lib.Dec.{eqb}
 use borrow.Author.Tests.{eq-eqb, ne-eqb}
 use Rattle.definition.specs.Base.{firstOf}
-use Rattle.definition.specs.Rows.{rowLimit, input, Row, wiredRow, overlap, meets, joins}
-use Rattle.definition.specs.Sound.{used}
+use Rattle.definition.specs.Tables.{rowLimit, input, Row, wiredRow, overlap, meets, joins, used}
 use Rattle.definition.specs.Request.{rowAt, detail, obstacle, unjoined}
 use Rattle.tables.specs.Below.{first}
 use Rattle.tables.specs.Views.{wiresView}
@@ -17,7 +16,7 @@ use Rattle.tables.specs.declared.Wires.{Wires}
 use Rattle.tables.specs.declared.Hit.{Hit}
 use Rattle.tables.specs.declared.Hit.the-variants.{At, Clear}
 use Rattle.tables.proofs.BelowLaws.{first-ext}
-use Rattle.search.proofs.IndexLaws.{rowHit, first-listed}
+use Rattle.tables.proofs.IndexLaws.{rowHit, first-listed}
 use Rattle.search.proofs.FoundLaws.{wireIn, wires-used}
 use Rattle.choose.specs.Wired.{wireAsked, verdict}
 use Rattle.choose.specs.declared.wired.Wire.{Wire}

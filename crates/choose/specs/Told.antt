@@ -4,11 +4,10 @@ use mathlib.Core.List.{List}
 use Prim.Native.Nat.{ℕ}
 use lib.Dec.{ltb}
 use lib.ListN.{length}
-use Rattle.definition.specs.Rows.{rowLimit, Span, Row}
-use Rattle.definition.specs.Refusal.{malformed, badInput, fixedNotAllowed, exhausted, conflict, full, short, Answer, accepted, refused, require, _then_}
-use Rattle.definition.specs.Refusal as F
-use Rattle.definition.specs.Sound.{used}
-use Rattle.definition.specs.Request.{auto, at, Use, automatic, fixed, Pools}
+use Rattle.definition.specs.Tables.{rowLimit, Span, Row, used}
+use Rattle.definition.specs.Base.{malformed, badInput, fixedNotAllowed, exhausted, conflict, full, short, Answer, accepted, refused, require, _then_}
+use Rattle.definition.specs.Base as F
+use Rattle.definition.specs.Request.{auto, at, automatic, fixed, Pools}
 use Rattle.definition.specs.Request as R
 use Rattle.tables.specs.Views.{ranges, poolView, rangesView}
 use Rattle.tables.specs.declared.Pool.{Pool}

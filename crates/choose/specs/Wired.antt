@@ -4,8 +4,7 @@ use mathlib.Core.Bool.{true, false}
 use mathlib.Core.List.{List}
 use mathlib.Core.Option.{Option, none, some}
 use Prim.Native.Nat.{ℕ}
-use Rattle.definition.specs.Rows.{input, Span, Row, joins}
-use Rattle.definition.specs.Sound.{used}
+use Rattle.definition.specs.Tables.{input, Span, Row, joins, used}
 use Rattle.definition.specs.Request.{auto, at, rowAt, detail, wireNeed}
 use Rattle.definition.specs.Request as R
 use Rattle.tables.specs.Views.{wires, poolView, wiresView}

@@ -1,7 +1,7 @@
 // For each kind, which rows a request is granted or why it is refused, read through references to the columns: nothing is changed here.
 use search::Kind;
 ghost use mathlib.Core.Path.{_≡_};
-ghost use Rattle.definition.specs.Rows.{nature};
+ghost use Rattle.definition.specs.Tables.{nature};
 ghost use Rattle.search.specs.Asks.{kindOf};
 ghost use Rattle.choose.specs.Told.{DetailIs};
 

@@ -2,11 +2,10 @@
 use mathlib.Core.Path.{_≡_}
 use mathlib.Core.List.{List}
 use Prim.Native.Nat.{ℕ, _*_}
-use Rattle.definition.specs.Rows.{recordSize, Kind}
-use Rattle.definition.specs.Refusal.{accepted}
+use Rattle.definition.specs.Tables.{recordSize, Kind, used}
+use Rattle.definition.specs.Base.{accepted}
 use Rattle.definition.specs.Pools.{Claim}
 use Rattle.definition.specs.Plan.{grant, recordOf}
-use Rattle.definition.specs.Sound.{used}
 use Rattle.definition.specs.Request as R
 use Rattle.tables.specs.Views.{poolOf, poolsView, holdersView}
 use Rattle.tables.specs.declared.Ranges.{Ranges}

@@ -1,4 +1,4 @@
-// The turns of a plan on tables that are sound: each request takes the owner tables of its kind and hands them back, and no other table is copied.
+// The turns of a plan on tables that are sound: each request is chosen over lent columns and its rows are stored in place, so no request copies a table.
 use choose::Chosen;
 use choose::Refusal;
 use choose::wired::Wire;
@@ -14,7 +14,7 @@ use tables::Pools;
 ghost use mathlib.Core.Path.{_≡_};
 ghost use Prim.Native.Nat.{_+_, _*_, _≤_};
 ghost use lib.ListN.{length};
-ghost use Rattle.definition.specs.Rows.{planLimit, recordSize};
+ghost use Rattle.definition.specs.Tables.{planLimit, recordSize};
 ghost use Rattle.tables.specs.Views.{holdersView};
 ghost use Rattle.flat.specs.Flat.{requestSize};
 ghost use Rattle.turns.specs.Turns.{AllFull, ended, rest};
@@ -89,17 +89,45 @@ pub fn steps(
                     alignment,
                     requester,
                 };
-                let g = grant::grant_range(mmio, auto.mmio, fixed.mmio, need, choice);
-                let chosen = g.chosen;
-                match chosen {
+                let pn = auto.mmio.n;
+                let nf = fixed.mmio.n;
+                let on = mmio.n;
+                let got = choose::range::choose(
+                    &auto.mmio.controller,
+                    &auto.mmio.its,
+                    &auto.mmio.start,
+                    &auto.mmio.end,
+                    pn,
+                    &fixed.mmio.controller,
+                    &fixed.mmio.its,
+                    &fixed.mmio.start,
+                    &fixed.mmio.end,
+                    nf,
+                    &mmio.controller,
+                    &mmio.its,
+                    &mmio.device,
+                    &mmio.start,
+                    &mmio.end,
+                    &mmio.owner,
+                    on,
+                    need,
+                    choice,
+                );
+                match got {
                     Chosen::Refused(y) => {
                         return Ran {
                             owners: own,
                             stop: Stop::Before(i, y),
                         };
                     }
-                    Chosen::Stands(b, _) => {
-                        mmio = g.owners;
+                    Chosen::Stands(b, e) => {
+                        mmio.controller[on] = 0;
+                        mmio.its[on] = 0;
+                        mmio.device[on] = 0;
+                        mmio.start[on] = b;
+                        mmio.end[on] = e;
+                        mmio.owner[on] = requester;
+                        mmio.n = on + 1;
                         let bases = Bases {
                             accepted: true,
                             first: b,
@@ -126,17 +154,45 @@ pub fn steps(
                     alignment,
                     requester,
                 };
-                let g = grant::grant_range(pio, auto.pio, fixed.pio, need, choice);
-                let chosen = g.chosen;
-                match chosen {
+                let pn = auto.pio.n;
+                let nf = fixed.pio.n;
+                let on = pio.n;
+                let got = choose::range::choose(
+                    &auto.pio.controller,
+                    &auto.pio.its,
+                    &auto.pio.start,
+                    &auto.pio.end,
+                    pn,
+                    &fixed.pio.controller,
+                    &fixed.pio.its,
+                    &fixed.pio.start,
+                    &fixed.pio.end,
+                    nf,
+                    &pio.controller,
+                    &pio.its,
+                    &pio.device,
+                    &pio.start,
+                    &pio.end,
+                    &pio.owner,
+                    on,
+                    need,
+                    choice,
+                );
+                match got {
                     Chosen::Refused(y) => {
                         return Ran {
                             owners: own,
                             stop: Stop::Before(i, y),
                         };
                     }
-                    Chosen::Stands(b, _) => {
-                        pio = g.owners;
+                    Chosen::Stands(b, e) => {
+                        pio.controller[on] = 0;
+                        pio.its[on] = 0;
+                        pio.device[on] = 0;
+                        pio.start[on] = b;
+                        pio.end[on] = e;
+                        pio.owner[on] = requester;
+                        pio.n = on + 1;
                         let bases = Bases {
                             accepted: true,
                             first: b,
@@ -161,9 +217,30 @@ pub fn steps(
                     sharing,
                     requester,
                 };
-                let g = grant::grant_wire(inputs, auto.input, fixed.input, ask, choice);
-                let chosen = g.chosen;
-                match chosen {
+                let pn = auto.input.n;
+                let nf = fixed.input.n;
+                let on = inputs.n;
+                let got = choose::wired::choose(
+                    &auto.input.controller,
+                    &auto.input.its,
+                    &auto.input.start,
+                    &auto.input.end,
+                    pn,
+                    &fixed.input.controller,
+                    &fixed.input.its,
+                    &fixed.input.start,
+                    &fixed.input.end,
+                    nf,
+                    &inputs.controller,
+                    &inputs.input,
+                    &inputs.trigger,
+                    &inputs.sharing,
+                    &inputs.owner,
+                    on,
+                    ask,
+                    choice,
+                );
+                match got {
                     Chosen::Refused(y) => {
                         return Ran {
                             owners: own,
@@ -171,7 +248,12 @@ pub fn steps(
                         };
                     }
                     Chosen::Stands(b, _) => {
-                        inputs = g.owners;
+                        inputs.controller[on] = controller;
+                        inputs.input[on] = b;
+                        inputs.trigger[on] = trigger;
+                        inputs.sharing[on] = sharing;
+                        inputs.owner[on] = requester;
+                        inputs.n = on + 1;
                         let bases = Bases {
                             accepted: true,
                             first: b,
@@ -194,17 +276,45 @@ pub fn steps(
                     alignment: 1,
                     requester,
                 };
-                let g = grant::grant_range(hosts, auto.host, fixed.host, need, choice);
-                let chosen = g.chosen;
-                match chosen {
+                let pn = auto.host.n;
+                let nf = fixed.host.n;
+                let on = hosts.n;
+                let got = choose::range::choose(
+                    &auto.host.controller,
+                    &auto.host.its,
+                    &auto.host.start,
+                    &auto.host.end,
+                    pn,
+                    &fixed.host.controller,
+                    &fixed.host.its,
+                    &fixed.host.start,
+                    &fixed.host.end,
+                    nf,
+                    &hosts.controller,
+                    &hosts.its,
+                    &hosts.device,
+                    &hosts.start,
+                    &hosts.end,
+                    &hosts.owner,
+                    on,
+                    need,
+                    choice,
+                );
+                match got {
                     Chosen::Refused(y) => {
                         return Ran {
                             owners: own,
                             stop: Stop::Before(i, y),
                         };
                     }
-                    Chosen::Stands(b, _) => {
-                        hosts = g.owners;
+                    Chosen::Stands(b, e) => {
+                        hosts.controller[on] = 0;
+                        hosts.its[on] = 0;
+                        hosts.device[on] = 0;
+                        hosts.start[on] = b;
+                        hosts.end[on] = e;
+                        hosts.owner[on] = requester;
+                        hosts.n = on + 1;
                         let bases = Bases {
                             accepted: true,
                             first: b,
@@ -225,6 +335,7 @@ pub fn steps(
                 event,
                 lpi,
             } => {
+                let size = count as u64;
                 let ask = Msi {
                     controller,
                     its,
@@ -234,20 +345,70 @@ pub fn steps(
                     event,
                     lpi,
                 };
-                let g = grant::grant_msi(
-                    devices,
-                    events,
-                    lpis,
-                    auto.device,
-                    fixed.device,
-                    auto.event,
-                    fixed.event,
-                    auto.lpi,
-                    fixed.lpi,
+                let dpn = auto.device.n;
+                let dfn = fixed.device.n;
+                let don = devices.n;
+                let epn = auto.event.n;
+                let efn = fixed.event.n;
+                let eon = events.n;
+                let lpn = auto.lpi.n;
+                let lfn = fixed.lpi.n;
+                let lon = lpis.n;
+                let got = msi::choose_msi(
+                    &auto.device.controller,
+                    &auto.device.its,
+                    &auto.device.start,
+                    &auto.device.end,
+                    dpn,
+                    &fixed.device.controller,
+                    &fixed.device.its,
+                    &fixed.device.start,
+                    &fixed.device.end,
+                    dfn,
+                    &devices.controller,
+                    &devices.its,
+                    &devices.device,
+                    &devices.start,
+                    &devices.end,
+                    &devices.owner,
+                    don,
+                    &auto.event.controller,
+                    &auto.event.its,
+                    &auto.event.start,
+                    &auto.event.end,
+                    epn,
+                    &fixed.event.controller,
+                    &fixed.event.its,
+                    &fixed.event.start,
+                    &fixed.event.end,
+                    efn,
+                    &events.controller,
+                    &events.its,
+                    &events.device,
+                    &events.start,
+                    &events.end,
+                    &events.owner,
+                    eon,
+                    &auto.lpi.controller,
+                    &auto.lpi.its,
+                    &auto.lpi.start,
+                    &auto.lpi.end,
+                    lpn,
+                    &fixed.lpi.controller,
+                    &fixed.lpi.its,
+                    &fixed.lpi.start,
+                    &fixed.lpi.end,
+                    lfn,
+                    &lpis.controller,
+                    &lpis.its,
+                    &lpis.device,
+                    &lpis.start,
+                    &lpis.end,
+                    &lpis.owner,
+                    lon,
                     ask,
                 );
-                let chosen = g.chosen;
-                match chosen {
+                match got {
                     MsiChosen::Refused(y) => {
                         return Ran {
                             owners: own,
@@ -255,14 +416,38 @@ pub fn steps(
                         };
                     }
                     MsiChosen::Stands(d, e, l) => {
-                        devices = g.devices;
-                        events = g.events;
-                        lpis = g.lpis;
+                        let first = d.0 as u64;
+                        let second = e.0 as u64;
+                        let third = l.0 as u64;
+                        let device_end = first + 1;
+                        let event_end = second + size;
+                        let lpi_end = third + size;
+                        devices.controller[don] = controller;
+                        devices.its[don] = its;
+                        devices.device[don] = 0;
+                        devices.start[don] = first;
+                        devices.end[don] = device_end;
+                        devices.owner[don] = requester;
+                        devices.n = don + 1;
+                        events.controller[eon] = controller;
+                        events.its[eon] = its;
+                        events.device[eon] = d.0;
+                        events.start[eon] = second;
+                        events.end[eon] = event_end;
+                        events.owner[eon] = requester;
+                        events.n = eon + 1;
+                        lpis.controller[lon] = controller;
+                        lpis.its[lon] = 0;
+                        lpis.device[lon] = 0;
+                        lpis.start[lon] = third;
+                        lpis.end[lon] = lpi_end;
+                        lpis.owner[lon] = requester;
+                        lpis.n = lon + 1;
                         let bases = Bases {
                             accepted: true,
-                            first: d.0 as u64,
-                            second: e.0 as u64,
-                            third: l.0 as u64,
+                            first,
+                            second,
+                            third,
                         };
                         write_at(results, i, r, bases);
                         i += 1;

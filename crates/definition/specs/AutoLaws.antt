@@ -8,10 +8,9 @@ use Prim.Native.Nat.{ℕ, _≤_, _<_}
 use native.Mathlib.Omega.{arith}
 use lib.ListN.{length}
 use lib.Dec.{T, leb, ltb, lt→ltb}
-use Rattle.definition.specs.Base.{allOf}
+use Rattle.definition.specs.Base.{allOf, badInput, full, exhausted, Answer, accepted, refused, require, _then_}
 use Rattle.definition.specs.BaseLaws.{and-l, and-r, and-i, LeastAll, none-at-all, least-of-all}
-use Rattle.definition.specs.Rows.{rowLimit, dom, Kind, mmio, pio, input, host, nature, Row}
-use Rattle.definition.specs.Refusal.{badInput, full, exhausted, Answer, accepted, refused, require, _then_}
+use Rattle.definition.specs.Tables.{rowLimit, dom, Kind, mmio, pio, input, host, nature, Row}
 use Rattle.definition.specs.Pools.{at-kind, Holders, Claim, room}
 use Rattle.definition.specs.Request.{Choice, auto, Want, memory, ports, wire, irq, Request, goodChoice, oneBit, goodWant, goodRequest, Need, rowAt, free, found, automatic, Pools, place, need, wireNeed, one, claims, resolve}
 use Rattle.definition.specs.RequestLaws.{required, oneBit-pos}

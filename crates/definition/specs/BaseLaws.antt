@@ -1,4 +1,4 @@
--- Laws of Base.antt's tests: what a passed test says. Assumes nothing.
+-- Laws of the tests over lists: what a passed test says. Assumes nothing.
 use mathlib.Core.Path.{_≡_, refl, sym, subst, ap, _∙_}
 use mathlib.Core.Logic.{_⊎_, inl, inr}
 use mathlib.Core.Bool.{Bool, true, false, not, _&&_, _||_}

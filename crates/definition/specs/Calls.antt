@@ -3,15 +3,12 @@ use mathlib.Core.Bool.{Bool, true, false, _&&_}
 use mathlib.Core.List.{List, [], _∷_, _++_}
 use Prim.Native.Nat.{ℕ, suc, _-_}
 use lib.ListN.{length, set, replicate}
-use Rattle.definition.specs.Base.{allOf}
-use Rattle.definition.specs.Rows.{poolLimit, rowLimit, Kind, sameKind, Span, Row}
-use Rattle.definition.specs.Refusal.{malformed, Said, silence, tell, Answer, accepted, refused, require, _then_}
-use Rattle.definition.specs.Sound.{Table, used, blankSpan, blankRow, soundPool, soundHeld, soundOwners, begins}
+use Rattle.definition.specs.Base.{allOf, malformed, Said, silence, tell, Answer, accepted, refused, require, _then_}
+use Rattle.definition.specs.Tables.{poolLimit, rowLimit, Kind, sameKind, Span, Row, Table, used, blankSpan, blankRow, soundPool, soundHeld, soundOwners, begins}
 use Rattle.definition.specs.Pools.{In, Pool, spans, addRange, Holders, Claim, rowsOf, Hold, heldRows, reserve}
 use Rattle.definition.specs.Request.{Request, Use, automatic, fixed, Pools, resolve}
 
--- all tables, and beside them the five numbers of the last answer, which are handed in unjudged
-pub record State : Type 0 where
+pub record State : Type 0 where  -- all tables, and beside them the five numbers of the last answer, which are handed in unjudged
   pub pools : Use → Kind → Table Span
   pub held : Kind → Table Row
   pub owners : Kind → Table Row
@@ -20,15 +17,13 @@ pub record State : Type 0 where
 abbrev pub state : (Use → Kind → Table Span) → (Kind → Table Row) → (Kind → Table Row) → Said → State
 state p h o w = record { pools = p; held = h; owners = o; said = w }
 
--- a fresh table is rows of zeros
-abbrev pub zeros : {A : Type 0} → ℕ → A → Table A
+abbrev pub zeros : {A : Type 0} → ℕ → A → Table A  -- a fresh table is rows of zeros
 zeros n a = record { count = 0; rows = replicate n a }
 
 abbrev pub fresh : State
 fresh = state (λ u k. zeros poolLimit blankSpan) (λ k. zeros rowLimit (blankRow k)) (λ k. zeros rowLimit (blankRow k)) silence
 
 -- ---- what a call judges: exactly the tables of the kinds that are handed to it (all kinds, where the whole state is lent)
-
 abbrev pub poolsOf : State → Pools
 poolsOf s u k = used (s .pools u k)
 
@@ -38,12 +33,10 @@ heldOf s k = used (s .held k)
 abbrev pub ownersOf : State → Holders
 ownersOf s k = used (s .owners k)
 
--- for adding and for start: pools and reservations
-unfoldable pub givenAt : State → Kind → Bool
+unfoldable pub givenAt : State → Kind → Bool  -- for adding and for start: pools and reservations
 givenAt s k = soundPool k (s .pools automatic k) && (soundPool k (s .pools fixed k) && soundHeld k (s .held k))
 
--- for a request and for a plan: the owner tables too
-unfoldable pub soundAt : State → Kind → Bool
+unfoldable pub soundAt : State → Kind → Bool  -- for a request and for a plan: the owner tables too
 soundAt s k = givenAt s k && (soundOwners k (s .owners k) && begins (heldOf s k) (ownersOf s k))
 
 unfoldable pub given : List Kind → State → Bool
@@ -53,13 +46,10 @@ unfoldable pub sound : List Kind → State → Bool
 sound ks s = allOf (soundAt s) ks
 
 -- ---- what a call changes
-
--- the answer's numbers alone: a refused call leaves all tables as handed in
-abbrev pub saying : Said → State → State
+abbrev pub saying : Said → State → State  -- the answer's numbers alone: a refused call leaves all tables as handed in
 saying w s = state (s .pools) (s .held) (s .owners) w
 
--- rows added, each at the end of its table's used ones
-unfoldable pub pushAll : {A : Type 0} → Table A → List A → Table A
+unfoldable pub pushAll : {A : Type 0} → Table A → List A → Table A  -- rows added, each at the end of its table's used ones
 pushAll t [] = t
 pushAll t (r ∷ rs) = pushAll (record { count = suc (t .count); rows = set (t .rows) (t .count) r }) rs
 
@@ -69,12 +59,10 @@ holding cs s = state (s .pools) (λ k. pushAll (s .held k) (rowsOf k cs)) (s .ow
 abbrev pub granting : List Claim → State → State
 granting cs s = state (s .pools) (s .held) (λ k. pushAll (s .owners k) (rowsOf k cs)) silence
 
--- the owner tables become copies of the reservations, whatever they held
-abbrev pub starting : State → State
+abbrev pub starting : State → State  -- the owner tables become copies of the reservations, whatever they held
 starting s = state (s .pools) (s .held) (s .held) silence
 
--- one pool table has other used rows, and zeros behind them
-abbrev pub stored : List Span → Table Span
+abbrev pub stored : List Span → Table Span  -- one pool table has other used rows, and zeros behind them
 stored ps = record { count = length ps; rows = ps ++ replicate (poolLimit - length ps) blankSpan }
 
 abbrev pub sameUse : Use → Use → Bool
@@ -88,7 +76,6 @@ pooling u k ps s =
     state (λ v j. elim (sameUse v u && sameKind j k) [ true ↦ stored ps | false ↦ s .pools v j ]) (s .held) (s .owners) silence
 
 -- ---- the calls
-
 pub data Call : Type 0 where
   pool : Use → Pool → Call
   hold : ℕ → Hold → Call  -- the owner, and what it holds
@@ -99,8 +86,7 @@ abbrev pub settle : State → Answer State → State
 settle s (accepted s′) = s′
 settle s (refused r) = saying (tell 0 r) s
 
--- pool ranges in turn: each gets its own refusal, and rows added before a refused range stay
-unfoldable pub addAll : Use → List (In Span) → State → State
+unfoldable pub addAll : Use → List (In Span) → State → State  -- pool ranges in turn: each gets its own refusal, and rows added before a refused range stay
 addAll u [] s = saying silence s
 addAll u (c ∷ cs) s =
     elim (addRange (c .kind) (c .row) (used (s .pools u (c .kind)))) [

@@ -6,10 +6,8 @@ use mathlib.Core.Option.{Option, none, some}
 use Prim.Native.Nat.{ℕ, zero, suc, _+_, _-_, _*_, _^_}
 use lib.Count.{onesIn}
 use lib.ListN.{length, replicate}
-use Rattle.definition.specs.Base.{anyOf, allOf, pairsOf, firstOf, lower, leastOf}
-use Rattle.definition.specs.Rows.{kinds, sameKind, sameDom, within, sameSpan, sameRow, overlap, meets, joins, clash}
-use Rattle.definition.specs.Refusal.{Refusal, tell, Answer, require}
-use Rattle.definition.specs.Sound.{tidy, fits, fitsSpan, goodRow, goodSpan, begins, inOrder, soundTable}
+use Rattle.definition.specs.Base.{anyOf, allOf, pairsOf, firstOf, lower, leastOf, Refusal, tell, Answer, require}
+use Rattle.definition.specs.Tables.{kinds, sameKind, sameDom, within, sameSpan, sameRow, overlap, meets, joins, clash, tidy, fits, fitsSpan, goodRow, goodSpan, begins, inOrder, soundTable}
 use Rattle.definition.specs.Pools.{Pool, mmioPool, pioPool, hostPool, inputPool, msiPool, insert, unlessThere, addRange, rowsOf, _⊕_, room, Hold, mmioHold, hostHold, inputHold, eventHold, unreserved, allUnreserved, reserve}
 use Rattle.definition.specs.Request.{Choice, auto, at, Want, memory, ports, wire, irq, msi, Request, goodChoice, oneBit, goodWant, goodRequest, rowAt, aligned, holds, free, alignUp, candidates, lowest, allowed, unjoined, obstacle, detail, found, unopposed, Use, automatic, fixed, place, claims, resolve}
 use Rattle.definition.specs.Calls.{State, fresh, givenAt, soundAt, given, sound, pushAll, Call, pool, hold, start, addAll, serve}

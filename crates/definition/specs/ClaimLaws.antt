@@ -9,7 +9,7 @@ use lib.ListN.{length, length-append}
 use lib.Dec.{T, leb, ltb, leb→le, ltb→lt, le→leb, lt→ltb}
 use Rattle.definition.specs.Base.{allOf, pairsOf}
 use Rattle.definition.specs.BaseLaws.{and-l, and-r, and-i, T-true, T-false, not-T→, →not-T, either, all-in, all-from}
-use Rattle.definition.specs.Rows.{rowLimit, Kind, sameKind, Row, clash}
+use Rattle.definition.specs.Tables.{rowLimit, Kind, sameKind, Row, clash}
 use Rattle.definition.specs.Pools.{Holders, Claim, rowsOf, _⊕_, room}
 use Rattle.definition.specs.RowLaws.{same-kind, kind-same, clash-sym, Beside}
 

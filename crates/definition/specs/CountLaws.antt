@@ -9,11 +9,10 @@ use native.Mathlib.Omega.{arith}
 use lib.ListN.{length, set, length-append}
 use lib.Dec.{T, eqb, eqb→eq}
 use Rattle.definition.specs.BaseLaws.{T-true, T-false, either}
-use Rattle.definition.specs.Rows.{dom, Span, Kind, mmio, pio, input, host, device, event, lpi, kinds, sameKind}
-use Rattle.definition.specs.Refusal.{Refusal, malformed, badInput, full, tell, Answer, accepted, refused, require, _then_}
-use Rattle.definition.specs.Sound.{Table}
+use Rattle.definition.specs.Tables.{dom, Span, Kind, mmio, pio, input, host, device, event, lpi, kinds, sameKind, Table}
+use Rattle.definition.specs.Base.{Refusal, malformed, badInput, full, tell, Answer, accepted, refused, require, _then_}
 use Rattle.definition.specs.Pools.{In, at-kind, Pool, spans, Holders, Claim, rowsOf, _⊕_, room}
-use Rattle.definition.specs.Request.{Choice, Want, memory, ports, wire, irq, msi, Request, goodRequest, Need, Use, Pools, place, need, wireNeed, one, claims, kindsOf, resolve}
+use Rattle.definition.specs.Request.{Choice, Want, memory, ports, wire, irq, msi, Request, goodRequest, Need, Use, Pools, place, need, wireNeed, one, claims, resolve}
 use Rattle.definition.specs.Calls.{State, poolsOf, ownersOf, given, sound, saying, pushAll, granting, starting, pool, start, want, settle, addAll, serve}
 use Rattle.definition.specs.Plan.{Grant, grant, Run, done, stopped, after, run, allRows, planRun, ended, plan}
 use Rattle.definition.specs.ClaimLaws.{rows-same, rows-other, rows-append}
@@ -21,6 +20,7 @@ use Rattle.definition.specs.RequestLaws.{then-accepted, require-accepted
 use Rattle.definition.specs.StateLaws.{GivenFor, given-for, for-given, Pooled, add-given, add-accepted, add-refused}
 use Rattle.definition.specs.RunLaws.{run-accepted, run-refused, not-done, after-done}
 use Rattle.definition.specs.PlanLaws.{tell-number, plan-says, start-is}
+use Rattle.definition.specs.ResolveLaws.{kindsOf}
 
 -- ---- what happens between two starts
 

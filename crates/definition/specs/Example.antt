@@ -8,10 +8,8 @@ use native.Mathlib.Omega.{arith}
 use lib.Count.{onesIn}
 use lib.Dec.{T, lit≤}
 use lib.ListN.{length, getD, drop, replicate}
-use Rattle.definition.specs.Base.{anyOf, allOf, pairsOf, firstOf, lower, leastOf}
-use Rattle.definition.specs.Rows.{Kind, mmio, pio, input, host, device, event, lpi, kinds, Span, sameKind, sameDom, within, sameSpan, sameRow, overlap, meets, joins, clash}
-use Rattle.definition.specs.Refusal.{Refusal, require}
-use Rattle.definition.specs.Sound.{used, tidy, fits, fitsSpan, goodRow, goodSpan, begins, inOrder, soundTable}
+use Rattle.definition.specs.Base.{anyOf, allOf, pairsOf, firstOf, lower, leastOf, Refusal, require}
+use Rattle.definition.specs.Tables.{Kind, mmio, pio, input, host, device, event, lpi, kinds, Span, sameKind, sameDom, within, sameSpan, sameRow, overlap, meets, joins, clash, used, tidy, fits, fitsSpan, goodRow, goodSpan, begins, inOrder, soundTable}
 use Rattle.definition.specs.Pools.{mmioPool, pioPool, hostPool, inputPool, msiPool, insert, unlessThere, addRange, rowsOf, _⊕_, room, mmioHold, inputHold, unreserved, allUnreserved, reserve}
 use Rattle.definition.specs.Request.{Choice, auto, at, Want, memory, ports, wire, irq, msi, Request, goodChoice, oneBit, goodWant, goodRequest, rowAt, aligned, holds, free, alignUp, candidates, lowest, allowed, unjoined, obstacle, detail, found, unopposed, Use, automatic, fixed, Pools, place, claims, resolve}
 use Rattle.definition.specs.Calls.{State, fresh, poolsOf, givenAt, soundAt, given, sound, pushAll, granting, starting, Call, pool, hold, start, addAll, serve}

@@ -1,7 +1,5 @@
 pub mod Base
-pub mod Rows
-pub mod Refusal
-pub mod Sound
+pub mod Tables
 pub mod Pools
 pub mod Request
 pub mod Calls

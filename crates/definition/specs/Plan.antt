@@ -4,21 +4,18 @@ use mathlib.Core.List.{List, [], _∷_, _++_}
 use Prim.Native.Nat.{ℕ, zero, suc, _*_}
 use lib.Dec.{leb}
 use lib.ListN.{length, drop}
-use Rattle.definition.specs.Rows.{planLimit, recordSize, Kind, kinds}
-use Rattle.definition.specs.Refusal.{Refusal, malformed, short, Said, silence, tell, Answer, accepted, refused, require, _then_}
+use Rattle.definition.specs.Tables.{planLimit, recordSize, Kind, kinds}
+use Rattle.definition.specs.Base.{Refusal, malformed, short, Said, silence, tell, Answer, accepted, refused, require, _then_}
 use Rattle.definition.specs.Pools.{Holders, Claim, _⊕_}
 use Rattle.definition.specs.Request.{Choice, auto, at, Want, memory, ports, wire, irq, msi, Request, Pools, resolve}
 use Rattle.definition.specs.Calls.{State, poolsOf, ownersOf, sound, saying, granting}
 
--- an accepted request and its rows
-pub record Grant : Type 0 where
+pub record Grant : Type 0 where  -- an accepted request and its rows
   pub request : Request
   pub rows : List Claim
 
 abbrev pub grant : Request → List Claim → Grant
 grant r cs = record { request = r; rows = cs }
-
--- ---- running
 
 pub data Run : Type 0 where
   done : List Grant → Run  -- all accepted
@@ -28,21 +25,17 @@ abbrev pub after : Grant → Run → Run
 after g (done gs) = done (g ∷ gs)
 after g (stopped gs r) = stopped (g ∷ gs) r
 
--- each request is answered on the tables that the ones before it left
-unfoldable pub run : Pools → Holders → List Request → Run
+unfoldable pub run : Pools → Holders → List Request → Run  -- each request is answered on the tables that the ones before it left
 run P S [] = done []
 run P S (r ∷ rs) = elim (resolve P S r) [ accepted cs ↦ after (grant r cs) (run P (S ⊕ cs) rs) | refused x ↦ stopped [] x ]
 
 -- ---- the nine numbers of a result
-
--- the first number of the i-th row
-abbrev pub baseAt : ℕ → List Claim → ℕ
+abbrev pub baseAt : ℕ → List Claim → ℕ  -- the first number of the i-th row
 baseAt i [] = 0
 baseAt zero (c ∷ cs) = c .row .start
 baseAt (suc i) (c ∷ cs) = baseAt i cs
 
--- kind, requester, slot, then the kind's numbers, zeros to nine
-abbrev pub record-of : ℕ → ℕ → Want → List Claim → List ℕ
+abbrev pub record-of : ℕ → ℕ → Want → List Claim → List ℕ  -- kind, requester, slot, then the kind's numbers, zeros to nine
 record-of q s (memory n a c) cs = 1 ∷ q ∷ s ∷ baseAt 0 cs ∷ n ∷ 0 ∷ 0 ∷ 0 ∷ 0 ∷ []
 record-of q s (ports n a c) cs = 2 ∷ q ∷ s ∷ baseAt 0 cs ∷ n ∷ 0 ∷ 0 ∷ 0 ∷ 0 ∷ []
 record-of q s (wire k t h c) cs = 3 ∷ q ∷ s ∷ k ∷ baseAt 0 cs ∷ t ∷ h ∷ 0 ∷ 0 ∷ []
@@ -56,21 +49,17 @@ unfoldable pub records : List Grant → List ℕ
 records [] = []
 records (g ∷ gs) = recordOf g ++ records gs
 
--- the lent list with these numbers in front: what lies past them is never written
-abbrev pub written : List ℕ → List ℕ → List ℕ
+abbrev pub written : List ℕ → List ℕ → List ℕ  -- the lent list with these numbers in front: what lies past them is never written
 written xs out = xs ++ drop (length xs) out
 
--- ---- what a call hands back that is lent results
-
-pub record Lent : Type 0 where
+pub record Lent : Type 0 where  -- what a call hands back that is lent results
   pub state : State
   pub results : List ℕ
 
 abbrev pub lent : State → List ℕ → Lent
 lent s out = record { state = s; results = out }
 
--- one request that writes its record: 1, 11, 2 ..
-unfoldable pub allocateInto : List Kind → Request → State → List ℕ → Lent
+unfoldable pub allocateInto : List Kind → Request → State → List ℕ → Lent  -- one request that writes its record: 1, 11, 2 ..
 allocateInto ks r s out =
     elim (require (sound ks s) malformed (require (leb recordSize (length out)) short (resolve (poolsOf s) (ownersOf s) r))) [
       | accepted cs ↦ lent (granting cs s) (written (recordOf (grant r cs)) out)
@@ -78,21 +67,18 @@ allocateInto ks r s out =
     ]
 
 -- ---- a plan
-
 abbrev pub allRows : List Grant → List Claim
 allRows [] = []
 allRows (g ∷ gs) = g .rows ++ allRows gs
 
--- 11: over 128 requests, or a results list shorter than 9 numbers a request
-unfoldable pub roomy : List Request → List ℕ → Bool
+unfoldable pub roomy : List Request → List ℕ → Bool  -- 11: over 128 requests, or a results list shorter than 9 numbers a request
 roomy rs out = leb (length rs) planLimit && leb (recordSize * length rs) (length out)
 
--- how the plan ran: 1, 11, then each request's own refusal with its index
 abbrev pub atOnce : Answer Run → Run
 atOnce (accepted v) = v
 atOnce (refused x) = stopped [] x
 
-unfoldable pub planRun : List Request → State → List ℕ → Run
+unfoldable pub planRun : List Request → State → List ℕ → Run  -- how the plan ran: 1, 11, then each request's own refusal with its index
 planRun rs s out =
     atOnce (require (sound kinds s) malformed (require (roomy rs out) short (accepted (run (poolsOf s) (ownersOf s) rs))))
 
@@ -100,17 +86,14 @@ abbrev pub grantsOf : Run → List Grant
 grantsOf (done gs) = gs
 grantsOf (stopped gs x) = gs
 
--- a refused plan puts the tables back as they were at its start
-abbrev pub ended : State → Run → State
+abbrev pub ended : State → Run → State  -- a refused plan puts the tables back as they were at its start
 ended s (done gs) = granting (allRows gs) s
 ended s (stopped gs x) = saying (tell (length gs) x) s
 
--- .. and its results keep the records before the refused one; the call hands back those records, the filled front part
-unfoldable pub plan : List Request → State → List ℕ → Lent
+unfoldable pub plan : List Request → State → List ℕ → Lent  -- .. and its results keep the records before the refused one; the call hands back those records, the filled front part
 plan rs s out = let v : Run = planRun rs s out in lent (ended s v) (written (records (grantsOf v)) out)
 
 -- ---- a line with its answer written back: `auto` becomes the number granted, a number stays
-
 abbrev pub pinChoice : Choice → ℕ → Choice
 pinChoice auto b = at b
 pinChoice (at x) b = at x

@@ -8,9 +8,8 @@ use native.Mathlib.Omega.{arith}
 use lib.ListN.{length, take, drop, length-map, length-take}
 use lib.Dec.{T, leb, leb→le, le→leb}
 use Rattle.definition.specs.BaseLaws.{and-l, and-r, and-i, either}
-use Rattle.definition.specs.Rows.{rowLimit, planLimit, recordSize, Kind, kinds}
-use Rattle.definition.specs.Refusal.{Refusal, malformed, badInput, badOwner, emptyRange, full, badLine, short, reserved, fixedNotAllowed, exhausted, conflict, Said, silence, tell, Answer, accepted, refused, require, _then_}
-use Rattle.definition.specs.Sound.{used}
+use Rattle.definition.specs.Tables.{rowLimit, planLimit, recordSize, Kind, kinds, used}
+use Rattle.definition.specs.Base.{Refusal, malformed, badInput, badOwner, emptyRange, full, badLine, short, reserved, fixedNotAllowed, exhausted, conflict, Said, silence, tell, Answer, accepted, refused, require, _then_}
 use Rattle.definition.specs.Pools.{Claim, rowsOf, _⊕_, Hold, heldRows, reserve}
 use Rattle.definition.specs.Request.{Request, Pools, resolve}
 use Rattle.definition.specs.Calls.{State, state, poolsOf, heldOf, ownersOf, given, sound, saying, pushAll, holding, granting, starting, Call, pool, hold, start, want, settle, serve}

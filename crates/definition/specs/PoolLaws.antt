@@ -8,11 +8,9 @@ use Prim.Native.Nat.{ℕ, zero, suc, _+_, _≤_, _<_}
 use native.Mathlib.Omega.{arith}
 use lib.ListN.{length}
 use lib.Dec.{T, leb, ltb, leb→le, nltb→le, ltb→lt, le→leb, lt→ltb}
-use Rattle.definition.specs.Base.{anyOf, allOf, pairsOf, firstOf}
+use Rattle.definition.specs.Base.{anyOf, allOf, pairsOf, firstOf, Refusal, badInput, badOwner, emptyRange, full, Answer, accepted, refused, require}
 use Rattle.definition.specs.BaseLaws.{and-l, and-r, and-i, or-l, or-r, or-cases, T-true, T-false, not-T→, →not-T, either, in-any, all-in, all-from, none-first}
-use Rattle.definition.specs.Rows.{poolLimit, Kind, sameKind, Span, sameDom, sameSpan, Row, meets}
-use Rattle.definition.specs.Sound.{fits, fitsSpan, goodRow, goodSpan, inOrder}
-use Rattle.definition.specs.Refusal.{Refusal, badInput, badOwner, emptyRange, full, Answer, accepted, refused, require}
+use Rattle.definition.specs.Tables.{poolLimit, Kind, sameKind, Span, sameDom, sameSpan, Row, meets, fits, fitsSpan, goodRow, goodSpan, inOrder}
 use Rattle.definition.specs.Pools.{insert, unlessThere, addRange, Holders, Claim, rowsOf, room, Hold, mmioHold, pioHold, hostHold, inputHold, deviceHold, eventHold, lpiHold, pairHold, heldRows, unreserved, allUnreserved, reserve}
 use Rattle.definition.specs.RowLaws.{dom-sym, dom-trans, span-eq, span-refl, meets-sym}
 use Rattle.definition.specs.ClaimLaws.{otherKind}

@@ -5,13 +5,10 @@ use mathlib.Core.Option.{Option, none, some}
 use Prim.Native.Nat.{ℕ, suc, min}
 use lib.Dec.{leb, ltb}
 use lib.ListN.{length}
-use Rattle.definition.specs.Base.{anyOf, allOf, firstOf}
-use Rattle.definition.specs.Rows.{poolLimit, rowLimit, Dom, dom, Kind, mmio, pio, input, host, device, event, lpi, nature, sameKind, Span, span, sameDom, sameSpan, Row, rangeRow, wiredRow, meets}
-use Rattle.definition.specs.Sound.{fits, fitsSpan}
-use Rattle.definition.specs.Refusal.{Refusal, badInput, badOwner, emptyRange, full, reserved, Answer, accepted, refused, require, _then_}
+use Rattle.definition.specs.Base.{anyOf, allOf, firstOf, Refusal, badInput, badOwner, emptyRange, full, reserved, Answer, accepted, refused, require, _then_}
+use Rattle.definition.specs.Tables.{poolLimit, rowLimit, Dom, dom, Kind, mmio, pio, input, host, device, event, lpi, nature, sameKind, Span, span, sameDom, sameSpan, Row, rangeRow, wiredRow, meets, fits, fitsSpan}
 
--- a range or a row, and the kind of its table
-pub record In (A : Type 0) : Type 0 where
+pub record In (A : Type 0) : Type 0 where  -- a range or a row, and the kind of its table
   pub kind : Kind
   pub row : A
 
@@ -19,15 +16,12 @@ abbrev pub at-kind : {A : Type 0} → Kind → A → In A
 at-kind k r = record { kind = k; row = r }
 
 -- ---- pool ranges
-
--- what a pool call adds; its numbers in the order of the program's line
-pub data Pool : Type 0 where
+pub data Pool : Type 0 where  -- what a pool call adds; its numbers in the order of the program's line
   mmioPool pioPool hostPool : ℕ → ℕ → Pool
   inputPool : ℕ → ℕ → ℕ → Pool
   msiPool : ℕ → ℕ → ℕ → ℕ → ℕ → ℕ → ℕ → ℕ → Pool
 
--- its ranges: an MSI domain adds devices, then events, then LPIs
-abbrev pub spans : Pool → List (In Span)
+abbrev pub spans : Pool → List (In Span)  -- its ranges: an MSI domain adds devices, then events, then LPIs
 spans (mmioPool s e) = at-kind mmio (span (dom 0 0 0) s e) ∷ []
 spans (pioPool s e) = at-kind pio (span (dom 0 0 0) s e) ∷ []
 spans (hostPool s e) = at-kind host (span (dom 0 0 0) s e) ∷ []
@@ -35,13 +29,11 @@ spans (inputPool c s e) = at-kind input (span (dom c 0 0) s e) ∷ []
 spans (msiPool c i ds de es ee ls le) =
     at-kind device (span (dom c i 0) ds de) ∷ at-kind event (span (dom c i 0) es ee) ∷ at-kind lpi (span (dom c 0 0) ls le) ∷ []
 
--- just before the first row of its domain with a greater start, else after the last used row
-unfoldable pub insert : Span → List Span → List Span
+unfoldable pub insert : Span → List Span → List Span  -- just before the first row of its domain with a greater start, else after the last used row
 insert p [] = p ∷ []
 insert p (x ∷ xs) = elim (sameDom (p .dom) (x .dom) && ltb (p .start) (x .start)) [ true ↦ p ∷ x ∷ xs | false ↦ x ∷ insert p xs ]
 
--- an exact duplicate is accepted and adds no row, even to a full table
-unfoldable pub unlessThere : Bool → Span → List Span → Answer (List Span)
+unfoldable pub unlessThere : Bool → Span → List Span → Answer (List Span)  -- an exact duplicate is accepted and adds no row, even to a full table
 unlessThere true p ps = accepted ps
 unlessThere false p ps = require (ltb (length ps) poolLimit) full (accepted (insert p ps))
 
@@ -49,32 +41,25 @@ unfoldable pub addRange : Kind → Span → List Span → Answer (List Span)
 addRange k p ps = require (fitsSpan k p) badInput (require (ltb (p .start) (p .end)) emptyRange (unlessThere (anyOf (sameSpan p) ps) p ps))
 
 -- ---- rows at the ends of tables
-
--- the used rows of the seven tables, by kind, in table order
-abbrev pub Holders : Type 0
+abbrev pub Holders : Type 0  -- the used rows of the seven tables, by kind, in table order
 Holders = Kind → List Row
 
 abbrev pub Claim : Type 0
 Claim = In Row
 
--- the rows of one kind, in order
-unfoldable pub rowsOf : Kind → List Claim → List Row
+unfoldable pub rowsOf : Kind → List Claim → List Row  -- the rows of one kind, in order
 rowsOf k [] = []
 rowsOf k (c ∷ cs) = elim (sameKind (c .kind) k) [ true ↦ c .row ∷ rowsOf k cs | false ↦ rowsOf k cs ]
 
--- the tables with the rows at their ends
-unfoldable pub _⊕_ : Holders → List Claim → Holders
+unfoldable pub _⊕_ : Holders → List Claim → Holders  -- the tables with the rows at their ends
 _⊕_ S cs = λ k. S k ++ rowsOf k cs
 
 infixl 60 _⊕_
--- each table that needs a new row has one free (no call needs two of one table)
-unfoldable pub room : Holders → List Claim → Bool
+unfoldable pub room : Holders → List Claim → Bool  -- each table that needs a new row has one free (no call needs two of one table)
 room S cs = allOf (λ c. ltb (length (S (c .kind))) rowLimit) cs
 
 -- ---- reservations
-
--- what a reservation holds; its numbers in the order of the program's line
-pub data Hold : Type 0 where
+pub data Hold : Type 0 where  -- what a reservation holds; its numbers in the order of the program's line
   mmioHold pioHold hostHold : ℕ → ℕ → Hold
   inputHold : ℕ → ℕ → ℕ → ℕ → Hold  -- controller, input, trigger, sharing
   deviceHold : ℕ → ℕ → ℕ → ℕ → Hold
@@ -82,8 +67,7 @@ pub data Hold : Type 0 where
   lpiHold : ℕ → ℕ → ℕ → Hold
   pairHold : ℕ → ℕ → ℕ → ℕ → Hold  -- controller, input, trigger, host IRQ: `reserve_wired_host_irq`
 
--- its rows; one host IRQ is a range of one number, which the largest number has not
-abbrev pub heldRows : ℕ → Hold → List Claim
+abbrev pub heldRows : ℕ → Hold → List Claim  -- its rows; one host IRQ is a range of one number, which the largest number has not
 heldRows o (mmioHold s e) = at-kind mmio (rangeRow (dom 0 0 0) s e o) ∷ []
 heldRows o (pioHold s e) = at-kind pio (rangeRow (dom 0 0 0) s e o) ∷ []
 heldRows o (hostHold s e) = at-kind host (rangeRow (dom 0 0 0) s e o) ∷ []
@@ -93,8 +77,7 @@ heldRows o (eventHold c i d s e) = at-kind event (rangeRow (dom c i d) s e o) �
 heldRows o (lpiHold c s e) = at-kind lpi (rangeRow (dom c 0 0) s e o) ∷ []
 heldRows o (pairHold c n t h) = at-kind input (wiredRow c n t 0 o) ∷ at-kind host (rangeRow (dom 0 0 0) h (min (suc h) (nature host .top)) o) ∷ []
 
--- the first reservation that overlaps the row, in table order, names its owner
-unfoldable pub unreserved : {A : Type 0} → Option Row → Answer A → Answer A
+unfoldable pub unreserved : {A : Type 0} → Option Row → Answer A → Answer A  -- the first reservation that overlaps the row, in table order, names its owner
 unreserved none a = a
 unreserved (some r) a = refused (reserved (r .owner))
 
@@ -102,8 +85,7 @@ unfoldable pub allUnreserved : {A : Type 0} → Holders → List Claim → Answe
 allUnreserved R [] a = a
 allUnreserved R (c ∷ cs) a = unreserved (firstOf (meets (c .row)) (R (c .kind))) (allUnreserved R cs a)
 
--- all of the rows or none: 2, 3, 4, 5, then 9
-unfoldable pub reserve : Holders → List Claim → Answer (List Claim)
+unfoldable pub reserve : Holders → List Claim → Answer (List Claim)  -- all of the rows or none: 2, 3, 4, 5, then 9
 reserve R cs =
     require (allOf (λ c. fits (c .kind) (c .row)) cs) badInput
     (require (allOf (λ c. ltb 0 (c .row .owner)) cs) badOwner

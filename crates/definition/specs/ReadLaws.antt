@@ -9,10 +9,9 @@ use Prim.Native.Nat.{ℕ, zero, suc, _+_, _<_}
 use native.Mathlib.Omega.{arith}
 use lib.ListN.{length}
 use lib.Dec.{T, leb, ltb}
-use Rattle.definition.specs.Base.{anyOf, allOf, firstOf}
+use Rattle.definition.specs.Base.{anyOf, allOf, firstOf, badInput, full, malformed, fixedNotAllowed, Said, silence, tell, Answer, accepted, refused, require, _then_}
 use Rattle.definition.specs.BaseLaws.{and-l, and-r, T-true, T-false, true-T, either, first-at, first-past, all-alike}
-use Rattle.definition.specs.Rows.{top, rowLimit, Dom, dom, sameDom, poolDom, Kind, mmio, pio, input, host, device, event, lpi, kinds, nature, Span, Row, meets}
-use Rattle.definition.specs.Refusal.{badInput, full, malformed, fixedNotAllowed, Said, silence, tell, Answer, accepted, refused, require, _then_}
+use Rattle.definition.specs.Tables.{top, rowLimit, Dom, dom, sameDom, poolDom, Kind, mmio, pio, input, host, device, event, lpi, kinds, nature, Span, Row, meets}
 use Rattle.definition.specs.Pools.{at-kind, Holders, Claim, room}
 use Rattle.definition.specs.Request.{Choice, auto, at, Want, memory, ports, wire, irq, msi, Request, oneBit, goodChoice, goodWant, goodRequest, Need, rowAt, aligned, holds, free, lowest, allowed, unjoined, obstacle, found, unopposed, Use, automatic, fixed, Pools, place, need, wireNeed, one, claims, resolve}
 use Rattle.definition.specs.Calls.{State, poolsOf, ownersOf, sound, granting, want, settle, serve}

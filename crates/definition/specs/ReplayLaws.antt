@@ -6,8 +6,8 @@ use mathlib.Core.List.{List, [], _∷_, _++_, map, List·Memᴰ, List·Memᴰ·h
 use Prim.Native.Nat.{ℕ, zero, suc, _+_, _*_, _≤_, _<_}
 use native.Mathlib.Omega.{arith}
 use lib.ListN.{length, length-append, length-map}
-use Rattle.definition.specs.Rows.{rowLimit, Kind}
-use Rattle.definition.specs.Refusal.{Answer, accepted, refused}
+use Rattle.definition.specs.Tables.{rowLimit, Kind}
+use Rattle.definition.specs.Base.{Answer, accepted, refused}
 use Rattle.definition.specs.Pools.{Holders, Claim, rowsOf, _⊕_}
 use Rattle.definition.specs.Request.{Want, memory, ports, wire, irq, msi, Request, Pools, resolve}
 use Rattle.definition.specs.Plan.{Grant, grant, Run, done, stopped, after, run, allRows, baseAt, record-of, recordOf, records, pinChoice, pinWant, pinned}

@@ -5,12 +5,9 @@ use mathlib.Core.Option.{Option, none, some}
 use Prim.Native.Nat.{ℕ, _+_, _-_, _*_, _/_, _%_}
 use lib.Count.{onesIn}
 use lib.Dec.{leb, ltb, eqb}
-use Rattle.definition.specs.Base.{anyOf, firstOf, leastOf}
-use Rattle.definition.specs.Rows.{top, lastTrigger, shared, Dom, dom, sameDom, poolDom, Kind, mmio, pio, input, host, device, event, lpi, nature, Span, Row, meets, joins}
-use Rattle.definition.specs.Refusal.{Refusal, badInput, full, fixedNotAllowed, exhausted, conflict, Answer, accepted, refused, require, _then_}
+use Rattle.definition.specs.Base.{anyOf, firstOf, leastOf, Refusal, badInput, full, fixedNotAllowed, exhausted, conflict, Answer, accepted, refused, require, _then_}
+use Rattle.definition.specs.Tables.{top, lastTrigger, shared, Dom, dom, sameDom, poolDom, Kind, mmio, pio, input, host, device, event, lpi, nature, Span, Row, meets, joins}
 use Rattle.definition.specs.Pools.{at-kind, Holders, Claim, room}
-
--- ---- requests
 
 pub data Choice : Type 0 where
   auto : Choice
@@ -27,7 +24,7 @@ pub record Request : Type 0 where
   pub slot : ℕ
   pub want : Want
 
--- 2: size, count or requester 0; alignment without exactly one bit set; a code unknown; a number too large for its field
+-- ---- 2: size, count or requester 0; alignment without exactly one bit set; a code unknown; a number too large for its field
 unfoldable pub goodChoice : ℕ → Choice → Bool
 goodChoice t auto = true
 goodChoice t (at b) = leb b t
@@ -48,9 +45,7 @@ unfoldable pub goodRequest : Request → Bool
 goodRequest r = ltb 0 (r .requester) && (leb (r .requester) (top 32) && (leb (r .slot) (top 32) && goodWant (r .want)))
 
 -- ---- one run of numbers in one table
-
--- what a request needs of a table
-pub record Need : Type 0 where
+pub record Need : Type 0 where  -- what a request needs of a table
   pub kind : Kind
   pub dom : Dom
   pub size : ℕ
@@ -59,46 +54,38 @@ pub record Need : Type 0 where
   pub sharing : ℕ
   pub owner : ℕ
 
--- the row that a need gets at a base: its domain, the whole range, its codes, its requester as owner
-unfoldable pub rowAt : Need → ℕ → Row
+unfoldable pub rowAt : Need → ℕ → Row  -- the row that a need gets at a base: its domain, the whole range, its codes, its requester as owner
 rowAt n b = record { dom = n .dom; start = b; end = b + n .size; trigger = n .trigger; sharing = n .sharing; owner = n .owner }
 
 unfoldable pub aligned : Need → ℕ → Bool
 aligned n b = eqb (b % n .align) 0
 
--- the pool range is of the need's domain and holds the whole run at b
-unfoldable pub holds : Need → ℕ → Span → Bool
+unfoldable pub holds : Need → ℕ → Span → Bool  -- the pool range is of the need's domain and holds the whole run at b
 holds n b p = sameDom (poolDom (n .dom)) (p .dom) && (leb (p .start) b && leb (b + n .size) (p .end))
 
--- an automatic request may take b: aligned, in one pool, overlapping no owner row
-unfoldable pub free : List Span → List Row → Need → ℕ → Bool
+unfoldable pub free : List Span → List Row → Need → ℕ → Bool  -- an automatic request may take b: aligned, in one pool, overlapping no owner row
 free pools rows n b = aligned n b && (anyOf (holds n b) pools && not (anyOf (meets (rowAt n b)) rows))
 
--- x, or the next multiple of a above it
-unfoldable pub alignUp : ℕ → ℕ → ℕ
+unfoldable pub alignUp : ℕ → ℕ → ℕ  -- x, or the next multiple of a above it
 alignUp a x = (x + (a - 1)) / a * a
 
--- the least free base begins a pool or follows a row, so no other number need be tried: SearchLaws.antt proves that `lowest` is the least of ALL
-unfoldable pub candidates : List Span → List Row → ℕ → List ℕ
+unfoldable pub candidates : List Span → List Row → ℕ → List ℕ  -- the least free base begins a pool or follows a row, so no other number need be tried: SearchLaws.antt proves that `lowest` is the least of ALL
 candidates pools rows a = map (λ p. alignUp a (p .start)) pools ++ map (λ r. alignUp a (r .end)) rows
 
 unfoldable pub lowest : List Span → List Row → Need → Option ℕ
 lowest pools rows n = leastOf (free pools rows n) (candidates pools rows (n .align))
 
--- a fixed request may ask for b: aligned, its end within the width, held by one fixed range
-unfoldable pub allowed : List Span → Need → ℕ → Bool
+unfoldable pub allowed : List Span → Need → ℕ → Bool  -- a fixed request may ask for b: aligned, its end within the width, held by one fixed range
 allowed pools n b = aligned n b && (leb (b + n .size) (nature (n .kind) .top) && anyOf (holds n b) pools)
 
--- the first row on the wanted numbers stands in the way, unless both are Shared with one trigger (which only inputs can be)
-unfoldable pub unjoined : Row → Option Row → Option Row
+unfoldable pub unjoined : Row → Option Row → Option Row  -- the row, unless both are Shared with one trigger (which only inputs can be)
 unjoined w none = none
 unjoined w (some r) = elim (joins w r) [ true ↦ none | false ↦ some r ]
 
-unfoldable pub obstacle : Row → List Row → Option Row
+unfoldable pub obstacle : Row → List Row → Option Row  -- the first row on the wanted numbers stands in the way, unless they join
 obstacle w rows = unjoined w (firstOf (meets w) rows)
 
--- 1 address ranges overlap, 2 trigger differs, 3 not shareable, 4 host IRQ taken, 5 DeviceID taken, 6 events overlap, 7 LPIs overlap
-unfoldable pub detail : Kind → Row → Row → ℕ
+unfoldable pub detail : Kind → Row → Row → ℕ  -- 1 address ranges overlap, 2 trigger differs, 3 not shareable, 4 host IRQ taken, 5 DeviceID taken, 6 events overlap, 7 LPIs overlap
 detail mmio w r = 1
 detail pio w r = 1
 detail input w r = elim (eqb (w .trigger) (r .trigger)) [ false ↦ 2 | true ↦ 3 ]
@@ -115,35 +102,29 @@ unfoldable pub unopposed : Need → Row → Option Row → Answer Row
 unopposed n w none = accepted w
 unopposed n w (some r) = refused (conflict (nature (n .kind) .namespace) (r .owner) (detail (n .kind) w r))
 
--- the pools of automatic requests, and those that allow fixed ones
-pub data Use : Type 0 where
+pub data Use : Type 0 where  -- the pools of automatic requests, and those that allow fixed ones
   automatic fixed : Use
 
 abbrev pub Pools : Type 0
 Pools = Use → Kind → List Span
 
--- the row that a need is granted: 7; or 6, then 8
-unfoldable pub place : Pools → Holders → Need → Choice → Answer Row
+unfoldable pub place : Pools → Holders → Need → Choice → Answer Row  -- the row that a need is granted: 7; or 6, then 8
 place P S n auto = found n (lowest (P automatic (n .kind)) (S (n .kind)) n)
 place P S n (at b) =
     require (allowed (P fixed (n .kind)) n b) (fixedNotAllowed (nature (n .kind) .namespace))
     (unopposed n (rowAt n b) (obstacle (rowAt n b) (S (n .kind))))
 
 -- ---- the needs of each kind of request
-
--- kind, domain, size, alignment, and who asks; without codes
-abbrev pub need : Kind → Dom → ℕ → ℕ → ℕ → Need
+abbrev pub need : Kind → Dom → ℕ → ℕ → ℕ → Need  -- kind, domain, size, alignment, and who asks; without codes
 need k d s a q = record { kind = k; dom = d; size = s; align = a; trigger = 0; sharing = 0; owner = q }
 
--- one input: controller, trigger, sharing, and who asks
-abbrev pub wireNeed : ℕ → ℕ → ℕ → ℕ → Need
+abbrev pub wireNeed : ℕ → ℕ → ℕ → ℕ → Need  -- one input: controller, trigger, sharing, and who asks
 wireNeed c t s q = record { kind = input; dom = dom c 0 0; size = 1; align = 1; trigger = t; sharing = s; owner = q }
 
 abbrev pub one : Pools → Holders → Need → Choice → Answer (List Claim)
 one P S n c = place P S n c then λ r. accepted (at-kind (n .kind) r ∷ [])
 
--- the rows that a request is granted; MSI: device, then event run, then LPI run, each with its refusal before the next is looked at
-unfoldable pub claims : Pools → Holders → ℕ → Want → Answer (List Claim)
+unfoldable pub claims : Pools → Holders → ℕ → Want → Answer (List Claim)  -- the rows that a request is granted; MSI: device, then event run, then LPI run, each with its refusal before the next is looked at
 claims P S q (memory s a c) = one P S (need mmio (dom 0 0 0) s a q) c
 claims P S q (ports s a c) = one P S (need pio (dom 0 0 0) s a q) c
 claims P S q (wire k t s c) = one P S (wireNeed k t s q) c
@@ -154,14 +135,5 @@ claims P S q (msi k i n d e l) =
     place P S (need lpi (dom k 0 0) n 1 q) l then λ rl.
     accepted (at-kind device rd ∷ at-kind event re ∷ at-kind lpi rl ∷ [])
 
--- the kinds whose tables it needs
-abbrev pub kindsOf : Want → List Kind
-kindsOf (memory s a c) = mmio ∷ []
-kindsOf (ports s a c) = pio ∷ []
-kindsOf (wire k t s c) = input ∷ []
-kindsOf (irq c) = host ∷ []
-kindsOf (msi k i n d e l) = device ∷ event ∷ lpi ∷ []
-
--- 2, then 6, 7 or 8, then 9: the answer on sound tables is the rows to add at the ends of their tables
-unfoldable pub resolve : Pools → Holders → Request → Answer (List Claim)
+unfoldable pub resolve : Pools → Holders → Request → Answer (List Claim)  -- 2, then 6, 7 or 8, then 9: the answer on sound tables is the rows to add at the ends of their tables
 resolve P S r = require (goodRequest r) badInput (claims P S (r .requester) (r .want) then λ cs. require (room S cs) full (accepted cs))

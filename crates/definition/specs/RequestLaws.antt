@@ -9,11 +9,9 @@ use native.Mathlib.Omega.{arith}
 use native.Mathlib.Nat.{zero-add}
 use lib.Count.{onesIn}
 use lib.Dec.{T, leb, ltb, eqb, leb→le, ltb→lt, eqb→eq, le→leb, lt→ltb, eqb-refl}
-use Rattle.definition.specs.Base.{anyOf, allOf, pairsOf}
+use Rattle.definition.specs.Base.{anyOf, allOf, pairsOf, Refusal, badInput, full, fixedNotAllowed, Answer, accepted, refused, require, _then_}
 use Rattle.definition.specs.BaseLaws.{and-l, and-r, and-i, T-true, T-false, true-T, not-T→, →not-T, either, eq→eqb, any-in, in-any, all-in, LeastAll, none-at-all, least-of-all}
-use Rattle.definition.specs.Rows.{top, lastTrigger, shared, Dom, dom, sameDom, within, poolDom, Kind, mmio, pio, input, host, device, event, lpi, kinds, nature, sameKind, Span, Row, meets, clash}
-use Rattle.definition.specs.Sound.{fits, ends, codeTop, goodRow}
-use Rattle.definition.specs.Refusal.{Refusal, badInput, full, fixedNotAllowed, Answer, accepted, refused, require, _then_}
+use Rattle.definition.specs.Tables.{top, lastTrigger, shared, Dom, dom, sameDom, within, poolDom, Kind, mmio, pio, input, host, device, event, lpi, kinds, nature, sameKind, Span, Row, meets, clash, fits, ends, ifWired, goodRow}
 use Rattle.definition.specs.Pools.{at-kind, Holders, Claim, room}
 use Rattle.definition.specs.Request.{Choice, auto, at, Want, memory, ports, wire, irq, msi, Request, goodChoice, oneBit, goodWant, goodRequest, Need, rowAt, aligned, holds, free, lowest, allowed, obstacle, found, unopposed, Use, automatic, fixed, Pools, place, need, wireNeed, one, claims, resolve}
 use Rattle.definition.specs.Plan.{Grant, grant, baseAt, pinChoice, pinWant, pinned}
@@ -163,8 +161,8 @@ range-made k d s a q plain w pos own least b high =
     let l₁ : b ≤ nature k .top = omega arith in
     let l₂ : b < b + s = omega arith in
     let e : T (ends (nature k .wired) (nature k .top) (rowAt (need k d s a q) b)) = rw plain (le→leb (b + s) (nature k .top) high) in
-    let c : T (leb 0 (codeTop (nature k .wired) lastTrigger)) = rw plain tt in
-    let h : T (leb 0 (codeTop (nature k .wired) shared)) = rw plain tt in
+    let c : T (leb 0 (ifWired (nature k .wired) lastTrigger)) = rw plain tt in
+    let h : T (leb 0 (ifWired (nature k .wired) shared)) = rw plain tt in
     search (and-i, le→leb, lt→ltb) depth 10
 
 pub wire-made : (c t h q : ℕ) → c ≤ top 32 → t ≤ lastTrigger → h ≤ shared → 0 < q → q ≤ top 32 → Makes (wireNeed c t h q)

@@ -7,19 +7,25 @@ use Prim.Native.Nat.{ℕ, zero, suc, _+_, _≤_, _<_}
 use native.Mathlib.Omega.{arith}
 use lib.ListN.{length}
 use lib.Dec.{T, leb, ltb, leb→le, ltb→lt, le→leb, lt→ltb}
-use Rattle.definition.specs.Base.{allOf, pairsOf}
+use Rattle.definition.specs.Base.{allOf, pairsOf, badInput, full, Answer, accepted, refused, require, _then_}
 use Rattle.definition.specs.BaseLaws.{and-l, and-r, and-i, →not-T}
-use Rattle.definition.specs.Rows.{top, lastTrigger, shared, dom, within, Kind, mmio, pio, input, host, device, event, lpi, nature, sameKind, Row, clash}
-use Rattle.definition.specs.Sound.{goodRow}
-use Rattle.definition.specs.Refusal.{badInput, full, Answer, accepted, refused, require, _then_}
+use Rattle.definition.specs.Tables.{top, lastTrigger, shared, dom, within, Kind, mmio, pio, input, host, device, event, lpi, nature, sameKind, Row, clash, goodRow}
 use Rattle.definition.specs.Pools.{at-kind, Holders, Claim, _⊕_, room}
-use Rattle.definition.specs.Request.{Choice, auto, at, Want, memory, ports, wire, irq, msi, Request, goodChoice, oneBit, goodWant, goodRequest, Need, Pools, place, need, wireNeed, one, claims, kindsOf, resolve}
+use Rattle.definition.specs.Request.{Choice, auto, at, Want, memory, ports, wire, irq, msi, Request, goodChoice, oneBit, goodWant, goodRequest, Need, Pools, place, need, wireNeed, one, claims, resolve}
 use Rattle.definition.specs.Plan.{Grant, grant, baseAt, pinChoice, pinWant, pinned}
 use Rattle.definition.specs.RowLaws.{clash-sym, Beside}
 use Rattle.definition.specs.ClaimLaws.{otherKind, goods-added, pairs-added, Fits, fits-one, fits-room, length-put, FreeOf}
 use Rattle.definition.specs.RequestLaws.{then-accepted, require-accepted, required, AutoInFixed, Wide, SoundRows, Makes, Placed, placed, oneBit-pos, range-made, wire-made}
 
 -- ---- the rows of one request
+
+-- the kinds whose tables it needs
+abbrev pub kindsOf : Want → List Kind
+kindsOf (memory s a c) = mmio ∷ []
+kindsOf (ports s a c) = pio ∷ []
+kindsOf (wire k t s c) = input ∷ []
+kindsOf (irq c) = host ∷ []
+kindsOf (msi k i n d e l) = device ∷ event ∷ lpi ∷ []
 
 pub record Claimed (P : Pools) (S : Holders) (q : ℕ) (w : Want) (cs : List Claim) : Type 0 where
   pub free-of : FreeOf S cs

@@ -9,8 +9,7 @@ use native.Mathlib.Omega.{arith}
 use lib.Dec.{T, leb, ltb, eqb, ltb→lt, lt→ltb, eqb→eq, eqb-refl, leb→le}
 use Rattle.definition.specs.Base.{allOf, firstOf, pairsOf}
 use Rattle.definition.specs.BaseLaws.{and-l, and-r, and-i, T-true, T-false, true-T, not-T→, →not-T, either, eq→eqb, eqb-sym, eqb-trans, all-in, first-none, none-first, first-some, first-at, first-past}
-use Rattle.definition.specs.Rows.{top, shared, lastTrigger, Dom, dom, sameDom, within, Kind, mmio, pio, input, host, device, event, lpi, kinds, nature, sameKind, Span, sameSpan, Row, sameRow, overlap, meets, joins, clash}
-use Rattle.definition.specs.Sound.{ends, codeTop, fits, goodRow}
+use Rattle.definition.specs.Tables.{top, shared, lastTrigger, Dom, dom, sameDom, within, Kind, mmio, pio, input, host, device, event, lpi, kinds, nature, sameKind, Span, sameSpan, Row, sameRow, overlap, meets, joins, clash, ends, ifWired, fits, goodRow}
 use Rattle.definition.specs.Request.{unjoined, obstacle}
 
 -- ---- kinds
@@ -249,7 +248,7 @@ fits-wired k r e t =
 pub fits-range : (k : Kind) (r : Row) → nature k .wired ≡ false → T (fits k r) → r .sharing ≡ 0
 unfolding fits
 fits-range k r e t =
-    let f : T (leb (r .sharing) (codeTop (nature k .wired) shared)) = search (and-l, and-r) depth 8 in
+    let f : T (leb (r .sharing) (ifWired (nature k .wired) shared)) = search (and-l, and-r) depth 8 in
     let g : T (leb (r .sharing) 0) = rw e at f in
     let l : r .sharing ≤ 0 = leb→le (r .sharing) 0 g in
     omega arith

@@ -5,8 +5,8 @@ use mathlib.Core.List.{List, [], _∷_, _++_, map, append-assoc, append-nil}
 use Prim.Native.Nat.{ℕ, zero, suc, _+_, _*_, _≤_, _<_}
 use native.Mathlib.Omega.{arith}
 use lib.ListN.{length, take, drop, length-append}
-use Rattle.definition.specs.Rows.{recordSize, Kind}
-use Rattle.definition.specs.Refusal.{Refusal, Answer, accepted, refused}
+use Rattle.definition.specs.Tables.{recordSize, Kind}
+use Rattle.definition.specs.Base.{Refusal, Answer, accepted, refused}
 use Rattle.definition.specs.Pools.{Holders, Claim, rowsOf, _⊕_}
 use Rattle.definition.specs.Request.{Want, memory, ports, wire, irq, msi, Request, Pools, resolve}
 use Rattle.definition.specs.Plan.{Grant, grant, Run, done, stopped, after, run, allRows, record-of, recordOf, records}

@@ -11,7 +11,7 @@ use lib.Arith.{digits-div}
 use lib.Dec.{T, leb, ltb, eqb, leb→le, nleb→lt, ltb→lt, nltb→le, eqb→eq, le→leb, lt→ltb, eqb-refl}
 use Rattle.definition.specs.Base.{anyOf, leastOf}
 use Rattle.definition.specs.BaseLaws.{and-l, and-r, and-i, not-T→, →not-T, either, eq→eqb, any-in, in-any, LeastAll, none-at-all, least-of-all, least-all, all-alike}
-use Rattle.definition.specs.Rows.{Dom, sameDom, poolDom, Span, Row, overlap, meets}
+use Rattle.definition.specs.Tables.{Dom, sameDom, poolDom, Span, Row, overlap, meets}
 use Rattle.definition.specs.Request.{Need, rowAt, aligned, holds, free, alignUp, candidates, lowest}
 
 -- the only multiple of a from x up to x + a

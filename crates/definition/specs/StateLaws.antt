@@ -7,18 +7,16 @@ use Prim.Native.Nat.{ℕ, zero, suc, _+_, _≤_, _<_}
 use native.Mathlib.Omega.{arith}
 use lib.ListN.{length}
 use lib.Dec.{T, leb, leb→le}
-use Rattle.definition.specs.Base.{allOf, pairsOf}
+use Rattle.definition.specs.Base.{allOf, pairsOf, Refusal, malformed, Said, silence, tell, Answer, accepted, refused, require, _then_}
 use Rattle.definition.specs.BaseLaws.{and-l, and-r, and-i, T-true, T-false, true-T, →not-T, not-T→, either, all-in, all-from}
-use Rattle.definition.specs.Rows.{poolLimit, rowLimit, Kind, kinds, nature, sameKind, Span, sameSpan, Row, sameRow, meets, joins, clash}
-use Rattle.definition.specs.Refusal.{Refusal, malformed, Said, silence, tell, Answer, accepted, refused, require, _then_}
-use Rattle.definition.specs.Sound.{Table, used, blankSpan, blankRow, fitsSpan, goodRow, goodSpan, begins, inOrder, soundTable, soundPool, soundHeld, soundOwners}
+use Rattle.definition.specs.Tables.{poolLimit, rowLimit, Kind, kinds, nature, sameKind, Span, sameSpan, Row, sameRow, meets, joins, clash, Table, used, blankSpan, blankRow, fitsSpan, goodRow, goodSpan, begins, inOrder, soundTable, soundPool, soundHeld, soundOwners}
 use Rattle.definition.specs.Pools.{In, spans, Pool, addRange, Holders, Claim, rowsOf, _⊕_, room, Hold, heldRows, reserve}
-use Rattle.definition.specs.Request.{Want, Request, Use, automatic, fixed, Pools, kindsOf, resolve}
+use Rattle.definition.specs.Request.{Want, Request, Use, automatic, fixed, Pools, resolve}
 use Rattle.definition.specs.Calls.{State, zeros, fresh, poolsOf, heldOf, ownersOf, givenAt, soundAt, given, sound, saying, pushAll, holding, granting, starting, stored, sameUse, pooling, Call, pool, hold, start, want, settle, addAll, serve}
 use Rattle.definition.specs.RowLaws.{same-kind, kind-same, every-kind, row-refl, span-refl, clash-meets, meets-sym}
 use Rattle.definition.specs.ClaimLaws.{otherKind, goods-added, pairs-added, fits-one, Fits, length-put}
 use Rattle.definition.specs.RequestLaws.{require-accepted, then-accepted, required, Wide, SoundRows}
-use Rattle.definition.specs.ResolveLaws.{Ground, Resolved, resolved, rows-kept}
+use Rattle.definition.specs.ResolveLaws.{kindsOf, Ground, Resolved, resolved, rows-kept}
 use Rattle.definition.specs.TableLaws.{SoundTable, table-says, says-table, table-length, table-grown, table-fresh, stored-used, stored-sound}
 use Rattle.definition.specs.PoolLaws.{SoundSpans, range-added, Reserved, reserve-says, held-apart}
 

@@ -9,8 +9,7 @@ use lib.ListN.{length, take, drop, set, replicate, length-append, length-take, l
 use lib.Dec.{T, leb, ltb, eqb, leb→le, le→leb, eqb→eq, eqb-refl}
 use Rattle.definition.specs.Base.{allOf, pairsOf}
 use Rattle.definition.specs.BaseLaws.{and-l, and-r, and-i, eq→eqb, all-in, all-from}
-use Rattle.definition.specs.Rows.{poolLimit, Kind, Span, sameSpan}
-use Rattle.definition.specs.Sound.{Table, used, tidy, blankSpan, goodSpan, inOrder, soundTable, soundPool}
+use Rattle.definition.specs.Tables.{poolLimit, Kind, Span, sameSpan, Table, used, tidy, blankSpan, goodSpan, inOrder, soundTable, soundPool}
 use Rattle.definition.specs.Calls.{zeros, pushAll, stored}
 use Rattle.definition.specs.RowLaws.{span-eq, span-refl}
 use Rattle.definition.specs.ClaimLaws.{all-append}

@@ -14,7 +14,7 @@ use base.Logic.{SProp, ent, id⊢}
 use base.Fml.{Fml, GName, Lft, Share, flft, fobs, fbor}
 use base.Stored.{Coded}
 use prog.Wp.{Heap, Calls, Loops, WpFn}
-use ghost.Atoms.{Atoms, sem}
+use ghost.Atoms.{Atoms}
 use contract.Monad.{fact}
 use types.Kit.{Given, Item, mean, ⋆, ‵, raw, _⊛_, some, later, _$_, _∵_, !, qed, by, move, keep, use1, use2, use3, split, join, pick, await}
 use types.Run.{look, look-raw, init, store-raw, forget, stop, hop, fld, from, load, addr, unit-lit, of-opd, and-then, no-more, assigns, land, returns, enter, alloc1, alloc0, params1, pass1, pass0, free1, free0}

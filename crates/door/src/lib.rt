@@ -5,7 +5,7 @@ use pool::Use;
 use request::Request;
 use tables::State;
 ghost use mathlib.Core.Path.{_≡_};
-ghost use Rattle.definition.specs.Rows.{kinds};
+ghost use Rattle.definition.specs.Tables.{kinds};
 ghost use Rattle.definition.specs.Calls.{serve};
 ghost use Rattle.definition.specs.Plan.{lent, allocateInto};
 ghost use Rattle.tables.specs.Views.{stateView};

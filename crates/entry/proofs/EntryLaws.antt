@@ -1,5 +1,5 @@
 -- What a line adds, by the ways out of the code. Assumes nothing.
-use mathlib.Core.Path.{_≡_, refl, sym, _∙_}
+use mathlib.Core.Path.{_≡_, refl, sym}
 use mathlib.Core.Bool.{Bool, true, false}
 use mathlib.Core.List.{List, [], _∷_}
 use mathlib.Core.Option.{Option, some}
@@ -7,14 +7,14 @@ use Prim.Native.Nat.{ℕ, _+_, _<_, _≤_}
 use native.Mathlib.Omega.{arith}
 use lib.Dec.{T}
 use lib.ListN.{length, drop}
-use Rattle.definition.specs.Rows.{Kind, Row}
-use Rattle.definition.specs.Sound.{fits}
+use Rattle.definition.specs.Tables.{Kind, Row, fits}
 use Rattle.definition.specs.Pools.{Hold, at-kind, heldRows}
 use Rattle.definition.specs.Calls.{Call, hold}
 use Rattle.lines.specs.Base.{newline}
 use Rattle.lines.specs.Code.{first}
 use Rattle.lines.specs.Line.{readLine}
-use Rattle.entry.specs.Entries.{adds, Reserves, Fitting, Tells, lineAt, isOther, Comes}
+use Rattle.lines.specs.Head.{adds, lineAt}
+use Rattle.entry.specs.Entries.{Reserves, Fitting, Tells, isOther, Comes}
 use Rattle.entry.specs.declared.Entry.{Entry}
 use Rattle.entry.specs.declared.Entry.the-variants as E
 

@@ -2,30 +2,20 @@
 use mathlib.Core.Path.{_≡_}
 use mathlib.Core.Bool.{Bool, true, false}
 use mathlib.Core.List.{List, [], _∷_}
-use mathlib.Core.Option.{Option, none, some}
-use Prim.Native.Nat.{ℕ, _+_, _-_, _<_}
+use mathlib.Core.Option.{Option, some}
+use Prim.Native.Nat.{ℕ, _<_}
 use lib.Dec.{T}
-use lib.ListN.{length, take, drop}
-use Rattle.definition.specs.Rows.{Kind, mmio, pio, input, host, device, event, lpi, Row}
-use Rattle.definition.specs.Sound.{fits}
+use lib.ListN.{length}
+use Rattle.definition.specs.Tables.{Kind, mmio, pio, input, host, device, event, lpi, Row, fits}
 use Rattle.definition.specs.Pools.{Hold, at-kind, heldRows}
 use Rattle.definition.specs.Request.{automatic, fixed}
-use Rattle.definition.specs.Calls.{Call, pool, hold, start, want}
-use Rattle.lines.specs.Base.{newline}
+use Rattle.definition.specs.Calls.{Call, pool, hold}
 use Rattle.lines.specs.Line.{readLine}
-use Rattle.lines.specs.Code.{first}
+use Rattle.lines.specs.Head.{adds, lineAt, Stops}
 use Rattle.tables.specs.Views.{rangeOf, wireOf}
 use Rattle.adding.specs.PoolCalls.{poolCall}
 use Rattle.entry.specs.declared.Entry.{Entry}
 use Rattle.entry.specs.declared.Entry.the-variants as E
-
--- a `pool` or a `hold`
-abbrev pub adds : Option Call → Bool
-adds none = false
-adds (some (pool u p)) = true
-adds (some (hold o h)) = true
-adds (some start) = false
-adds (some (want r)) = false
 
 -- the call reserves one row, r of kind k
 pub record Reserves (said : Option Call) (k : Kind) (r : Row) : Type 0 where
@@ -51,14 +41,6 @@ Tells said (E.Device r) = Fitting said device (rangeOf r)
 Tells said (E.Event r) = Fitting said event (rangeOf r)
 Tells said (E.Lpi r) = Fitting said lpi (rangeOf r)
 Tells said E.Other = adds said ≡ false
-
--- the bytes from `at` up to e
-abbrev pub lineAt : List ℕ → ℕ → ℕ → List ℕ
-lineAt text at e = take (e - at) (drop at text)
-
--- no line that adds stands at `at`: the text ends there, or the line has no newline, or it is no `pool` and no `hold`
-abbrev pub Stops : List ℕ → ℕ → Type 0
-Stops text at = (e : ℕ) → e ≡ at + first newline (drop at text) → e < length text → adds (readLine (lineAt text at e)) ≡ false
 
 abbrev pub isOther : Entry → Bool
 isOther (E.Auto p) = false

@@ -32,7 +32,7 @@ use denote.Builtin.{u64}
 use denote.Ref.{RefT}
 use denote.Slice.{sliceTy, sliceVal, MutSlice, Room, finally}
 use denote.Exit.{Kept, Exit}
-use denote.Steps.{opens, closes, owned, peeks, heard, nothing}
+use denote.Steps.{opens, closes, owned, peeks, heard}
 use denote.Struct.Steps.{spelt}
 use denote.Triple.Call.{calls-from}
 use Rattle.door.proofs.Walk.{rowOf}

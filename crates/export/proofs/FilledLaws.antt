@@ -4,15 +4,15 @@ use mathlib.Core.Bool.{Bool, true, false}
 use mathlib.Core.List.{List, [], _∷_, map}
 use Prim.Native.Nat.{ℕ, zero, suc, _≤_, _*_, _/_}
 use native.Mathlib.Omega.{arith}
-use lib.Dec.{T, leb, eqb, leb→le}
+use lib.Dec.{leb, leb→le}
 use lib.ListN.{length, take}
 use borrow.Author.Tests.{le-leb, ne-eqb}
 use Rattle.definition.specs.BaseLaws.{and-l, true-T}
-use Rattle.definition.specs.Rows.{planLimit, recordSize, kinds}
-use Rattle.definition.specs.Refusal.{Refusal, malformed, badInput, badOwner, emptyRange, full, badLine, short, reserved, fixedNotAllowed, exhausted, conflict, tell, accepted, refused, require}
+use Rattle.definition.specs.Tables.{planLimit, recordSize, kinds}
+use Rattle.definition.specs.Base.{Refusal, malformed, badInput, badOwner, emptyRange, full, badLine, short, reserved, fixedNotAllowed, exhausted, conflict, tell, accepted, require}
 use Rattle.definition.specs.Pools.{Holders}
 use Rattle.definition.specs.Request.{Request, Pools}
-use Rattle.definition.specs.Calls.{State, poolsOf, ownersOf, sound, saying, settle}
+use Rattle.definition.specs.Calls.{State, poolsOf, ownersOf, sound}
 use Rattle.definition.specs.Plan.{Grant, Run, done, stopped, run, records, roomy, atOnce, planRun, grantsOf, ended, plan}
 use Rattle.definition.specs.PlanLaws.{tell-number, plan-says}
 use Rattle.definition.specs.RunLaws.{run-requests, run-stopped, records-length}

@@ -1,19 +1,17 @@
 -- The two ways by the size. Assumes nothing.
-use mathlib.Core.Path.{_≡_, refl, ap, ap₂, _∙_}
-use mathlib.Core.Bool.{Bool, true, false, not}
+use mathlib.Core.Path.{_≡_, refl, ap, _∙_}
+use mathlib.Core.Bool.{Bool, false, not}
 use mathlib.Core.List.{List}
 use Prim.Native.Nat.{ℕ}
 use lib.Dec.{T, eqb}
+use Rattle.definition.specs.BaseLaws.{T-true}
 use Rattle.definition.specs.Calls.{State as Given}
 use Rattle.definition.specs.Plan.{Lent, lent}
 use Rattle.tables.specs.Whole.{freshState}
 use Rattle.tables.specs.declared.State.{State}
 use Rattle.face.specs.Lent.{filledIn}
 use Rattle.face.specs.Rows.{Told, told}
-use Rattle.export.specs.Export.{stateSize, Answered, answered, numbered, counted, sized, sizedRead, Begun, begun, sizedFresh}
-
-holds : (b : Bool) → T b → b ≡ true
-holds true t = refl
+use Rattle.export.specs.Export.{stateSize, Answered, answered, numbered, counted, sized, sizedRead, begun, sizedFresh}
 
 fails : (b : Bool) → T (not b) → b ≡ false
 fails false t = refl
@@ -21,7 +19,7 @@ fails false t = refl
 module _ (size : ℕ) where
   pub right-size : (s : Given) (out : List ℕ) (a b : Answered) → T (eqb size stateSize) → b ≡ a → b ≡ sized size s out a
   unfolding sized
-  right-size s out a b t e = e ∙ rw (holds (eqb size stateSize) t, sized)
+  right-size s out a b t e = e ∙ rw (T-true (eqb size stateSize) t, sized)
 
   pub wrong-size : (s : Given) (out : List ℕ) (a : Answered) → T (not (eqb size stateSize)) → answered (lent s out) 1 ≡ sized size s out a
   unfolding sized
@@ -29,7 +27,7 @@ module _ (size : ℕ) where
 
   pub right-read : (out : List ℕ) (w v : Told) → T (eqb size stateSize) → v ≡ w → v ≡ sizedRead size out w
   unfolding sizedRead
-  right-read out w v t e = e ∙ rw (holds (eqb size stateSize) t, sizedRead)
+  right-read out w v t e = e ∙ rw (T-true (eqb size stateSize) t, sizedRead)
 
   pub wrong-read : (out : List ℕ) (w : Told) → T (not (eqb size stateSize)) → told 1 out ≡ sizedRead size out w
   unfolding sizedRead
@@ -37,7 +35,7 @@ module _ (size : ℕ) where
 
   pub right-fresh : (s d : State) → T (eqb size stateSize) → d ≡ freshState → begun d 0 ≡ sizedFresh size s
   unfolding sizedFresh
-  right-fresh s d t e = ap (λ (x : State). begun x 0) e ∙ rw (holds (eqb size stateSize) t, sizedFresh)
+  right-fresh s d t e = ap (λ (x : State). begun x 0) e ∙ rw (T-true (eqb size stateSize) t, sizedFresh)
 
   pub wrong-fresh : (s : State) → T (not (eqb size stateSize)) → begun s 1 ≡ sizedFresh size s
   unfolding sizedFresh

@@ -4,14 +4,13 @@ use mathlib.Core.Bool.{Bool, true, false}
 use mathlib.Core.List.{List, [], _∷_}
 use Prim.Native.Nat.{ℕ, zero, suc, _≤_, _<_, _-_}
 use native.Mathlib.Omega.{arith}
-use lib.Dec.{leb, eqb}
 use lib.ListN.{length, getD, drop, take}
 use borrow.Author.Tests.{le-leb, lt-leb, eq-eqb, ne-eqb}
-use Rattle.definition.specs.Rows.{kinds}
-use Rattle.definition.specs.Refusal.{malformed, short, refused, require, tell}
+use Rattle.definition.specs.Tables.{kinds}
+use Rattle.definition.specs.Base.{malformed, short, refused, require, tell}
 use Rattle.definition.specs.Request.{Request}
 use Rattle.definition.specs.Calls.{State, Call, want, given, sound, saying, settle, serve}
-use Rattle.flat.specs.Flat.{requestSize, requestAt}
+use Rattle.flat.specs.Flat.{requestAt}
 use Rattle.face.specs.Face.{number, addingIn, addingAt, callAt, sizeIn, callSize, judged, faceCall}
 
 -- what stands past the end does not matter to what stands in the list

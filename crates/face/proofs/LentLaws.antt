@@ -1,13 +1,12 @@
 -- Calls with lists lent beside the numbers: one law for each way out. Assumes nothing.
-use mathlib.Core.Path.{_≡_, refl, sym, ap, _∙_}
-use mathlib.Core.Bool.{Bool, true, false}
+use mathlib.Core.Path.{_≡_, sym, ap, _∙_}
+use mathlib.Core.Bool.{Bool}
 use mathlib.Core.List.{List}
 use Prim.Native.Nat.{ℕ, _≤_, _<_, _*_, _/_}
-use lib.Dec.{leb, eqb}
 use lib.ListN.{length}
 use borrow.Author.Tests.{le-leb, lt-leb, eq-eqb, ne-eqb}
-use Rattle.definition.specs.Rows.{kinds}
-use Rattle.definition.specs.Refusal.{malformed, short, refused, require}
+use Rattle.definition.specs.Tables.{kinds}
+use Rattle.definition.specs.Base.{malformed, short, refused, require}
 use Rattle.definition.specs.Request.{Request}
 use Rattle.definition.specs.Calls.{State, sound, settle}
 use Rattle.definition.specs.Plan.{Lent, lent, allocateInto}

@@ -1,9 +1,8 @@
 -- Numbers that fit their fields, and a kind that is none. Assumes nothing.
 use mathlib.Core.Path.{_≡_, refl}
-use mathlib.Core.Bool.{Bool, true, false, _&&_}
+use mathlib.Core.Bool.{true, false, _&&_}
 use mathlib.Core.List.{List, [], _∷_}
 use Prim.Native.Nat.{ℕ, zero, suc, _≤_, _<_}
-use native.Mathlib.Omega.{arith}
 use lib.Dec.{T, leb, leb→le}
 use borrow.Author.Tests.{le-leb, lt-leb}
 use Rattle.definition.specs.Base.{allOf}
@@ -11,10 +10,6 @@ use Rattle.definition.specs.BaseLaws.{and-l, and-r, true-T}
 use Rattle.definition.specs.Request.{Use}
 use Rattle.definition.specs.Calls.{Call}
 use Rattle.face.specs.Face.{bad, below, narrow, poolIn, heldIn, holdIn, usedIn, addingIn}
-
-pub and-true : (b : Bool) → b ≡ b && true
-and-true true = refl
-and-true false = refl
 
 -- ---- the test, in numbers
 

@@ -1,15 +1,14 @@
 -- A row and the last answer as numbers: what the columns hold is what the view holds. Assumes nothing.
-use mathlib.Core.Path.{_≡_, refl, sym, ap, subst, _∙_}
+use mathlib.Core.Path.{_≡_, refl, sym, ap, _∙_}
 use mathlib.Core.Bool.{Bool, true, false, _&&_}
 use mathlib.Core.List.{List, [], _∷_}
 use Prim.Native.Nat.{ℕ, zero, suc, _≤_, _<_}
 use native.Mathlib.Omega.{arith}
-use lib.Dec.{T, leb, ltb}
+use lib.Dec.{leb, ltb}
 use lib.ListN.{length, getD, set}
 use borrow.Author.Tests.{le-leb, lt-leb, lt-ltb, le-ltb, ltb-true}
 use Rattle.definition.specs.BaseLaws.{and-l, true-T, T-true}
-use Rattle.definition.specs.Rows.{poolLimit, rowLimit, Kind, mmio, input, kinds, nature, Span, Row}
-use Rattle.definition.specs.Sound.{blankSpan, blankRow}
+use Rattle.definition.specs.Tables.{poolLimit, rowLimit, mmio, input, kinds, Span, Row, blankSpan, blankRow}
 use Rattle.definition.specs.Calls.{State as Given}
 use Rattle.definition.specs.Plan.{written}
 use Rattle.tables.specs.Views.{spanOf, rangeOf, wireOf, poolAt, rangeAt, wireAt, poolView, rangesView, wiresView}
@@ -17,7 +16,7 @@ use Rattle.tables.specs.declared.Pool.{Pool}
 use Rattle.tables.specs.declared.Ranges.{Ranges}
 use Rattle.tables.specs.declared.Wires.{Wires}
 use Rattle.tables.proofs.ListedLaws.{listed-at}
-use Rattle.face.specs.Rows.{rowSize, spanNumbers, rowNumbers, poolRow, holderRow, Ranged, kindAt, tellsRow, rowsIn, there, Told, told, rowTold, answerNumbers, answerTold}
+use Rattle.face.specs.Rows.{rowSize, spanNumbers, rowNumbers, poolRow, holderRow, Ranged, kindAt, tellsRow, rowsIn, there, told, rowTold, answerNumbers, answerTold}
 
 -- ---- one row
 

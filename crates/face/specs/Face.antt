@@ -4,13 +4,12 @@ use mathlib.Core.List.{List, [], _∷_}
 use Prim.Native.Nat.{ℕ}
 use lib.Dec.{leb, eqb}
 use lib.ListN.{length, getD, drop}
-use Rattle.definition.specs.Base.{allOf}
-use Rattle.definition.specs.Rows.{top, kinds}
-use Rattle.definition.specs.Refusal.{malformed, short, refused, require}
+use Rattle.definition.specs.Base.{allOf, malformed, short, refused, require}
+use Rattle.definition.specs.Tables.{top, kinds}
 use Rattle.definition.specs.Pools.{mmioPool, pioPool, hostPool, inputPool, msiPool, mmioHold, pioHold, hostHold, inputHold, deviceHold, eventHold, lpiHold, pairHold}
 use Rattle.definition.specs.Request.{Use, automatic, fixed}
 use Rattle.definition.specs.Calls.{State, Call, pool, hold, start, want, given, sound, settle, serve}
-use Rattle.flat.specs.Flat.{requestSize, requestAt}
+use Rattle.flat.specs.Flat.{requestAt}
 
 -- ---- numbers that cannot be read
 

@@ -4,8 +4,8 @@ use mathlib.Core.List.{List}
 use Prim.Native.Nat.{ℕ, _*_, _/_}
 use lib.Dec.{leb, eqb}
 use lib.ListN.{length}
-use Rattle.definition.specs.Rows.{planLimit, recordSize, kinds}
-use Rattle.definition.specs.Refusal.{malformed, short, refused, require}
+use Rattle.definition.specs.Tables.{planLimit, recordSize, kinds}
+use Rattle.definition.specs.Base.{malformed, short, refused, require}
 use Rattle.definition.specs.Calls.{State, sound, settle}
 use Rattle.definition.specs.Plan.{Lent, lent, allocateInto}
 use Rattle.flat.specs.Flat.{requestSize, requestAt}

@@ -1,12 +1,11 @@
 -- A table's row as plain numbers, for callers outside, as it is stored: nothing is judged. Assumes nothing.
 use mathlib.Core.Path.{_≡_}
 use mathlib.Core.Bool.{Bool, true, false, _&&_}
-use mathlib.Core.List.{List, [], _∷_, _++_}
+use mathlib.Core.List.{List, [], _∷_}
 use Prim.Native.Nat.{ℕ}
 use lib.Dec.{leb, ltb}
-use lib.ListN.{length, getD, drop}
-use Rattle.definition.specs.Rows.{poolLimit, rowLimit, Kind, mmio, kinds, nature, Span, Row}
-use Rattle.definition.specs.Sound.{Table, blankSpan, blankRow}
+use lib.ListN.{length, getD}
+use Rattle.definition.specs.Tables.{poolLimit, rowLimit, Kind, mmio, kinds, nature, Span, Row, Table, blankSpan, blankRow}
 use Rattle.definition.specs.Request.{automatic, fixed}
 use Rattle.definition.specs.Calls.{State}
 use Rattle.definition.specs.Plan.{written}

@@ -9,7 +9,7 @@ use tables::State;
 use tables::Wires;
 ghost use mathlib.Core.Path.{_≡_};
 ghost use Prim.Native.Nat.{_<_};
-ghost use Rattle.definition.specs.Rows.{poolLimit, rowLimit, input};
+ghost use Rattle.definition.specs.Tables.{poolLimit, rowLimit, input};
 ghost use Rattle.tables.specs.Views.{poolOf, poolView, rangesView, wiresView, holdersView, stateView};
 ghost use Rattle.allocation.specs.Records.{listOf};
 ghost use Rattle.face.specs.Rows.{Ranged, poolRow, holderRow, kindAt, tellsRow, rowsIn, there, told, rowTold, answerTold};

@@ -5,8 +5,8 @@ use mathlib.Core.List.{List, [], _∷_}
 use Prim.Native.Nat.{ℕ, zero, suc, _+_, _-_, _*_, _/_, _<_}
 use native.Mathlib.Omega.{arith}
 use lib.ListN.{length, getD}
-use Rattle.definition.specs.Rows.{kinds}
-use Rattle.definition.specs.Refusal.{malformed, short, refused, require}
+use Rattle.definition.specs.Tables.{kinds}
+use Rattle.definition.specs.Base.{malformed, short, refused, require}
 use Rattle.definition.specs.Calls.{State, sound, settle}
 use Rattle.definition.specs.Plan.{lent, plan}
 use Rattle.flat.specs.Flat.{requestSize, numberAt, requestIn, requestAt, requestsFrom, requestsOf, wholeRequests, flatPlan}

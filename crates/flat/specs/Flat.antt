@@ -4,8 +4,8 @@ use mathlib.Core.List.{List, [], _∷_}
 use Prim.Native.Nat.{ℕ, zero, suc, _+_, _*_, _/_}
 use lib.Dec.{leb, eqb}
 use lib.ListN.{length, getD}
-use Rattle.definition.specs.Rows.{top, kinds}
-use Rattle.definition.specs.Refusal.{malformed, short, refused, require}
+use Rattle.definition.specs.Tables.{top, kinds}
+use Rattle.definition.specs.Base.{malformed, short, refused, require}
 use Rattle.definition.specs.Request.{Choice, auto, at, Want, memory, ports, wire, irq, msi, Request}
 use Rattle.definition.specs.Calls.{State, sound, settle}
 use Rattle.definition.specs.Plan.{Lent, lent, plan}

@@ -1,15 +1,15 @@
 -- The front part that an answer's numbers name is made of the records of the accepted requests. Assumes nothing.
 use mathlib.Core.Path.{_≡_, refl, ap, sym, _∙_}
 use mathlib.Core.Bool.{Bool, true, false}
-use mathlib.Core.List.{List, [], _∷_, _++_, map}
+use mathlib.Core.List.{List, [], _∷_, map}
 use Prim.Native.Nat.{ℕ, _*_}
 use native.Mathlib.Omega.{arith}
-use lib.Dec.{T, eqb, eqb→eq}
+use lib.Dec.{eqb, eqb→eq}
 use lib.ListN.{length, take, drop}
 use lib.Seq.{take-at}
 use Rattle.definition.specs.BaseLaws.{T-false}
-use Rattle.definition.specs.Rows.{recordSize}
-use Rattle.definition.specs.Refusal.{Refusal, malformed, badInput, badOwner, emptyRange, full, badLine, short, reserved, fixedNotAllowed, exhausted, conflict, Said, tell}
+use Rattle.definition.specs.Tables.{recordSize}
+use Rattle.definition.specs.Base.{Refusal, malformed, badInput, badOwner, emptyRange, full, badLine, short, reserved, fixedNotAllowed, exhausted, conflict, Said, tell}
 use Rattle.definition.specs.Request.{Request}
 use Rattle.definition.specs.Calls.{State}
 use Rattle.definition.specs.Plan.{Grant, Run, done, stopped, planRun, grantsOf, records, written, ended, plan}

@@ -3,7 +3,7 @@ use mathlib.Core.Bool.{true, false}
 use mathlib.Core.List.{List}
 use Prim.Native.Nat.{ℕ}
 use lib.Dec.{eqb}
-use Rattle.definition.specs.Refusal.{Said}
+use Rattle.definition.specs.Base.{Said}
 use Rattle.definition.specs.Request.{Request}
 use Rattle.definition.specs.Calls.{State}
 use Rattle.definition.specs.Plan.{planRun, grantsOf, records}

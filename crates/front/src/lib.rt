@@ -3,7 +3,7 @@ use tables::State;
 ghost use mathlib.Core.Path.{_≡_};
 ghost use Prim.Native.Nat.{_*_};
 ghost use lib.ListN.{take};
-ghost use Rattle.definition.specs.Rows.{recordSize};
+ghost use Rattle.definition.specs.Tables.{recordSize};
 ghost use Rattle.tables.specs.Views.{stateView};
 ghost use Rattle.front.specs.Front.{acceptedOf};
 

@@ -1,17 +1,14 @@
 -- What stands has room, and ends where its size says. Assumes nothing.
-use mathlib.Core.Path.{_≡_, refl, sym, _∙_, ap}
-use mathlib.Core.Bool.{Bool, true, false, _&&_}
-use mathlib.Core.List.{List, [], _∷_}
+use mathlib.Core.Path.{_≡_, sym, _∙_, ap}
+use mathlib.Core.List.{List}
 use mathlib.Core.Option.{Option, none, some}
-use Prim.Native.Nat.{ℕ, suc, _+_, _<_, _≤_}
-use native.Mathlib.Omega.{arith}
+use Prim.Native.Nat.{ℕ, _+_, _<_}
 use lib.Dec.{T, ltb, ltb→lt}
 use lib.ListN.{length}
-use Rattle.definition.specs.Base.{allOf}
+use Rattle.definition.specs.Base.{allOf, full, Answer, accepted, require}
 use Rattle.definition.specs.BaseLaws.{and-l, and-r}
-use Rattle.definition.specs.Rows.{rowLimit, device, event, lpi, Span, Row}
-use Rattle.definition.specs.Refusal.{full, Answer, accepted, refused, require, _then_}
-use Rattle.definition.specs.Pools.{Claim, room}
+use Rattle.definition.specs.Tables.{rowLimit, Span, Row}
+use Rattle.definition.specs.Pools.{room}
 use Rattle.definition.specs.Request.{Need, auto, at, rowAt, lowest, allowed, obstacle, found, unopposed, place, claims}
 use Rattle.definition.specs.Request as R
 use Rattle.definition.specs.RequestLaws.{not-accepted, then-accepted, require-accepted}

@@ -1,9 +1,8 @@
 -- What is promised of a grant: the definition's answer, and the owner tables with its rows at their ends. Assumes nothing.
 use mathlib.Core.Path.{_≡_}
 use mathlib.Core.List.{List, [], _∷_}
-use Rattle.definition.specs.Rows.{device, event, lpi, Row}
-use Rattle.definition.specs.Refusal.{Answer, accepted, refused}
-use Rattle.definition.specs.Sound.{used}
+use Rattle.definition.specs.Tables.{device, event, lpi, Row, used}
+use Rattle.definition.specs.Base.{Answer, accepted, refused}
 use Rattle.definition.specs.Pools.{Claim, rowsOf}
 use Rattle.definition.specs.Request.{rowAt}
 use Rattle.definition.specs.Calls.{pushAll}

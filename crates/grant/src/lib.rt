@@ -18,7 +18,7 @@ ghost use mathlib.Core.List.{[], _∷_};
 ghost use Prim.Native.Nat.{_≤_, _<_};
 ghost use Rattle.definition.specs.Calls.{pushAll};
 ghost use Rattle.tables.specs.Views.{rangeOf, wireOf, rangesView, wiresView};
-ghost use Rattle.definition.specs.Rows.{poolLimit, rowLimit};
+ghost use Rattle.definition.specs.Tables.{poolLimit, rowLimit};
 ghost use Rattle.search.specs.Finds.{InOrder};
 ghost use Rattle.msi.specs.Msi.{ReadyDevice, ReadyEvent, ReadyLpi};
 ghost use Rattle.grant.specs.Grants.{RangeGrants, WireGrants, Reserves, MsiGrants};

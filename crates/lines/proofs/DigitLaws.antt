@@ -7,7 +7,7 @@ use native.Mathlib.Omega.{arith}
 use lib.Dec.{ltb}
 use lib.ListN.{length, length-append}
 use borrow.Author.Tests.{lt-ltb, le-ltb}
-use Rattle.definition.specs.Rows.{top}
+use Rattle.definition.specs.Tables.{top}
 use Rattle.lines.specs.Base.{pick}
 use Rattle.lines.specs.Numbers.{digitLimit, digitsUpTo, digits}
 

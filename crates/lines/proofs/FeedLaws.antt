@@ -8,8 +8,8 @@ use native.Mathlib.Omega.{arith}
 use lib.ListN.{length, take, drop, length-drop, drop-of-length-le}
 use lib.Seq.{take-all, drop-cons}
 use borrow.Author.Tests.{le-ltb}
-use Rattle.definition.specs.Rows.{planLimit}
-use Rattle.definition.specs.Refusal.{badLine, short}
+use Rattle.definition.specs.Tables.{planLimit}
+use Rattle.definition.specs.Base.{badLine, short}
 use Rattle.definition.specs.Request.{Request}
 use Rattle.definition.specs.Calls.{want}
 use Rattle.lines.specs.Base.{newline, split}

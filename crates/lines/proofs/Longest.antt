@@ -8,8 +8,8 @@ use native.Mathlib.Omega.{arith}
 use lib.Dec.{eqb, leb, ltb}
 use lib.ListN.{length, take, drop, getD, replicate, length-append, length-take}
 use borrow.Author.Tests.{ltb-true}
-use Rattle.definition.specs.Rows.{planLimit, recordSize, kinds}
-use Rattle.definition.specs.Refusal.{badLine, short, Said, tell}
+use Rattle.definition.specs.Tables.{planLimit, recordSize, kinds}
+use Rattle.definition.specs.Base.{badLine, short, Said, tell}
 use Rattle.definition.specs.Request.{Request}
 use Rattle.definition.specs.Calls.{Call, pool, hold, start, want}
 use Rattle.definition.specs.Plan.{Lent, allocateInto}

@@ -8,7 +8,7 @@ use native.Mathlib.Omega.{arith}
 use native.Mathlib.Nat.{mod-lt}
 use lib.Dec.{eqb, ltb}
 use borrow.Author.Tests.{lt-ltb, le-leb, ne-eqb, ltb-true, ltb-false}
-use Rattle.definition.specs.Rows.{top}
+use Rattle.definition.specs.Tables.{top}
 use Rattle.definition.specs.Base.{allOf}
 use Rattle.lines.specs.Base.{pick, when}
 use Rattle.lines.specs.Numbers.{digit, valueFrom, plain, number, digitLimit, digitsUpTo, digits}

@@ -4,8 +4,8 @@ use mathlib.Core.Bool.{Bool, true, false}
 use mathlib.Core.List.{List}
 use Prim.Native.Nat.{ℕ}
 use lib.ListN.{replicate}
-use Rattle.definition.specs.Rows.{recordSize, kinds}
-use Rattle.definition.specs.Refusal.{malformed, tell, Answer, accepted, refused, require, _then_}
+use Rattle.definition.specs.Tables.{recordSize, kinds}
+use Rattle.definition.specs.Base.{malformed, tell, Answer, accepted, refused, require, _then_}
 use Rattle.definition.specs.Pools.{Claim}
 use Rattle.definition.specs.Request.{Want, memory, ports, wire, irq, msi, Request, resolve}
 use Rattle.definition.specs.Calls.{State, poolsOf, ownersOf, sound, saying, granting, want, settle, serve}

@@ -6,10 +6,8 @@ use mathlib.Core.Option.{Option, none, some}
 use Prim.Native.Nat.{ℕ}
 use Prim.Native.String.{String}
 use lib.ListN.{replicate}
-use Rattle.definition.specs.Base.{anyOf, allOf, pairsOf, firstOf, lower, leastOf}
-use Rattle.definition.specs.Rows.{sameDom, within, sameKind, sameSpan, sameRow, overlap, meets, joins, clash}
-use Rattle.definition.specs.Refusal.{require}
-use Rattle.definition.specs.Sound.{tidy, fits, fitsSpan, goodRow, goodSpan, begins, inOrder, soundTable}
+use Rattle.definition.specs.Base.{anyOf, allOf, pairsOf, firstOf, lower, leastOf, require}
+use Rattle.definition.specs.Tables.{sameDom, within, sameKind, sameSpan, sameRow, overlap, meets, joins, clash, tidy, fits, fitsSpan, goodRow, goodSpan, begins, inOrder, soundTable}
 use Rattle.definition.specs.Pools.{insert, unlessThere, addRange, rowsOf, room, unreserved, allUnreserved, reserve}
 use Rattle.definition.specs.Request.{goodChoice, oneBit, goodWant, goodRequest, rowAt, aligned, holds, free, alignUp, candidates, lowest, allowed, unjoined, obstacle, detail, found, unopposed, place, claims, resolve}
 use Rattle.definition.specs.Calls.{Call, givenAt, soundAt, given, sound, pushAll, addAll, serve}

@@ -5,3 +5,4 @@ pub mod Output
 pub mod Text
 pub mod Examples
 pub mod Code
+pub mod Head

@@ -5,7 +5,7 @@ use Prim.Native.Nat.{ℕ}
 use Prim.Native.String.{String}
 use lib.Dec.{eqb, leb}
 use lib.ListN.{length, getD}
-use Rattle.definition.specs.Rows.{top}
+use Rattle.definition.specs.Tables.{top}
 use Rattle.definition.specs.Pools.{mmioPool, pioPool, hostPool, inputPool, msiPool, mmioHold, pioHold, hostHold, inputHold, deviceHold, eventHold, lpiHold}
 use Rattle.definition.specs.Request.{auto, at, Want, memory, ports, wire, irq, msi, Use, automatic, fixed}
 use Rattle.definition.specs.Calls.{Call, pool, hold, want}

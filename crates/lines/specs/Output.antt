@@ -4,8 +4,8 @@ use Prim.Native.Nat.{ℕ, zero, suc, _+_, _*_}
 use Prim.Native.String.{String}
 use lib.Dec.{eqb}
 use lib.ListN.{getD, take, drop}
-use Rattle.definition.specs.Rows.{planLimit, recordSize}
-use Rattle.definition.specs.Refusal.{Said}
+use Rattle.definition.specs.Tables.{planLimit, recordSize}
+use Rattle.definition.specs.Base.{Said}
 use Rattle.lines.specs.Base.{bytes, pick}
 use Rattle.lines.specs.Numbers.{digitLimit, digits}
 use Rattle.lines.specs.Line.{lineOf}

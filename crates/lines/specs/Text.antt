@@ -5,8 +5,8 @@ use mathlib.Core.Option.{Option, none, some}
 use Prim.Native.Nat.{ℕ, suc}
 use lib.Dec.{eqb, leb, ltb}
 use lib.ListN.{length, replicate}
-use Rattle.definition.specs.Rows.{planLimit, recordSize, kinds}
-use Rattle.definition.specs.Refusal.{Refusal, badLine, short, tell}
+use Rattle.definition.specs.Tables.{planLimit, recordSize, kinds}
+use Rattle.definition.specs.Base.{Refusal, badLine, short, tell}
 use Rattle.definition.specs.Request.{Request}
 use Rattle.definition.specs.Calls.{State, fresh, saying, Call, pool, hold, start, want, serve}
 use Rattle.definition.specs.Plan.{Lent, allocateInto}

@@ -1,25 +1,21 @@
 -- The ways out of an MSI request: each refusal in its turn, and room last. Assumes nothing.
-use mathlib.Core.Path.{_≡_, refl, sym, _∙_, ap}
+use mathlib.Core.Path.{_≡_, refl, sym, _∙_}
 use mathlib.Core.Bool.{Bool, true, false, _&&_}
-use mathlib.Core.List.{List, [], _∷_}
-use Prim.Native.Nat.{ℕ, _<_, _≤_}
+use Prim.Native.Nat.{ℕ}
 use lib.Dec.{ltb}
 use lib.ListN.{length}
-use Rattle.definition.specs.Base.{allOf}
-use Rattle.definition.specs.Rows.{rowLimit, dom, mmio, pio, input, host, device, event, lpi, Span, Row}
-use Rattle.definition.specs.Rows as D
-use Rattle.definition.specs.Refusal.{full, Answer, accepted, refused, require, _then_}
-use Rattle.definition.specs.Refusal as F
-use Rattle.definition.specs.Pools.{at-kind, Holders, Claim, room}
-use Rattle.definition.specs.Request.{Need, need, rowAt, auto, at, automatic, fixed, Pools, place, claims}
+use Rattle.definition.specs.Base.{allOf, full, accepted, refused, require}
+use Rattle.definition.specs.Tables.{rowLimit, device, event, lpi}
+use Rattle.definition.specs.Base as F
+use Rattle.definition.specs.Pools.{Holders, room}
+use Rattle.definition.specs.Request.{Need, rowAt, auto, at, automatic, fixed, Pools, place, claims}
 use Rattle.definition.specs.Request as R
 use Rattle.tables.specs.declared.DeviceId.{DeviceId}
 use Rattle.tables.specs.declared.EventId.{EventId}
 use Rattle.tables.specs.declared.Lpi.{Lpi}
 use Rattle.choose.specs.Told.{choiceOf, placeIn}
 use Rattle.msi.specs.declared.Msi.{Msi}
-use Rattle.msi.specs.declared.MsiChosen.{MsiChosen}
-use Rattle.msi.specs.Msi.{Part, placePart, deviceNeed, eventNeed, lpiNeed, msiRows, toldMsi, pickRoom, withRoom, msiPools, msiHolders, msiWant, msiIn}
+use Rattle.msi.specs.Msi.{Part, placePart, deviceNeed, eventNeed, lpiNeed, msiRows, toldMsi, pickRoom, withRoom, msiPools, msiHolders, msiIn}
 
 -- `place` reads the lists of the need's kind alone
 pub place-in : (P : Pools) (S : Holders) (n : Need) (c : R.Choice) → place P S n c ≡ placeIn (P automatic (n .kind)) (P fixed (n .kind)) (S (n .kind)) n c

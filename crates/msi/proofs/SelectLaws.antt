@@ -1,17 +1,14 @@
 -- What a granted run says of its numbers: it is the need's own row, and ends within the kind's width. Assumes nothing.
-use mathlib.Core.Path.{_≡_, refl, sym, _∙_, ap}
-use mathlib.Core.Bool.{Bool, true, false}
-use mathlib.Core.List.{List, List·Memᴰ}
+use mathlib.Core.Path.{_≡_, sym, _∙_, ap}
+use mathlib.Core.List.{List}
 use mathlib.Core.Option.{Option, none, some}
 use Prim.Native.Nat.{ℕ, _+_, _<_, _≤_}
 use native.Mathlib.Omega.{arith}
 use lib.Dec.{T, leb, leb→le}
-use Rattle.definition.specs.Base.{allOf}
+use Rattle.definition.specs.Base.{allOf, accepted}
 use Rattle.definition.specs.BaseLaws.{and-l, and-r, all-in, LeastAll, none-at-all, least-of-all}
-use Rattle.definition.specs.Rows.{nature, Span, Row}
-use Rattle.definition.specs.Refusal.{fixedNotAllowed, Answer, accepted, refused}
-use Rattle.definition.specs.Sound.{fitsSpan, goodSpan}
-use Rattle.definition.specs.Request.{Need, auto, at, rowAt, lowest, allowed, obstacle, found, unopposed, free, place}
+use Rattle.definition.specs.Tables.{nature, Span, Row, fitsSpan, goodSpan}
+use Rattle.definition.specs.Request.{Need, auto, at, rowAt, allowed, obstacle, found, unopposed, free, place}
 use Rattle.definition.specs.Request as R
 use Rattle.definition.specs.SearchLaws.{IsFree, free-says, lowest-says}
 use Rattle.definition.specs.RequestLaws.{not-accepted, require-accepted}

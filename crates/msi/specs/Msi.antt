@@ -3,11 +3,9 @@ use mathlib.Core.Bool.{Bool, true, false, _&&_}
 use mathlib.Core.List.{List, [], _∷_}
 use Prim.Native.Nat.{ℕ, _≤_}
 use lib.Dec.{T, ltb}
-use Rattle.definition.specs.Base.{allOf}
-use Rattle.definition.specs.Rows.{poolLimit, rowLimit, dom, mmio, pio, input, host, device, event, lpi, Span, Row}
-use Rattle.definition.specs.Rows as D
-use Rattle.definition.specs.Refusal.{full, Answer, accepted, refused, require, _then_}
-use Rattle.definition.specs.Sound.{used, goodSpan}
+use Rattle.definition.specs.Base.{allOf, full, Answer, accepted, refused, require, _then_}
+use Rattle.definition.specs.Tables.{poolLimit, rowLimit, dom, mmio, pio, input, host, device, event, lpi, Span, Row, used, goodSpan}
+use Rattle.definition.specs.Tables as D
 use Rattle.definition.specs.Pools.{at-kind, Holders, Claim, room}
 use Rattle.definition.specs.Request.{Need, need, rowAt, automatic, fixed, Pools, claims}
 use Rattle.definition.specs.Request as R

@@ -8,8 +8,8 @@ use lib.Dec.{T}
 use lib.ListN.{length, getD, set, drop, length-set, length-append, length-map, List·getD-append}
 use lib.Seq.{getD-set-same, getD-set-other, getD-append-add}
 use Rattle.definition.specs.BaseLaws.{and-r, T-true}
-use Rattle.definition.specs.Rows.{recordSize}
-use Rattle.definition.specs.Refusal.{Answer, accepted, refused, badInput, full, require, _then_}
+use Rattle.definition.specs.Tables.{recordSize}
+use Rattle.definition.specs.Base.{Answer, accepted, refused, badInput, full, require, _then_}
 use Rattle.definition.specs.Pools.{Holders, Claim, _⊕_, room}
 use Rattle.definition.specs.Request.{Choice, Want, memory, ports, wire, irq, msi, Request, goodRequest, Pools, claims, resolve}
 use Rattle.definition.specs.Calls.{State, poolsOf, ownersOf}

@@ -2,7 +2,7 @@
 use mathlib.Core.List.{List}
 use Prim.Native.Nat.{ℕ, zero, suc, _+_, _*_, _/_, min}
 use lib.ListN.{length, getD, set}
-use Rattle.definition.specs.Rows.{recordSize}
+use Rattle.definition.specs.Tables.{recordSize}
 use Rattle.flat.specs.Flat.{requestSize, Form, unknown, mmio, pio, input, host, messages, formAt, numberAt}
 
 abbrev pub ifAuto : {A : Type 0} → ℕ → A → A → A

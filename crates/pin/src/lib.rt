@@ -3,7 +3,7 @@ use flat::REQUEST;
 ghost use mathlib.Core.Path.{_≡_};
 ghost use Prim.Native.Nat.{_+_, _*_, _≤_, min};
 ghost use lib.ListN.{length};
-ghost use Rattle.definition.specs.Rows.{recordSize};
+ghost use Rattle.definition.specs.Tables.{recordSize};
 ghost use Rattle.flat.specs.Flat.{requestSize};
 ghost use Rattle.pin.specs.Pin.{pinChoiceAt, pinOne, pinnedNumbers};
 

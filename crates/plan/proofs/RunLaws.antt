@@ -7,10 +7,10 @@ use native.Mathlib.Omega.{arith}
 use lib.Dec.{T, leb, eqb, eqb→eq, leb→le}
 use borrow.Author.Tests.{le-leb, lt-leb}
 use Rattle.definition.specs.BaseLaws.{and-l, and-r, T-true, T-false, true-T, eq→eqb}
-use Rattle.definition.specs.Rows.{planLimit, recordSize, kinds}
+use Rattle.definition.specs.Tables.{planLimit, recordSize, kinds}
 use Rattle.definition.specs.RowLaws.{every-kind}
-use Rattle.definition.specs.Refusal.{malformed, badInput, badOwner, emptyRange, full, badLine, short, reserved, fixedNotAllowed, exhausted, conflict, silence, tell, says}
-use Rattle.definition.specs.Refusal as F
+use Rattle.definition.specs.Base.{malformed, badInput, badOwner, emptyRange, full, badLine, short, reserved, fixedNotAllowed, exhausted, conflict, silence, tell, says}
+use Rattle.definition.specs.Base as F
 use Rattle.definition.specs.Request.{automatic, fixed}
 use Rattle.definition.specs.Calls.{state, sound, saying}
 use Rattle.definition.specs.StateLaws.{sound-for}

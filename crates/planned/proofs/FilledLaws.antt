@@ -1,11 +1,11 @@
 -- The front part that a plan's answer names is its filled part. Assumes nothing.
-use mathlib.Core.Path.{_≡_, refl, ap, sym, _∙_}
+use mathlib.Core.Path.{_≡_, ap, sym, _∙_}
 use mathlib.Core.Bool.{Bool, true, false}
 use mathlib.Core.List.{List, []}
 use Prim.Native.Nat.{ℕ, _*_, _/_}
 use lib.ListN.{length, take}
-use Rattle.definition.specs.Rows.{recordSize, kinds}
-use Rattle.definition.specs.Refusal.{Refusal, malformed, short, refused, require}
+use Rattle.definition.specs.Tables.{recordSize, kinds}
+use Rattle.definition.specs.Base.{malformed, short, refused, require}
 use Rattle.definition.specs.Calls.{State, sound, settle}
 use Rattle.definition.specs.Plan.{Lent, lent, plan}
 use Rattle.front.specs.Front.{acceptedOf, filled}

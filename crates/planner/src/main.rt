@@ -27,18 +27,6 @@ fn read_input(buf: &mut [u8]) -> Input
     Input { good: true, n }
 }
 
-// The answer's bytes in front of the buffer: how many there are.
-fn answer(text: &[u8], out: &mut [u8]) -> usize
-    ensures { λ r. ⌜ r ≤ length (now (out .exit)) ⌝ }
-{
-    let r = text::respond(text, out);
-    let n = r.length;
-    if n <= out.len() {
-        return n;
-    }
-    0
-}
-
 // One byte more than the longest text is read, so that a longer one is seen.
 fn main() {
     let mut text = [0u8; 32769];
@@ -48,6 +36,7 @@ fn main() {
     }
     let n = input.n;
     let mut out = [0u8; 22553];
-    let m = answer(&text[..n], &mut out);
+    let r = text::respond(&text[..n], &mut out);
+    let m = r.length;
     io::write_all(1, &out[..m]);
 }

@@ -1,7 +1,6 @@
 -- Tables judged sound are what adding to them asks. Assumes nothing.
 use lib.Dec.{T}
-use Rattle.definition.specs.Rows.{poolLimit, Kind, kinds, sameSpan}
-use Rattle.definition.specs.Sound.{blankSpan, tidy}
+use Rattle.definition.specs.Tables.{poolLimit, Kind, kinds, sameSpan, blankSpan, tidy}
 use Rattle.definition.specs.Request.{Use, automatic, fixed}
 use Rattle.definition.specs.Calls.{given}
 use Rattle.definition.specs.RowLaws.{every-kind}

@@ -2,8 +2,8 @@
 use mathlib.Core.Path.{_≡_}
 use mathlib.Core.Bool.{true, false}
 use Prim.Native.Nat.{ℕ}
-use Rattle.definition.specs.Rows.{kinds}
-use Rattle.definition.specs.Refusal.{malformed, tell, require}
+use Rattle.definition.specs.Tables.{kinds}
+use Rattle.definition.specs.Base.{malformed, tell, require}
 use Rattle.definition.specs.Pools.{Pool, spans, Hold, heldRows}
 use Rattle.definition.specs.Request.{Use}
 use Rattle.definition.specs.Calls.{State, given, saying, starting, addAll, pool, hold, start, serve}

@@ -6,7 +6,7 @@ use super::Use;
 use super::serve;
 use tables::State;
 ghost use mathlib.Core.Path.{_≡_};
-ghost use Rattle.definition.specs.Rows.{kinds};
+ghost use Rattle.definition.specs.Tables.{kinds};
 ghost use Rattle.definition.specs.Pools.{mmioPool, pioPool, mmioHold, pioHold};
 ghost use Rattle.definition.specs.Request.{automatic, fixed};
 ghost use Rattle.definition.specs.Calls.{pool, hold, serve};

@@ -8,7 +8,7 @@ use adding::reserve::past;
 use tables::State;
 ghost use mathlib.Core.Path.{_≡_};
 ghost use Prim.Native.Nat.{suc, min};
-ghost use Rattle.definition.specs.Rows.{top, kinds};
+ghost use Rattle.definition.specs.Tables.{top, kinds};
 ghost use Rattle.definition.specs.Pools.{hostPool, hostHold};
 ghost use Rattle.definition.specs.Request.{automatic, fixed};
 ghost use Rattle.definition.specs.Calls.{pool, hold, serve};

@@ -3,7 +3,7 @@ use range::Reply;
 use tables::State;
 ghost use mathlib.Core.Path.{_≡_};
 ghost use lib.Dec.{T};
-ghost use Rattle.definition.specs.Rows.{kinds};
+ghost use Rattle.definition.specs.Tables.{kinds};
 ghost use Rattle.definition.specs.Pools.{spans, heldRows, pairHold};
 ghost use Rattle.definition.specs.Calls.{given, starting, addAll, hold, start, serve};
 ghost use Rattle.tables.specs.Views.{stateView};

@@ -10,7 +10,7 @@ use super::serve;
 use tables::DeviceId;
 use tables::State;
 ghost use mathlib.Core.Path.{_≡_};
-ghost use Rattle.definition.specs.Rows.{kinds};
+ghost use Rattle.definition.specs.Tables.{kinds};
 ghost use Rattle.definition.specs.Pools.{msiPool, deviceHold, eventHold, lpiHold};
 ghost use Rattle.definition.specs.Request.{automatic, fixed};
 ghost use Rattle.definition.specs.Calls.{pool, hold, serve};

@@ -8,10 +8,8 @@ use native.Mathlib.Omega.{arith}
 use lib.Dec.{T, leb, ltb, eqb, ltb→lt}
 use lib.ListN.{length}
 use borrow.Author.Tests.{lt-ltb, le-ltb, le-leb, lt-leb, eq-eqb}
-use Rattle.definition.specs.Base.{allOf, firstOf}
-use Rattle.definition.specs.Rows.{rowLimit, top, lastTrigger, shared, dom, Kind, input, Row, wiredRow, sameDom, within, overlap, meets}
-use Rattle.definition.specs.Refusal.{Refusal, malformed, badInput, badOwner, emptyRange, full, badLine, short, reserved, fixedNotAllowed, exhausted, conflict, tell, Answer, accepted, refused, require}
-use Rattle.definition.specs.Sound.{Table, used, fits}
+use Rattle.definition.specs.Base.{allOf, firstOf, Refusal, malformed, badInput, badOwner, emptyRange, full, badLine, short, reserved, fixedNotAllowed, exhausted, conflict, tell, Answer, accepted, refused, require}
+use Rattle.definition.specs.Tables.{rowLimit, top, lastTrigger, shared, dom, Kind, input, Row, wiredRow, sameDom, within, overlap, meets, Table, used, fits}
 use Rattle.definition.specs.Pools.{at-kind, Holders, Claim, rowsOf, room, unreserved, allUnreserved, reserve}
 use Rattle.definition.specs.Calls.{pushAll}
 use Rattle.definition.specs.BaseLaws.{and-l, and-r, and-true, and-false, T-true, T-false, true-T}

@@ -5,12 +5,11 @@ use mathlib.Core.List.{List, [], _∷_}
 use Prim.Native.Nat.{ℕ, zero, suc, _<_, _≤_}
 use native.Mathlib.Numerals.{add-one}
 use native.Mathlib.Omega.{arith}
-use lib.Dec.{T, ltb}
+use lib.Dec.{T}
 use lib.ListN.{length}
 use borrow.Author.Tests.{lt-ltb, le-ltb}
-use Rattle.definition.specs.Rows.{poolLimit, Kind, Span, sameSpan}
-use Rattle.definition.specs.Refusal.{says, Answer, accepted, refused, emptyRange, full, require}
-use Rattle.definition.specs.Sound.{used, blankSpan, tidy, fitsSpan}
+use Rattle.definition.specs.Tables.{poolLimit, Kind, Span, sameSpan, used, blankSpan, tidy, fitsSpan}
+use Rattle.definition.specs.Base.{says, Answer, accepted, refused, emptyRange, full, require}
 use Rattle.definition.specs.Pools.{insert, unlessThere, addRange}
 use Rattle.definition.specs.Calls.{stored}
 use Rattle.definition.specs.BaseLaws.{T-true}
@@ -26,7 +25,8 @@ use Rattle.tables.proofs.TableLaws.{table, used-is}
 use Rattle.range.specs.Places.{before, placeOf, Opened}
 use Rattle.range.specs.Answers.{Entered, telling, storedOr}
 use Rattle.range.specs.declared.Inserted.{Inserted}
-use Rattle.range.proofs.FirstLaws.{FirstIs, first-is, used-any, used-none}
+use Rattle.tables.proofs.IndexLaws.{FirstIs, first-is}
+use Rattle.range.proofs.FirstLaws.{used-any, used-none}
 
 -- ---- a row put where the definition puts it
 

@@ -6,7 +6,7 @@ use native.Mathlib.Nat.{eq-or-lt-of-le}
 use native.Mathlib.Omega.{arith}
 use lib.ListN.{length, set, length-set}
 use lib.Seq.{getD-set-same, getD-set-other}
-use Rattle.definition.specs.Rows.{poolLimit}
+use Rattle.definition.specs.Tables.{poolLimit}
 use Rattle.tables.specs.Views.{pool, poolAt}
 use Rattle.tables.specs.Sized.{SizedPool}
 use Rattle.tables.specs.declared.Pool.{Pool}

@@ -6,10 +6,8 @@ use mathlib.Core.Option.{Option, some, none}
 use lib.Dec.{eqb, ltb}
 use lib.ListN.{length}
 use borrow.Author.Tests.{eqb-true, eqb-false}
-use Rattle.definition.specs.Base.{allOf, firstOf}
-use Rattle.definition.specs.Rows.{rowLimit, Kind, Row, meets}
-use Rattle.definition.specs.Refusal.{Answer, accepted, badInput, badOwner, emptyRange, full, require}
-use Rattle.definition.specs.Sound.{fits}
+use Rattle.definition.specs.Base.{allOf, firstOf, Answer, accepted, badInput, badOwner, emptyRange, full, require}
+use Rattle.definition.specs.Tables.{rowLimit, Kind, Row, meets, fits}
 use Rattle.definition.specs.Pools.{at-kind, Holders, Claim, room, unreserved, allUnreserved, reserve}
 use Rattle.range.specs.Answers.{telling, heard, reserveOne, pick, earlierOf}
 use Rattle.range.specs.declared.Reply.{Reply}

@@ -3,9 +3,8 @@ use mathlib.Core.Path.{_≡_}
 use mathlib.Core.Bool.{Bool, true, false}
 use mathlib.Core.List.{List, [], _∷_}
 use lib.Dec.{eqb, ltb}
-use Rattle.definition.specs.Rows.{Kind, Span, Row}
-use Rattle.definition.specs.Refusal.{Said, says, silence, tell, Answer, accepted, refused}
-use Rattle.definition.specs.Sound.{Table, used}
+use Rattle.definition.specs.Tables.{Kind, Span, Row, Table, used}
+use Rattle.definition.specs.Base.{Said, says, silence, tell, Answer, accepted, refused}
 use Rattle.definition.specs.Pools.{at-kind, addRange, Claim, rowsOf, reserve}
 use Rattle.definition.specs.Calls.{pushAll, stored}
 use Rattle.tables.specs.Views.{poolView}

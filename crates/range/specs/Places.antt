@@ -3,7 +3,7 @@ use mathlib.Core.Path.{_≡_}
 use mathlib.Core.Bool.{Bool, true, false, _&&_}
 use Prim.Native.Nat.{ℕ, _+_, _<_, _≤_}
 use lib.Dec.{ltb}
-use Rattle.definition.specs.Rows.{Span, sameDom, sameSpan}
+use Rattle.definition.specs.Tables.{Span, sameDom, sameSpan}
 use Rattle.tables.specs.Views.{poolAt}
 use Rattle.tables.specs.declared.Hit.{Hit}
 use Rattle.tables.specs.declared.Hit.the-variants.{At, Clear}

@@ -7,7 +7,7 @@ use tables::WireRow;
 use tables::Wires;
 ghost use mathlib.Core.Path.{_≡_};
 ghost use Prim.Native.Nat.{_≤_, _<_};
-ghost use Rattle.definition.specs.Rows.{rowLimit, input as wired, meets};
+ghost use Rattle.definition.specs.Tables.{rowLimit, input as wired, meets};
 ghost use Rattle.tables.specs.Below.{first};
 ghost use Rattle.tables.specs.Views.{wires, wireOf, wireAt, wiresView};
 ghost use Rattle.range.specs.Answers.{Told, Held};

@@ -1,12 +1,12 @@
 -- The test of a range is the definition's test of MMIO and of PIO, and what a good request says of its numbers. Assumes nothing.
-use mathlib.Core.Path.{_≡_, refl, sym, _∙_, ap}
+use mathlib.Core.Path.{_≡_, refl}
 use mathlib.Core.Bool.{Bool, true, false, _&&_}
 use Prim.Native.Nat.{ℕ, _^_, _<_, _≤_}
 use native.Mathlib.Omega.{arith}
-use lib.Dec.{T, leb, ltb, leb→le, ltb→lt}
+use lib.Dec.{T, leb, ltb, ltb→lt}
 use borrow.Author.Tests.{leb-true}
 use Rattle.definition.specs.BaseLaws.{and-l, and-r, T-true, true-T}
-use Rattle.definition.specs.Request.{Choice, goodChoice, oneBit, goodWant, goodRequest, memory, ports, wire, irq, msi}
+use Rattle.definition.specs.Request.{Choice, goodChoice, oneBit, goodWant, goodRequest, memory, ports, msi}
 use Rattle.definition.specs.Request as R
 use Rattle.definition.specs.RequestLaws.{oneBit-pos}
 use Rattle.search.proofs.OnesLaws.{one-bit-wide}

@@ -2,8 +2,8 @@
 use mathlib.Core.Bool.{Bool, _&&_}
 use Prim.Native.Nat.{ℕ}
 use lib.Dec.{leb, ltb}
-use Rattle.definition.specs.Refusal.{says}
-use Rattle.definition.specs.Refusal as F
+use Rattle.definition.specs.Base.{says}
+use Rattle.definition.specs.Base as F
 use Rattle.definition.specs.Request.{goodChoice, oneBit, memory, ports, wire, irq, msi}
 use Rattle.definition.specs.Request as R
 use Rattle.choose.specs.Told.{choiceOf}

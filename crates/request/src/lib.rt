@@ -2,8 +2,8 @@
 use choose::Choice;
 use choose::Refusal;
 ghost use mathlib.Core.Path.{_≡_};
-ghost use Rattle.definition.specs.Refusal.{tell};
-ghost use Rattle.definition.specs.Request.{goodChoice, goodWant, goodRequest, memory, ports, wire, irq, msi};
+ghost use Rattle.definition.specs.Base.{tell};
+ghost use Rattle.definition.specs.Request.{goodChoice, goodWant, goodRequest, wire, msi};
 ghost use Rattle.choose.specs.Told.{choiceOf, refusalOf};
 ghost use Rattle.request.specs.Asked.{wantOf, requestOf, saidOf, goodSpan};
 

@@ -5,15 +5,13 @@ use mathlib.Core.List.{List, [], _∷_}
 use Prim.Native.Nat.{ℕ}
 use lib.Dec.{ltb}
 use lib.ListN.{length}
-use Rattle.definition.specs.Base.{allOf}
-use Rattle.definition.specs.Rows.{rowLimit, dom, Kind, device, event, lpi, Row}
-use Rattle.definition.specs.Refusal.{badInput, full, silence, Answer, accepted, refused, require, _then_}
+use Rattle.definition.specs.Base.{allOf, badInput, full, silence, Answer, accepted, refused, require, _then_}
+use Rattle.definition.specs.Tables.{rowLimit, dom, Kind, device, event, lpi, Row, Table}
 use Rattle.definition.specs.Pools.{at-kind, Holders, Claim, rowsOf, room}
 use Rattle.definition.specs.Request.{Need, need, Pools, automatic, fixed, place, one, claims, goodRequest, resolve}
 use Rattle.definition.specs.Request as R
 use Rattle.definition.specs.Calls.{state, poolsOf, ownersOf, pushAll}
 use Rattle.definition.specs.Calls as C
-use Rattle.definition.specs.Sound.{Table}
 use Rattle.definition.specs.Plan.{baseAt}
 use Rattle.tables.specs.Views.{poolsView, holdersView, stateView}
 use Rattle.tables.specs.declared.Holders as H

@@ -1,7 +1,7 @@
 -- Owner tables with one kind's rows grown are the owner tables with the granted rows. Assumes nothing.
 use mathlib.Core.Path.{_≡_, refl}
 use mathlib.Core.List.{[], _∷_}
-use Rattle.definition.specs.Rows.{Kind, mmio, pio, input, host, device, event, lpi, sameKind, Row}
+use Rattle.definition.specs.Tables.{Kind, mmio, pio, input, host, device, event, lpi, sameKind, Row}
 use Rattle.definition.specs.Pools.{at-kind, rowsOf}
 use Rattle.definition.specs.Calls.{pushAll}
 use Rattle.tables.specs.Views.{rangesView, wiresView, holdersView}

@@ -1,11 +1,11 @@
 -- What soundness gives the choices: counts within sizes, automatic pools in order and within the width. Assumes nothing.
 use lib.Dec.{T}
-use Rattle.definition.specs.Rows.{Kind, kinds}
+use Rattle.definition.specs.Tables.{Kind, kinds}
 use Rattle.definition.specs.RowLaws.{every-kind}
 use Rattle.definition.specs.BaseLaws.{all-in}
 use Rattle.definition.specs.Calls.{soundAt, sound}
 use Rattle.definition.specs.Calls as C
-use Rattle.definition.specs.StateLaws.{Sound, sound-says, SoundPool}
+use Rattle.definition.specs.StateLaws.{Sound, SoundPool}
 use Rattle.tables.specs.Views.{poolView}
 use Rattle.tables.specs.declared.Pool.{Pool}
 use Rattle.search.specs.Finds.{InOrder}

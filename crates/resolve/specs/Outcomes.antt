@@ -3,7 +3,7 @@ use mathlib.Core.Path.{_≡_}
 use mathlib.Core.Bool.{true, false}
 use mathlib.Core.List.{List}
 use Prim.Native.Nat.{ℕ}
-use Rattle.definition.specs.Refusal.{full, silence, tell, Answer, accepted, refused, require, _then_}
+use Rattle.definition.specs.Base.{full, silence, tell, Answer, accepted, refused, require, _then_}
 use Rattle.definition.specs.Pools.{Claim, room}
 use Rattle.definition.specs.Request.{claims}
 use Rattle.definition.specs.Request as R

@@ -15,7 +15,7 @@ ghost use mathlib.Core.Path.{_≡_};
 ghost use mathlib.Core.Bool.{true};
 ghost use Prim.Native.Nat.{_<_};
 ghost use lib.Dec.{T};
-ghost use Rattle.definition.specs.Rows.{kinds, mmio, pio, input, host, device, event, lpi};
+ghost use Rattle.definition.specs.Tables.{kinds, mmio, pio, input, host, device, event, lpi};
 ghost use Rattle.definition.specs.Request.{goodWant, memory, ports, wire, irq};
 ghost use Rattle.definition.specs.Request as R;
 ghost use Rattle.definition.specs.Calls.{soundAt, sound, poolsOf, ownersOf};

@@ -3,8 +3,6 @@ mod call;
 mod read;
 
 use tables::State;
-ghost use Prim.Native.Nat.{_≤_};
-ghost use lib.ListN.{length};
 
 // One request that writes its record into the first n numbers of a list of nines.
 pub fn ask(s: State, x: [u64; 14], k: usize, n: usize) -> State {

@@ -1,7 +1,7 @@
 -- The next multiple of a from v on, where v is none. Assumes nothing.
 use mathlib.Core.Path.{_≡_, _∙_}
 use mathlib.Core.Logic.{⊎-elim}
-use Prim.Native.Nat.{ℕ, suc, _+_, _-_, _*_, _/_, _%_, _<_, _≤_}
+use Prim.Native.Nat.{ℕ, _+_, _-_, _*_, _/_, _%_, _<_, _≤_}
 use native.Mathlib.Nat.{div-add-mod', mul-le-mul-right, mul-add-mod-self-right, mod-self, mod-lt, suc-mul}
 use native.Mathlib.Omega.{arith}
 use Rattle.search.proofs.CaseLaws.{lt-or-le}

@@ -1,18 +1,14 @@
 -- The ways out of `range_allowed`, as the definition's `allowed`. Assumes nothing.
-use mathlib.Core.Path.{_≡_, refl, sym, _∙_, ap}
-use mathlib.Core.Bool.{Bool, true, false, _&&_}
+use mathlib.Core.Path.{_≡_}
+use mathlib.Core.Bool.{Bool, true, false}
 use mathlib.Core.List.{List}
 use Prim.Native.Nat.{ℕ, _+_, _%_, _<_, _≤_}
-use lib.Dec.{T, leb, eqb, leb→le}
+use lib.Dec.{T, leb, leb→le}
 use borrow.Author.Tests.{lt-leb, le-leb, eq-eqb, ne-eqb}
 use Rattle.definition.specs.Base.{anyOf}
-use Rattle.definition.specs.BaseLaws.{and-l, and-r, true-T}
-use Rattle.definition.specs.Rows.{Span, nature}
+use Rattle.definition.specs.BaseLaws.{and-l, and-r, and-false, true-T}
+use Rattle.definition.specs.Tables.{Span, nature}
 use Rattle.definition.specs.Request.{Need, aligned, holds, allowed}
-
-and-false : (a : Bool) → a && false ≡ false
-and-false true = refl
-and-false false = refl
 
 module _ (ps : List Span) (n : Need) (b : ℕ) where
   pub askew : (b % n .align ≡ 0 → ⊥) → false ≡ allowed ps n b

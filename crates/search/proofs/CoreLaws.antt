@@ -1,26 +1,25 @@
 -- The mathematics of the search, over rows by their index and no code. Assumes nothing.
-use mathlib.Core.Path.{_≡_, refl, sym, _∙_, ap, subst}
-use mathlib.Core.Bool.{Bool, true, false, not, _&&_, _||_}
-use mathlib.Core.Logic.{_⊎_, ⊎-elim}
+use mathlib.Core.Path.{_≡_, ap}
+use mathlib.Core.Bool.{true, not, _||_}
+use mathlib.Core.Logic.{⊎-elim}
 use mathlib.Core.List.{List}
-use mathlib.Core.Option.{Option, none, some}
-use Prim.Native.Nat.{ℕ, suc, _+_, _%_, _<_, _≤_}
+use mathlib.Core.Option.{none, some}
+use Prim.Native.Nat.{ℕ, _+_, _%_, _<_, _≤_}
 use native.Mathlib.Nat.{eq-or-lt-of-le}
 use native.Mathlib.Omega.{arith}
 use lib.Dec.{T, leb, eqb, leb→le, eqb→eq}
 use Rattle.definition.specs.Base.{anyOf, pairsOf}
-use Rattle.definition.specs.BaseLaws.{and-l, and-r, and-i, T-false, true-T, false-T, T-true, not-T→, →not-T, or-cases, eq→eqb, all-some, all-none}
-use Rattle.definition.specs.Rows.{Dom, sameDom, poolDom, Span, Row, meets, sameSpan}
+use Rattle.definition.specs.BaseLaws.{and-l, and-r, and-i, T-false, false-T, not-T→, →not-T, or-cases, eq→eqb, all-some, all-none}
+use Rattle.definition.specs.Tables.{sameDom, poolDom, Span, Row, meets, sameSpan, inOrder}
 use Rattle.definition.specs.RowLaws.{dom-sym, dom-trans}
-use Rattle.definition.specs.Sound.{inOrder}
 use Rattle.definition.specs.Request.{Need, rowAt, aligned, holds, free, lowest}
 use Rattle.definition.specs.SearchLaws.{lowest-says}
 use Rattle.tables.specs.Below.{listed}
 use Rattle.tables.proofs.ListedLaws.{pairs-out}
 use Rattle.search.specs.Steps.{Up, Bases, Free, Tried, Jumps}
 use Rattle.search.proofs.CaseLaws.{lt-or-le, not-both}
-use Rattle.search.proofs.IndexLaws.{any-out, any-in}
-use Rattle.search.proofs.MeetLaws.{Meets, meets-says, says-meets, Holds, holds-says, says-holds}
+use Rattle.tables.proofs.IndexLaws.{any-out, any-in}
+use Rattle.search.proofs.MeetLaws.{meets-says, says-meets, holds-says}
 
 -- ---- rows in the way
 

@@ -1,16 +1,14 @@
 -- From the index laws to the promises: what the searches end with is the definition's `lowest` over the tables' views. Assumes nothing.
-use mathlib.Core.Path.{_≡_, refl, sym, _∙_, ap, ap₂}
-use mathlib.Core.List.{List, []}
-use mathlib.Core.Option.{Option, none, some}
-use Prim.Native.Nat.{ℕ, _+_, _<_, _≤_, _%_}
+use mathlib.Core.Path.{_≡_, sym, _∙_, ap₂}
+use mathlib.Core.Option.{Option}
+use Prim.Native.Nat.{ℕ, _≤_}
 use lib.Dec.{T}
 use Rattle.definition.specs.Base.{pairsOf}
-use Rattle.definition.specs.Rows.{poolLimit, rowLimit, Span, Row, sameDom, overlap, meets}
-use Rattle.definition.specs.Sound.{used, inOrder}
-use Rattle.definition.specs.Request.{rowAt, aligned, holds, free, candidates, lowest}
+use Rattle.definition.specs.Tables.{poolLimit, rowLimit, Span, Row, used, inOrder}
+use Rattle.definition.specs.Request.{lowest}
 use Rattle.definition.specs.Request as R
 use Rattle.tables.specs.Below.{listed}
-use Rattle.tables.specs.Views.{ranges, wires, spanOf, poolAt, rangeOf, rangeAt, wireOf, wireAt, poolView, rangesView, wiresView}
+use Rattle.tables.specs.Views.{spanOf, poolAt, rangeOf, rangeAt, wireOf, wireAt, poolView, rangesView, wiresView}
 use Rattle.tables.specs.declared.Pool.{Pool}
 use Rattle.tables.specs.declared.Ranges.{Ranges}
 use Rattle.tables.specs.declared.Wires.{Wires}

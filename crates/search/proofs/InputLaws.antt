@@ -1,17 +1,14 @@
 -- An input is a run of one number: what the search of inputs leans on. Assumes nothing.
-use mathlib.Core.Path.{_≡_, refl, sym, _∙_, ap}
-use mathlib.Core.Bool.{Bool, true, false}
+use mathlib.Core.Path.{_≡_, refl, sym, _∙_}
 use mathlib.Core.List.{List}
-use Prim.Native.Nat.{ℕ, suc, _+_, _<_, _≤_}
+use Prim.Native.Nat.{ℕ, _+_}
 use native.Mathlib.Numerals.{add-one}
-use lib.Dec.{ltb}
-use Rattle.definition.specs.Rows.{Span, Row, sameDom, wiredRow, overlap, meets}
+use Rattle.definition.specs.Tables.{Span, Row, wiredRow, overlap, meets}
 use Rattle.definition.specs.Request.{rowAt, aligned, holds, free, candidates, lowest, allowed, wireNeed}
-use Rattle.tables.specs.declared.Hit.{Hit}
 use Rattle.tables.specs.declared.Hit.the-variants.{At, Clear}
 use Rattle.search.specs.Asks.{needOf, inputNeed, bareWire}
 use Rattle.search.specs.Steps.{Free, Tried}
-use Rattle.search.proofs.IndexLaws.{FirstIs}
+use Rattle.tables.proofs.IndexLaws.{FirstIs}
 use Rattle.search.proofs.CoreLaws.{tried-one}
 
 module _ (c : ℕ) where

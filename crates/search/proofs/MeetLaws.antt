@@ -1,17 +1,13 @@
 -- What it says that two rows meet, that they do not, and that a pool row holds a run. Assumes nothing.
-use mathlib.Core.Path.{_≡_, refl, sym, _∙_, ap}
+use mathlib.Core.Path.{_≡_, refl, sym}
 use mathlib.Core.Bool.{Bool, true, false, _&&_}
 use Prim.Native.Nat.{ℕ, suc, _+_, _<_, _≤_}
 use native.Mathlib.Omega.{arith}
-use lib.Dec.{T, leb, ltb, eqb, ltb→lt, lt→ltb, leb→le, le→leb}
+use lib.Dec.{T, leb, ltb, ltb→lt, leb→le, le→leb}
 use borrow.Author.Tests.{lt-ltb, le-ltb, eq-eqb, ne-eqb}
-use Rattle.definition.specs.BaseLaws.{and-l, and-r, and-i, T-true, true-T}
-use Rattle.definition.specs.Rows.{Dom, dom, sameDom, poolDom, Span, Row, rangeRow, wiredRow, overlap, meets}
-use Rattle.definition.specs.Request.{Need, rowAt, holds}
-
-and-false : (a : Bool) → a && false ≡ false
-and-false true = refl
-and-false false = refl
+use Rattle.definition.specs.BaseLaws.{and-l, and-r, and-i, and-false, T-true, true-T}
+use Rattle.definition.specs.Tables.{dom, sameDom, poolDom, Span, Row, wiredRow, overlap, meets}
+use Rattle.definition.specs.Request.{Need, holds}
 
 -- two rows, w first
 module _ (w r : Row) where

@@ -1,8 +1,7 @@
 -- The count of ones that the machine gives is the definition's, at every width that holds the number. Assumes nothing.
 use mathlib.Core.Path.{_≡_, refl, sym, _∙_, ap}
-use mathlib.Core.Bool.{Bool}
-use Prim.Native.Nat.{ℕ, zero, suc, _+_, _*_, _/_, _%_, _^_, _<_}
-use native.Mathlib.Nat.{div-add-mod', div-lt-iff-lt-mul}
+use Prim.Native.Nat.{ℕ, zero, suc, _/_, _^_, _<_}
+use native.Mathlib.Nat.{div-add-mod'}
 use native.Mathlib.Omega.{arith}
 use lib.Count.{ones, onesIn, ones-step}
 use lib.Dec.{eqb}

@@ -1,22 +1,19 @@
 -- The bases of a pool row, and whether it holds a run, from comparisons of its numbers. Assumes nothing.
-use mathlib.Core.Path.{_≡_, refl, sym, _∙_, ap}
-use mathlib.Core.Bool.{Bool, true, false, _&&_}
+use mathlib.Core.Path.{_≡_, sym}
+use mathlib.Core.Bool.{Bool, true, false}
 use Prim.Native.Nat.{ℕ, _+_, _<_, _≤_}
 use native.Mathlib.Omega.{arith}
-use lib.Dec.{T, leb, ltb, eqb}
-use lib.ListN.{length}
-use borrow.Author.Tests.{eq-eqb, ne-eqb, lt-leb, le-leb}
+use lib.Dec.{T}
+use borrow.Author.Tests.{eq-eqb, ne-eqb}
 use Rattle.definition.specs.Base.{anyOf}
 use Rattle.definition.specs.BaseLaws.{T-true, T-false, true-T, false-T}
-use Rattle.definition.specs.Rows.{poolLimit, Dom, dom, sameDom, poolDom, Span}
-use Rattle.definition.specs.Sound.{used}
+use Rattle.definition.specs.Tables.{poolLimit, dom, sameDom, poolDom, Span, used}
 use Rattle.definition.specs.Request.{Need, holds}
-use Rattle.tables.specs.Below.{listed}
 use Rattle.tables.specs.Views.{poolView}
 use Rattle.tables.specs.declared.Pool.{Pool}
 use Rattle.search.specs.Steps.{Below, Bases}
-use Rattle.search.proofs.MeetLaws.{Holds, holds-says, says-holds}
-use Rattle.search.proofs.IndexLaws.{any-in, any-out}
+use Rattle.search.proofs.MeetLaws.{holds-says, says-holds}
+use Rattle.tables.proofs.IndexLaws.{any-in, any-out}
 use Rattle.search.proofs.FoundLaws.{spanAt, pool-used}
 
 module _ (n : Need) (p : Span) where

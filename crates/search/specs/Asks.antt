@@ -1,8 +1,8 @@
 -- What the code's requests of one table stand for in the definition. Assumes nothing.
 use mathlib.Core.Option.{Option, none, some}
 use Prim.Native.Nat.{ℕ}
-use Rattle.definition.specs.Rows.{dom, mmio, pio, host, device, event, lpi}
-use Rattle.definition.specs.Rows as D
+use Rattle.definition.specs.Tables.{dom, mmio, pio, host, device, event, lpi}
+use Rattle.definition.specs.Tables as D
 use Rattle.definition.specs.Request.{need, wireNeed}
 use Rattle.definition.specs.Request as R
 use Rattle.search.specs.declared.Kind.{Kind}

@@ -5,8 +5,7 @@ use mathlib.Core.List.{List}
 use Prim.Native.Nat.{ℕ, _+_, _^_, _<_, _≤_}
 use lib.Dec.{T}
 use Rattle.definition.specs.Base.{pairsOf}
-use Rattle.definition.specs.Rows.{poolLimit}
-use Rattle.definition.specs.Sound.{used, inOrder}
+use Rattle.definition.specs.Tables.{poolLimit, used, inOrder}
 use Rattle.definition.specs.Request.{lowest, holds}
 use Rattle.definition.specs.Request as R
 use Rattle.tables.specs.Views.{ranges, wires, spanOf, poolAt, poolView, rangesView, wiresView}

@@ -3,7 +3,7 @@ use mathlib.Core.Path.{_≡_}
 use mathlib.Core.Bool.{false}
 use Prim.Native.Nat.{ℕ, _+_, _%_, _^_, _<_, _≤_}
 use lib.Dec.{T}
-use Rattle.definition.specs.Rows.{sameDom, poolDom, Span, Row, meets}
+use Rattle.definition.specs.Tables.{sameDom, poolDom, Span, Row, meets}
 use Rattle.definition.specs.Request.{Need, rowAt, holds}
 use Rattle.search.specs.declared.Step.{Step}
 use Rattle.search.specs.declared.Step.the-variants.{To, Stay}

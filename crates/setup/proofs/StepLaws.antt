@@ -1,27 +1,27 @@
 -- A `pool` or a `hold` line before any `want` is the definition's call, and the rest of the text goes on from there. Assumes nothing.
-use mathlib.Core.Path.{_≡_, refl, sym, _∙_, ap, subst}
+use mathlib.Core.Path.{_≡_, sym, _∙_, ap, subst}
 use mathlib.Core.Bool.{Bool, true, false}
 use mathlib.Core.List.{List, []}
-use mathlib.Core.Option.{Option, none, some}
-use Prim.Native.Nat.{ℕ, suc, _+_, _<_, _≤_}
+use mathlib.Core.Option.{some}
+use Prim.Native.Nat.{ℕ, suc, _+_, _<_}
 use native.Mathlib.Omega.{arith}
 use native.Mathlib.Numerals.{add-one}
-use lib.Dec.{T, eqb}
+use lib.Dec.{T}
 use lib.ListN.{length, drop}
 use borrow.Author.Tests.{eq-eqb, ne-eqb}
-use Rattle.definition.specs.Rows.{kinds}
+use Rattle.definition.specs.Tables.{kinds}
 use Rattle.definition.specs.Calls.{State as Given, fresh, given, Call, pool, hold, start, want, serve}
 use Rattle.definition.specs.StateLaws.{given-for, for-given, sound-for, fresh-sound, serve-given}
 use Rattle.lines.specs.Base.{newline, split}
 use Rattle.lines.specs.Code.{first}
 use Rattle.lines.specs.Line.{readLine}
-use Rattle.lines.specs.Text.{Sofar, sofar, beginning, accepts, setUp, step, feedParts, feed}
+use Rattle.lines.specs.Text.{Sofar, sofar, setUp, step, feedParts, feed}
+use Rattle.lines.specs.Head.{adds, lineAt, Stops}
 use Rattle.lines.proofs.FeedLaws.{line-taken}
 use Rattle.tables.specs.Views.{stateView}
 use Rattle.tables.specs.Whole.{freshState}
 use Rattle.tables.specs.declared.State.{State}
 use Rattle.tables.proofs.FreshLaws.{fresh-view}
-use Rattle.entry.specs.Entries.{adds, lineAt, Stops}
 use Rattle.setup.specs.Setup.{Taken, SetsUp}
 use Rattle.setup.specs.declared.Setup.{Setup}
 

@@ -6,15 +6,15 @@ use mathlib.Core.Option.{some}
 use Prim.Native.Nat.{ℕ, _+_, _<_, _≤_}
 use lib.Dec.{T}
 use lib.ListN.{length, drop}
-use Rattle.definition.specs.Rows.{rowLimit, Kind, input, kinds, Row}
+use Rattle.definition.specs.Tables.{rowLimit, Kind, input, kinds, Row, fits}
 use Rattle.definition.specs.Pools.{Pool, spans, Claim, at-kind}
-use Rattle.definition.specs.Sound.{fits}
 use Rattle.definition.specs.Request.{automatic, fixed}
 use Rattle.definition.specs.Calls.{given, pool, hold}
 use Rattle.definition.specs.BaseLaws.{T-true}
 use Rattle.lines.specs.Base.{newline}
 use Rattle.lines.specs.Code.{first}
 use Rattle.lines.specs.Line.{readLine}
+use Rattle.lines.specs.Head.{lineAt}
 use Rattle.tables.specs.Views.{rangeOf, wireOf, rangesView, wiresView, holdersView, stateView}
 use Rattle.tables.specs.Whole.{pushedRange, pushedWire, freshPools, freshHolders}
 use Rattle.tables.specs.Sized.{SizedRanges, SizedHolders}
@@ -35,7 +35,7 @@ use Rattle.adding.specs.declared.reserve.RangeKind.the-variants as R
 use Rattle.adding.proofs.HeldLaws.{range-held, input-held, few-at}
 use Rattle.pool.proofs.GivenLaws.{given-tidy, given-few}
 use Rattle.pool.proofs.ServeLaws.{serve-pool, serve-hold}
-use Rattle.entry.specs.Entries.{lineAt, Reserves, Fitting}
+use Rattle.entry.specs.Entries.{Reserves, Fitting}
 use Rattle.setup.specs.Setup.{standing, Taken}
 use Rattle.setup.proofs.StepLaws.{taken-none, taken-more}
 

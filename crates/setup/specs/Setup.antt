@@ -5,17 +5,17 @@ use mathlib.Core.List.{List, []}
 use Prim.Native.Nat.{ℕ, _≤_}
 use lib.Dec.{T}
 use lib.ListN.{length, drop}
-use Rattle.definition.specs.Rows.{kinds}
+use Rattle.definition.specs.Tables.{kinds}
 use Rattle.definition.specs.Calls.{given}
 use Rattle.lines.specs.Base.{newline, split}
 use Rattle.lines.specs.Text.{sofar, beginning, accepts, step, feedParts, feed}
+use Rattle.lines.specs.Head.{Stops}
 use Rattle.tables.specs.Views.{stateView}
 use Rattle.tables.specs.Whole.{freshHolders}
 use Rattle.tables.specs.declared.Pools.{Pools}
 use Rattle.tables.specs.declared.Holders.{Holders}
 use Rattle.tables.specs.declared.State.{State}
 use Rattle.range.specs.declared.Reply.{Reply}
-use Rattle.entry.specs.Entries.{Stops}
 use Rattle.setup.specs.declared.Setup.{Setup}
 
 -- pools and reservations beside owner tables of zeros, and an answer

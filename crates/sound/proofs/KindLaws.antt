@@ -1,8 +1,7 @@
 -- The tests of one kind's tables are the definition's tests of that kind. Assumes nothing.
 use mathlib.Core.Path.{_≡_, refl, _∙_, ap, ap₂}
 use mathlib.Core.Bool.{Bool, true, false, _&&_}
-use Rattle.definition.specs.Rows.{Kind, input}
-use Rattle.definition.specs.Sound.{used, soundHeld, soundOwners, begins}
+use Rattle.definition.specs.Tables.{Kind, input, used, soundHeld, soundOwners, begins}
 use Rattle.definition.specs.Request.{automatic, fixed}
 use Rattle.definition.specs.Calls.{State, givenAt, soundAt}
 use Rattle.tables.specs.Views.{poolView, rangesView, wiresView}

@@ -2,8 +2,7 @@
 use mathlib.Core.Path.{_≡_, refl, _∙_, ap}
 use mathlib.Core.Bool.{Bool, true, _&&_}
 use Rattle.definition.specs.Base.{allOf, pairsOf}
-use Rattle.definition.specs.Rows.{sameDom, sameRow, sameSpan, Kind, kinds, mmio, pio, input, host, device, event, lpi}
-use Rattle.definition.specs.Sound.{tidy, soundTable, begins}
+use Rattle.definition.specs.Tables.{sameDom, sameRow, sameSpan, Kind, kinds, mmio, pio, input, host, device, event, lpi, tidy, soundTable, begins}
 use Rattle.definition.specs.Calls.{fresh, givenAt, soundAt, given, sound}
 use Rattle.tables.specs.Views.{stateView}
 use Rattle.tables.specs.declared.State.{State}

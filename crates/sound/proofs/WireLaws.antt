@@ -6,8 +6,7 @@ use native.Mathlib.Omega.{arith}
 use lib.Dec.{eqb, leb, ltb, eqb→eq, ltb→lt, lt→ltb}
 use lib.ListN.{getD}
 use borrow.Author.Tests.{le-leb, lt-ltb, eq-eqb, ne-eqb}
-use Rattle.definition.specs.Rows.{rowLimit, top, lastTrigger, shared, input, wiredRow, sameDom, within, overlap, meets, joins, clash, sameRow}
-use Rattle.definition.specs.Sound.{fits, goodRow, used, begins}
+use Rattle.definition.specs.Tables.{rowLimit, top, lastTrigger, shared, input, wiredRow, sameDom, within, overlap, meets, joins, clash, sameRow, fits, goodRow, used, begins}
 use Rattle.tables.specs.Below.{allBelow, allFrom}
 use Rattle.tables.specs.Views.{wireOf, wireAt, wiresView}
 use Rattle.tables.specs.declared.Wires.{Wires}

@@ -1,8 +1,7 @@
 -- The tests of wired tables, of a kind's tables and of a whole state, in the order in which code makes them. KindLaws.antt and StateLaws.antt tie them to the definition. Assumes nothing.
 use mathlib.Core.Bool.{Bool, true, false, not, _&&_}
 use Prim.Native.Nat.{ℕ}
-use Rattle.definition.specs.Rows.{rowLimit, Kind, mmio, pio, input, host, device, event, lpi, Row, sameRow, meets, clash}
-use Rattle.definition.specs.Sound.{blankRow, goodRow, used, tidy, soundTable, begins}
+use Rattle.definition.specs.Tables.{rowLimit, Kind, mmio, pio, input, host, device, event, lpi, Row, sameRow, meets, clash, blankRow, goodRow, used, tidy, soundTable, begins}
 use Rattle.tables.specs.Below.{rowOk}
 use Rattle.tables.specs.Views.{wireOf, wireAt, wiresView}
 use Rattle.tables.specs.declared.Pool.{Pool}

@@ -14,7 +14,7 @@ use tables::Ranges;
 use tables::State;
 use tables::Wires;
 ghost use mathlib.Core.Path.{_≡_};
-ghost use Rattle.definition.specs.Rows.{kinds};
+ghost use Rattle.definition.specs.Tables.{kinds};
 ghost use Rattle.definition.specs.Calls.{given, sound};
 ghost use Rattle.tables.specs.Views.{stateView};
 ghost use Rattle.sound.specs.Tests.{givenRanges, setRanges, givenWires, setWires};

@@ -4,14 +4,14 @@ use mathlib.Core.Bool.{Bool, true, false, _&&_}
 use Prim.Native.Nat.{ℕ, _<_, _≤_, min}
 use native.Mathlib.Omega.{arith}
 use lib.Dec.{T, leb, leb→le}
-use Rattle.definition.specs.Rows.{rowLimit, Row, sameRow}
-use Rattle.definition.specs.Sound.{used, begins}
+use Rattle.definition.specs.Tables.{rowLimit, Row, sameRow, used, begins}
 use Rattle.tables.specs.Below.{allBelow, rowOk}
 use Rattle.tables.specs.Views.{rangeOf, rangeAt, rangesView}
 use Rattle.tables.specs.declared.Ranges.{Ranges}
 use Rattle.definition.specs.BaseLaws.{and-l, and-r, and-i, and-false, T-ext, T-true, true-T}
+use Rattle.definition.specs.RowLaws.{row-eq}
 use Rattle.tables.proofs.BelowLaws.{all-in, all-out}
-use Rattle.tables.proofs.TableLaws.{same-row, begins-used}
+use Rattle.tables.proofs.TableLaws.{begins-used}
 use Rattle.spans.specs.declared.limits.Limits.{Limits}
 use Rattle.spans.specs.Tests.{goodRange, apart, rangeOk, tidyRanges, soundRangesIn, holdersIn}
 use Rattle.spans.proofs.RangeLaws.{ranges-is, ranges-count}
@@ -50,7 +50,7 @@ module _ (l : Limits) (h o : Ranges) where
       let m : min (h .n) rowLimit ≤ min (o .n) rowLimit =
       leb→le (min (h .n) rowLimit) (min (o .n) rowLimit) (and-l (leb (min (h .n) rowLimit) (min (o .n) rowLimit)) (allBelow sameAt (min (h .n) rowLimit)) b) in
       prefix-ok (goodRange l) apart (λ k. rangeOf (rangeAt h k)) (λ k. rangeOf (rangeAt o k)) (h .n) (o .n) (omega arith)
-      (λ k p. same-row (rangeOf (rangeAt h k)) (rangeOf (rangeAt o k))
+      (λ k p. row-eq (rangeOf (rangeAt h k)) (rangeOf (rangeAt o k))
       (all-out sameAt (min (h .n) rowLimit) (and-r (leb (min (h .n) rowLimit) (min (o .n) rowLimit)) (allBelow sameAt (min (h .n) rowLimit)) b) k (omega arith)))
       r
 

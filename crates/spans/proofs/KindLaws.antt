@@ -4,8 +4,7 @@ use mathlib.Core.Bool.{Bool, true, false, not, _&&_}
 use Prim.Native.Nat.{ℕ}
 use native.Mathlib.Omega.{arith}
 use lib.Dec.{T, leb, ltb, leb→le, le→leb, ltb→lt}
-use Rattle.definition.specs.Rows.{poolLimit, rowLimit, top, Dom, dom, within, Kind, nature, span, sameSpan, Row, rangeRow, sameRow, meets, joins, clash}
-use Rattle.definition.specs.Sound.{blankSpan, blankRow, fits, fitsSpan, goodRow, goodSpan, inOrder, soundTable, soundPool, soundHeld, soundOwners}
+use Rattle.definition.specs.Tables.{poolLimit, rowLimit, top, Dom, dom, within, Kind, nature, span, sameSpan, Row, rangeRow, sameRow, meets, joins, clash, blankSpan, blankRow, fits, fitsSpan, goodRow, goodSpan, inOrder, soundTable, soundPool, soundHeld, soundOwners}
 use Rattle.tables.specs.Views.{spanOf, poolAt, poolView, rangeOf, rangeAt, rangesView}
 use Rattle.tables.specs.declared.Pool.{Pool}
 use Rattle.tables.specs.declared.Ranges.{Ranges}

@@ -6,8 +6,7 @@ use native.Mathlib.Omega.{arith}
 use lib.Dec.{eqb, leb}
 use lib.ListN.{getD}
 use borrow.Author.Tests.{le-leb, lt-leb, eq-eqb, ne-eqb}
-use Rattle.definition.specs.Rows.{poolLimit, Span, sameDom, sameSpan}
-use Rattle.definition.specs.Sound.{blankSpan, inOrder}
+use Rattle.definition.specs.Tables.{poolLimit, Span, sameDom, sameSpan, blankSpan, inOrder}
 use Rattle.tables.specs.Below.{allBelow, allFrom}
 use Rattle.tables.specs.Views.{spanOf, poolAt}
 use Rattle.tables.specs.declared.Pool.{Pool}

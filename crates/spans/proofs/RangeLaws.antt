@@ -6,7 +6,7 @@ use native.Mathlib.Omega.{arith}
 use lib.Dec.{eqb, leb, ltb, eqb→eq}
 use lib.ListN.{getD}
 use borrow.Author.Tests.{le-ltb}
-use Rattle.definition.specs.Rows.{rowLimit, Row, sameDom, overlap, meets, sameRow}
+use Rattle.definition.specs.Tables.{rowLimit, Row, sameDom, overlap, meets, sameRow}
 use Rattle.tables.specs.Below.{allBelow, allFrom, first, isClear}
 use Rattle.tables.specs.Views.{rangeOf, rangeAt}
 use Rattle.tables.specs.declared.Hit.{Hit}

@@ -4,8 +4,7 @@ use mathlib.Core.List.{List}
 use Prim.Native.Nat.{ℕ, _<_, _≤_}
 use lib.Dec.{leb, ltb}
 use lib.ListN.{getD}
-use Rattle.definition.specs.Rows.{poolLimit, rowLimit, top, Kind, mmio, nature, Span, sameSpan, Row, sameRow, meets}
-use Rattle.definition.specs.Sound.{blankSpan, blankRow, inOrder, used, tidy, soundTable, begins}
+use Rattle.definition.specs.Tables.{poolLimit, rowLimit, top, Kind, mmio, nature, Span, sameSpan, Row, sameRow, meets, blankSpan, blankRow, inOrder, used, tidy, soundTable, begins}
 use Rattle.tables.specs.Below.{rowOk}
 use Rattle.tables.specs.Views.{spanOf, rangeOf, poolAt, rangeAt, poolView, rangesView}
 use Rattle.tables.specs.declared.Pool.{Pool}

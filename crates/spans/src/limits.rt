@@ -2,7 +2,7 @@
 use tables::ROWS;
 ghost use mathlib.Core.Path.{_≡_};
 ghost use Prim.Native.Nat.{_≤_, min};
-ghost use Rattle.definition.specs.Rows.{rowLimit, mmio, pio, input, host, device, event, lpi};
+ghost use Rattle.definition.specs.Tables.{rowLimit, mmio, pio, input, host, device, event, lpi};
 ghost use Rattle.spans.specs.Tests.{limitsOf};
 
 // The largest number of a kind's width, and of each number of its domain: 0 where the kind does not use it.

@@ -6,10 +6,9 @@ use tables::Pool;
 use tables::PoolRow;
 ghost use mathlib.Core.Path.{_≡_};
 ghost use Prim.Native.Nat.{_≤_, _<_};
-ghost use Rattle.definition.specs.Rows.{poolLimit, sameSpan};
-ghost use Rattle.definition.specs.Sound.{blankSpan, inOrder};
+ghost use Rattle.definition.specs.Tables.{poolLimit, sameSpan, blankSpan, inOrder};
 ghost use Rattle.tables.specs.Below.{allBelow, allFrom};
-ghost use Rattle.tables.specs.Views.{pool, spanOf, poolAt, poolView};
+ghost use Rattle.tables.specs.Views.{pool, spanOf, poolAt};
 ghost use Rattle.spans.specs.Tests.{NoneAbove, goodPool, poolOk, soundPoolIn, tidyPool};
 
 // Whether two rows of one domain are sorted by start, the earlier one first, and are no exact duplicates.

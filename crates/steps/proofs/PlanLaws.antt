@@ -1,59 +1,38 @@
 -- The steps make the definition's plan. Assumes nothing.
 use mathlib.Core.Path.{_≡_, refl, ap, ap₂, sym, _∙_}
 use mathlib.Core.Bool.{Bool, true, false, _&&_}
-use mathlib.Core.List.{List, [], _∷_, _++_, append-assoc}
-use Prim.Native.Nat.{ℕ, suc, _+_, _*_, _/_, _-_, _<_, _≤_}
+use mathlib.Core.List.{List, [], _∷_, _++_}
+use Prim.Native.Nat.{ℕ, suc, _+_, _*_, _/_, _-_, _≤_}
 use native.Mathlib.Omega.{arith}
 use native.Mathlib.Nat.{add-zero, zero-add}
-use lib.Dec.{T, leb, ltb}
+use lib.Dec.{leb, ltb}
 use lib.ListN.{length, take, drop, length-append, length-take, length-drop, take-append-drop}
-use lib.Seq.{drop-drop, take-append-seam, drop-append-seam}
 use borrow.Author.Tests.{leb-true}
-use Rattle.definition.specs.BaseLaws.{T-true, true-T, and-l, and-r}
-use Rattle.definition.specs.Rows.{planLimit, recordSize, Kind, kinds}
+use Rattle.definition.specs.BaseLaws.{T-true, true-T, and-r}
+use Rattle.definition.specs.Tables.{planLimit, recordSize, Kind, kinds}
 use Rattle.definition.specs.RowLaws.{every-kind}
-use Rattle.definition.specs.Refusal.{Refusal, malformed, badInput, badOwner, emptyRange, full, badLine, short, reserved, fixedNotAllowed, exhausted, conflict, Said, silence, tell, Answer, accepted, refused, require}
+use Rattle.definition.specs.Base.{Refusal, malformed, badInput, badOwner, emptyRange, full, badLine, short, reserved, fixedNotAllowed, exhausted, conflict, Said, silence, tell, Answer, accepted, refused, require}
 use Rattle.definition.specs.TableLaws.{push-nil, push-append}
 use Rattle.definition.specs.Pools.{Holders, Claim, rowsOf, _⊕_}
 use Rattle.definition.specs.ClaimLaws.{rows-append, fits-one}
-use Rattle.definition.specs.Request.{Request, Pools, resolve}
+use Rattle.definition.specs.Request.{Request, resolve}
 use Rattle.definition.specs.ResolveLaws.{Resolved, resolved, rows-kept}
 use Rattle.definition.specs.Calls.{State, state, poolsOf, ownersOf, sound, saying, granting, pushAll}
 use Rattle.definition.specs.StateLaws.{Sound, SoundFor, sound-for, for-sound, sound-saying, sound-ground, sound-fits, granting-sound}
-use Rattle.definition.specs.Plan.{Grant, grant, Run, done, stopped, after, run, recordOf, records, written, Lent, lent, allRows, allocateInto, roomy, atOnce, planRun, ended, grantsOf, plan}
+use Rattle.definition.specs.Plan.{Grant, grant, Run, done, stopped, after, run, recordOf, records, written, Lent, lent, allRows, roomy, planRun, ended, grantsOf, plan}
 use Rattle.definition.specs.PlanLaws.{tell-number}
 use Rattle.definition.specs.RunLaws.{run-accepted, run-refused, record-length}
+use Rattle.turns.specs.Turns.{putFrom}
+use Rattle.turns.proofs.TurnLaws.{put-append, put-nil}
 use Rattle.allocation.proofs.ServeLaws.{into-refused, into-granted}
-use Rattle.steps.specs.Steps.{clear, opened, indexed, numbered, answered, turned, turns, settled, steps}
-use Rattle.steps.proofs.StepLaws.{is-clear, not-clear, opened-unsound, opened-short, opened-clear, numbered-clear, numbered-refused, settled-clear, settled-refused, turned-skips, turned-answers}
+use Rattle.steps.specs.Steps.{opened, indexed, numbered, answered, turned, turns, settled, steps}
+use Rattle.steps.proofs.StepLaws.{not-clear, opened-unsound, opened-short, opened-clear, numbered-clear, numbered-refused, settled-clear, settled-refused, turned-skips, turned-answers}
 
--- ---- the results: the numbers from a on begin with these
-
-abbrev putFrom : ℕ → List ℕ → List ℕ → List ℕ
-putFrom a xs out = take a out ++ written xs (drop a out)
-
-put-nil : (out : List ℕ) (a : ℕ) → putFrom a [] out ≡ out
-put-nil out a = take-append-drop a out
+-- ---- the results
 
 put-length : (out us : List ℕ) (a : ℕ) → a + length us ≤ length out → length (putFrom a us out) ≡ length out
 put-length out us a l =
     length-append (take a out) (us ++ drop (length us) (drop a out)) ∙ ap₂ _+_ (length-take a out) (length-append us (drop (length us) (drop a out)) ∙ ap (λ n. length us + n) (length-drop (length us) (drop a out) ∙ ap (λ n. n - length us) (length-drop a out))) ∙ omega arith
-
--- records in two runs, the second behind the first
-put-append : (out us vs : List ℕ) (a b : ℕ) → b ≡ a + length us → a ≤ length out → putFrom a (us ++ vs) out ≡ putFrom b vs (putFrom a us out)
-put-append out us vs a b e l =
-    let p : List ℕ = take a out in
-    let q : List ℕ = drop (length us) (drop a out) in
-    let n : length p ≡ a = length-take a out ∙ omega arith in
-    let m : length (p ++ us) ≡ b = length-append p us ∙ omega (arith, n) in
-    let flat : putFrom a us out ≡ (p ++ us) ++ q = sym (append-assoc p us q) in
-    let front : take b (putFrom a us out) ≡ p ++ us = ap₂ take (sym m) flat ∙ take-append-seam (p ++ us) q in
-    let back : drop b (putFrom a us out) ≡ q = ap₂ drop (sym m) flat ∙ drop-append-seam (p ++ us) q in
-    let far : drop (length (us ++ vs)) (drop a out) ≡ drop (length vs) q = ap (λ k. drop k (drop a out)) (length-append us vs) ∙ sym (drop-drop (length vs) (length us) (drop a out)) in
-    ap (λ z. p ++ ((us ++ vs) ++ z)) far
-    ∙ ap (λ z. p ++ z) (append-assoc us vs (drop (length vs) q))
-    ∙ sym (append-assoc p us (vs ++ drop (length vs) q))
-    ∙ ap₂ (λ x y. x ++ (vs ++ drop (length vs) y)) (sym front) (sym back)
 
 -- ---- the tables
 

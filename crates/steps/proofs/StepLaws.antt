@@ -1,17 +1,17 @@
 -- What the steps' code does, in the words of Steps.antt. Assumes nothing.
-use mathlib.Core.Path.{_≡_, refl, ap, ap₂, sym, _∙_}
+use mathlib.Core.Path.{_≡_, ap, ap₂, sym, _∙_}
 use mathlib.Core.Bool.{Bool, true, false, _&&_}
 use mathlib.Core.List.{List, [], _++_, append-nil}
-use Prim.Native.Nat.{ℕ, _*_, _/_, _-_, _<_, _≤_}
+use Prim.Native.Nat.{ℕ, _*_, _/_, _-_, _<_}
 use native.Mathlib.Omega.{arith}
-use lib.Dec.{T, leb, ltb, eqb, eqb→eq}
+use lib.Dec.{leb, ltb, eqb, eqb→eq}
 use lib.ListN.{length, take, drop, length-drop, drop-of-length-le}
 use lib.Seq.{take-all}
-use borrow.Author.Tests.{lt-ltb, le-ltb}
+use borrow.Author.Tests.{lt-ltb}
 use borrow.Rule.Slice.PartMut.{putMid}
 use Rattle.definition.specs.BaseLaws.{T-false}
-use Rattle.definition.specs.Rows.{planLimit, recordSize, kinds}
-use Rattle.definition.specs.Refusal.{malformed, short, silence, tell, require}
+use Rattle.definition.specs.Tables.{planLimit, recordSize, kinds}
+use Rattle.definition.specs.Base.{malformed, short, silence, tell, require}
 use Rattle.definition.specs.Request.{Request}
 use Rattle.definition.specs.Calls.{State, sound, saying}
 use Rattle.definition.specs.Plan.{Lent, lent, allocateInto}

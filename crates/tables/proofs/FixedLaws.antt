@@ -5,7 +5,7 @@ use Prim.Native.Nat.{ℕ, _<_}
 use native.Mathlib.Omega.{arith}
 use lib.ListN.{length, getD}
 use lib.Seq.{ext-getD}
-use Rattle.definition.specs.Rows.{poolLimit, rowLimit, Kind, mmio, pio, input, host, device, event, lpi}
+use Rattle.definition.specs.Tables.{poolLimit, rowLimit, Kind, mmio, pio, input, host, device, event, lpi}
 use Rattle.definition.specs.Request.{automatic, fixed}
 use Rattle.tables.specs.Views.{pool, ranges, wires, spanOf, rangeOf, wireOf, poolAt, rangeAt, wireAt, poolView, rangesView, wiresView, poolOf, holdersView, stateView}
 use Rattle.tables.specs.Sized.{SizedPool, SizedRanges, SizedWires, SizedHolders, SizedState}

@@ -2,8 +2,7 @@
 use mathlib.Core.Path.{_≡_, _∙_, ap}
 use Prim.Native.Nat.{ℕ, _<_}
 use lib.ListN.{length, getD, length-replicate, getD-replicate}
-use Rattle.definition.specs.Rows.{poolLimit, rowLimit, Kind, mmio, pio, input, host, device, event, lpi}
-use Rattle.definition.specs.Sound.{blankSpan, blankRow}
+use Rattle.definition.specs.Tables.{poolLimit, rowLimit, Kind, mmio, pio, input, host, device, event, lpi, blankSpan, blankRow}
 use Rattle.definition.specs.Request.{Use, automatic, fixed}
 use Rattle.definition.specs.Calls.{fresh, zeros}
 use Rattle.tables.specs.Views.{spanOf, rangeOf, wireOf, poolAt, rangeAt, wireAt, poolView, rangesView, wiresView, poolOf, poolsView, holdersView, stateView}

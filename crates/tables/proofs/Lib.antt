@@ -1,4 +1,5 @@
 pub mod BelowLaws
+pub mod IndexLaws
 pub mod ListedLaws
 pub mod TableLaws
 pub mod FixedLaws

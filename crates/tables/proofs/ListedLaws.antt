@@ -7,8 +7,7 @@ use native.Mathlib.Omega.{arith}
 use lib.Dec.{T, leb, leb→le, le→leb}
 use lib.ListN.{length, take, drop, set, getD, replicate}
 use Rattle.definition.specs.Base.{allOf, pairsOf}
-use Rattle.definition.specs.Rows.{Row, sameRow}
-use Rattle.definition.specs.Sound.{begins}
+use Rattle.definition.specs.Tables.{Row, sameRow, begins}
 use Rattle.tables.specs.Below.{listed, allBelow}
 use Rattle.definition.specs.BaseLaws.{and-l, and-r, and-i, T-ext}
 use Rattle.tables.proofs.BelowLaws.{all-in, all-out}

@@ -6,7 +6,7 @@ use native.Mathlib.Numerals.{add-one}
 use native.Mathlib.Omega.{arith}
 use lib.ListN.{length, set, length-set}
 use lib.Seq.{getD-set-same, getD-set-other}
-use Rattle.definition.specs.Rows.{rowLimit, Dom, Row, rangeRow, wiredRow}
+use Rattle.definition.specs.Tables.{rowLimit, Dom, Row, rangeRow, wiredRow}
 use Rattle.definition.specs.Calls.{pushAll}
 use Rattle.tables.specs.Below.{listed}
 use Rattle.tables.specs.Views.{rangeOf, wireOf, rangeAt, wireAt, rangesView, wiresView}

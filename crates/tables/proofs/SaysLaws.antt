@@ -4,7 +4,7 @@ use mathlib.Core.Bool.{Bool, true, false, _&&_, _||_}
 use Prim.Native.Nat.{ℕ, _<_, _≤_}
 use lib.Dec.{T, leb, ltb, le→leb}
 use borrow.Author.Tests.{ltb-false}
-use Rattle.definition.specs.Sound.{soundTable, tidy}
+use Rattle.definition.specs.Tables.{soundTable, tidy}
 use Rattle.tables.specs.Below.{allBelow, allFrom, rowOk}
 use Rattle.definition.specs.BaseLaws.{and-l, and-r, and-i, T-true}
 use Rattle.tables.proofs.BelowLaws.{all-in, all-out}

@@ -1,15 +1,14 @@
--- The definition's test of a table as a loop over its rows, and what a passed test of equality says. Assumes nothing.
+-- The definition's test of a table as a loop over its rows. Assumes nothing.
 use mathlib.Core.Path.{_≡_, refl, sym, _∙_, ap, ap₂, subst}
 use mathlib.Core.Bool.{Bool, true, false, _&&_, _||_}
 use Prim.Native.Nat.{ℕ, _<_, _≤_, min}
 use native.Mathlib.Omega.{arith}
-use lib.Dec.{T, leb, ltb, eqb, leb→le, eqb→eq, eqb-refl}
+use lib.Dec.{T, leb, ltb, leb→le}
 use lib.ListN.{drop}
 use lib.Seq.{take-all}
 use borrow.Author.Tests.{le-ltb, ltb-false, leb-true, leb-false, eq-eqb}
 use Rattle.definition.specs.Base.{allOf, pairsOf}
-use Rattle.definition.specs.Rows.{Dom, Row, Span, sameDom, sameRow, sameSpan}
-use Rattle.definition.specs.Sound.{Table, used, tidy, soundTable, begins}
+use Rattle.definition.specs.Tables.{Row, sameRow, Table, used, tidy, soundTable, begins}
 use Rattle.tables.specs.Below.{listed, allBelow, allFrom, rowOk}
 use Rattle.definition.specs.BaseLaws.{and-l, and-r, and-i, T-ext}
 use Rattle.tables.proofs.BelowLaws.{all-in, all-out}
@@ -103,47 +102,3 @@ pub begins-used : (size : ℕ) (f g : ℕ → Row) (m n : ℕ)
     → begins (used (table size f m)) (used (table size g n)) ≡ leb (min m size) (min n size) && allBelow (λ k. sameRow (f k) (g k)) (min m size)
 begins-used size f g m n =
     ap₂ begins (used-min size f m) (used-min size g n) ∙ begins-is f g (min m size) (min n size)
-
--- ---- rows that pass for the same are equal, and equal rows pass
-
-pub same-dom : (a b : Dom) → T (sameDom a b) → a ≡ b
-unfolding sameDom
-same-dom a b t =
-    let c : T (eqb (a .controller) (b .controller)) = search (and-l, and-r) in
-    let i : T (eqb (a .its) (b .its)) = search (and-l, and-r) in
-    let d : T (eqb (a .device) (b .device)) = search (and-l, and-r) in
-    λ j. record { controller = eqb→eq (a .controller) (b .controller) c j; its = eqb→eq (a .its) (b .its) i j; device = eqb→eq (a .device) (b .device) d j }
-
-pub same-row : (a b : Row) → T (sameRow a b) → a ≡ b
-unfolding sameRow
-same-row a b t =
-    let d : T (sameDom (a .dom) (b .dom)) = search (and-l, and-r) in
-    let s : T (eqb (a .start) (b .start)) = search (and-l, and-r) depth 8 in
-    let e : T (eqb (a .end) (b .end)) = search (and-l, and-r) depth 8 in
-    let g : T (eqb (a .trigger) (b .trigger)) = search (and-l, and-r) depth 10 in
-    let h : T (eqb (a .sharing) (b .sharing)) = search (and-l, and-r) depth 12 in
-    let o : T (eqb (a .owner) (b .owner)) = search (and-l, and-r) depth 12 in
-    λ j. record {
-      dom = same-dom (a .dom) (b .dom) d j;
-      start = eqb→eq (a .start) (b .start) s j;
-      end = eqb→eq (a .end) (b .end) e j;
-      trigger = eqb→eq (a .trigger) (b .trigger) g j;
-      sharing = eqb→eq (a .sharing) (b .sharing) h j;
-      owner = eqb→eq (a .owner) (b .owner) o j;
-    }
-
-pub same-span : (a b : Span) → T (sameSpan a b) → a ≡ b
-unfolding sameSpan
-same-span a b t =
-    let d : T (sameDom (a .dom) (b .dom)) = search (and-l, and-r) in
-    let s : T (eqb (a .start) (b .start)) = search (and-l, and-r) in
-    let e : T (eqb (a .end) (b .end)) = search (and-l, and-r) in
-    λ j. record { dom = same-dom (a .dom) (b .dom) d j; start = eqb→eq (a .start) (b .start) s j; end = eqb→eq (a .end) (b .end) e j }
-
-pub row-same : (r : Row) → T (sameRow r r)
-unfolding sameRow sameDom
-row-same r = search (and-i, eqb-refl) depth 12
-
-pub span-same : (p : Span) → T (sameSpan p p)
-unfolding sameSpan sameDom
-span-same p = search (and-i, eqb-refl) depth 12

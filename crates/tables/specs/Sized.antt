@@ -1,7 +1,7 @@
 -- Columns of the full length, which every column that code holds has: a list alone does not say so. Assumes nothing.
 use mathlib.Core.Path.{_≡_}
 use lib.ListN.{length}
-use Rattle.definition.specs.Rows.{poolLimit, rowLimit, Kind}
+use Rattle.definition.specs.Tables.{poolLimit, rowLimit, Kind}
 use Rattle.tables.specs.Views.{poolOf}
 use Rattle.tables.specs.declared.Pool.{Pool}
 use Rattle.tables.specs.declared.Ranges.{Ranges}

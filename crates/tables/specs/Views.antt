@@ -2,9 +2,8 @@
 use mathlib.Core.List.{List}
 use Prim.Native.Nat.{ℕ}
 use lib.ListN.{getD}
-use Rattle.definition.specs.Rows.{poolLimit, rowLimit, dom, Kind, mmio, pio, input, host, device, event, lpi, Span, span, Row, rangeRow, wiredRow}
-use Rattle.definition.specs.Refusal.{says}
-use Rattle.definition.specs.Sound.{Table}
+use Rattle.definition.specs.Tables.{poolLimit, rowLimit, dom, Kind, mmio, pio, input, host, device, event, lpi, Span, span, Row, rangeRow, wiredRow, Table}
+use Rattle.definition.specs.Base.{says}
 use Rattle.definition.specs.Request.{Use, automatic, fixed}
 use Rattle.definition.specs.Calls.{State as Given, state}
 use Rattle.tables.specs.Below.{listed}

@@ -2,7 +2,7 @@
 use mathlib.Core.List.{List}
 use Prim.Native.Nat.{ℕ, _+_}
 use lib.ListN.{set, replicate}
-use Rattle.definition.specs.Rows.{poolLimit, rowLimit, Row}
+use Rattle.definition.specs.Tables.{poolLimit, rowLimit, Row}
 use Rattle.tables.specs.Views.{pool, ranges, wires}
 use Rattle.tables.specs.declared.Pool.{Pool}
 use Rattle.tables.specs.declared.Ranges.{Ranges}

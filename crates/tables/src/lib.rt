@@ -1,7 +1,7 @@
 // The tables as columns: what the planner keeps, how a table starts, gains a row and is read. Used rows stand first.
 ghost use mathlib.Core.Path.{_≡_};
 ghost use Prim.Native.Nat.{_<_};
-ghost use Rattle.definition.specs.Rows.{poolLimit, rowLimit};
+ghost use Rattle.definition.specs.Tables.{poolLimit, rowLimit};
 ghost use Rattle.tables.specs.Views.{pool, ranges, wires, poolAt, rangeAt, wireAt, rangeOf, wireOf};
 ghost use Rattle.tables.specs.Whole.{pushedRange, pushedWire, freshPool, freshRanges, freshWires, freshPools, freshHolders, freshState};
 

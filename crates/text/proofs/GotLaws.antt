@@ -1,17 +1,13 @@
 -- Laws of the `got` lines of several records: one after the other, and none but their own numbers are read. Assumes nothing.
 use mathlib.Core.Path.{_≡_, refl, sym, ap, _∙_}
-use mathlib.Core.List.{List, [], _∷_, _++_, map, append-assoc, append-nil}
+use mathlib.Core.List.{List, [], _∷_, _++_, append-assoc, append-nil}
 use Prim.Native.Nat.{ℕ, zero, suc, _+_, _-_, _*_, _≤_, _<_}
 use native.Mathlib.Omega.{arith}
-use native.Mathlib.Numerals.{add-one}
 use lib.ListN.{length, take, drop, getD, length-append, length-drop, List·getD-append}
 use lib.Seq.{drop-drop, drop-at, take-append-le, drop-append-le, take-all}
-use Rattle.definition.specs.Rows.{recordSize}
+use Rattle.definition.specs.Tables.{recordSize}
 use Rattle.definition.specs.Plan.{Grant, recordOf, records}
 use Rattle.definition.specs.RunLaws.{record-length}
-use Rattle.lines.specs.Base.{bytes}
-use Rattle.lines.specs.Numbers.{digits}
-use Rattle.lines.specs.Line.{lineOf}
 use Rattle.lines.specs.Output.{carriedBy, gotLine, gotLines}
 use Rattle.writers.specs.Put.{Put}
 use Rattle.writers.proofs.PutLaws.{put-then, carried-few}

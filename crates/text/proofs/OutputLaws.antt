@@ -1,40 +1,37 @@
 -- THE LAW of the text call: what the parts of the code make of a text is the definition's output. Assumes nothing.
 use mathlib.Core.Path.{_≡_, refl, sym, ap, subst, _∙_}
 use mathlib.Core.Bool.{Bool, true, false}
-use mathlib.Core.List.{List, [], _∷_, _++_}
-use mathlib.Core.Option.{Option, none, some}
+use mathlib.Core.List.{List, [], _++_}
 use Prim.Native.Nat.{ℕ, suc, _+_, _*_, _≤_, _<_}
 use native.Mathlib.Omega.{arith}
-use lib.Dec.{T, eqb, leb, le→leb}
-use lib.ListN.{length, take, drop, replicate, length-replicate}
-use lib.Seq.{sets, sets-eq}
+use lib.Dec.{T, leb, le→leb}
+use lib.ListN.{length, take, drop, replicate, length-replicate, length-append}
+use lib.Seq.{sets-eq}
 use borrow.Author.Tests.{le-leb, lt-leb, eq-eqb, ne-eqb}
 use Rattle.definition.specs.BaseLaws.{and-i}
-use Rattle.definition.specs.Rows.{planLimit, recordSize, kinds}
-use Rattle.definition.specs.Refusal.{badLine, tell}
+use Rattle.definition.specs.Tables.{planLimit, recordSize, kinds}
+use Rattle.definition.specs.Base.{badLine, tell}
 use Rattle.definition.specs.Request.{Request}
-use Rattle.definition.specs.Calls.{State, poolsOf, ownersOf, given, sound, starting, Call, pool, hold, start, want, serve}
-use Rattle.definition.specs.Plan.{Run, done, run, records, written, Lent, lent, roomy, planRun, grantsOf, ended, plan}
+use Rattle.definition.specs.Calls.{State, poolsOf, ownersOf, sound, starting, start, serve}
+use Rattle.definition.specs.Plan.{Run, run, records, written, Lent, lent, roomy, grantsOf, ended, plan}
 use Rattle.definition.specs.StateLaws.{given-for, for-sound, start-sound}
 use Rattle.definition.specs.PlanLaws.{start-is}
 use Rattle.lines.specs.Base.{textLimit, newline, split}
-use Rattle.lines.specs.Line.{readLine}
 use Rattle.lines.specs.Output.{noLine, outputLimit}
-use Rattle.lines.specs.Text.{Sofar, sofar, beginning, accepts, step, feedParts, feed, close, answer, output}
+use Rattle.lines.specs.Text.{Sofar, sofar, beginning, accepts, step, feed, close, answer, output}
 use Rattle.lines.proofs.Longest.{output-length}
-use Rattle.flat.specs.Flat.{requestSize, requestsFrom, requestsOf, flatPlan}
+use Rattle.flat.specs.Flat.{requestSize, requestsFrom, flatPlan}
 use Rattle.flat.proofs.FlatLaws.{flat-whole, requests-from-length}
-use Rattle.asking.specs.Asking.{setsUp, askAll, ending, reply}
+use Rattle.asking.specs.Asking.{reply}
 use Rattle.asking.proofs.AskLaws.{answer-all}
 use Rattle.asking.proofs.FeedLaws.{close-stands}
-use Rattle.wants.specs.Wants.{flatLimit, Beyond, Reads}
+use Rattle.wants.specs.Wants.{Reads}
 use Rattle.wants.specs.declared.all.Wants.{Wants}
 use Rattle.tables.specs.Views.{stateView}
-use Rattle.entry.specs.Entries.{adds, Stops}
-use Rattle.setup.specs.Setup.{Taken, SetsUp}
+use Rattle.setup.specs.Setup.{SetsUp}
 use Rattle.setup.specs.declared.Setup.{Setup}
 use Rattle.writers.specs.Put.{Put}
-use Rattle.text.specs.Respond.{replied, respondsTo, finished}
+use Rattle.text.specs.Respond.{Replied, replied, respondsTo, finished}
 use Rattle.text.proofs.PlanLaws.{ran, run-finished, run-refused, all-granted, index-few, taken-whole, taken-requests}
 
 -- ---- a text within its limit, or over it
@@ -48,17 +45,6 @@ unfolding output
 output-long text l = rw (output, lt-leb (length text) textLimit l)
 
 -- ---- a text's head, then its wants
-
--- no `pool` and no `hold` stands behind the head
-adds-is : (o : Option Call) → setsUp o ≡ adds o
-adds-is none = refl
-adds-is (some (pool u p)) = refl
-adds-is (some (hold o h)) = refl
-adds-is (some start) = refl
-adds-is (some (want r)) = refl
-
-beyond : (text : List ℕ) (at : ℕ) → Stops text at → Beyond text at
-beyond text at h e q l = adds-is (readLine _) ∙ h e q l
 
 -- what a plan that left the state t and the results rs means for a text whose head has l lines: all wants accepted, then what stands
 -- behind them; or one refused, its line's number and what it was answered
@@ -90,7 +76,7 @@ module _ (text : List ℕ) (short : length text ≤ textLimit) (head : Setup) (h
     output-planned =
         let e : accepts s ≡ true = eq-eqb (s .said .number) 0 ok in
         whole text short ∙ ap (λ z. answer (close z)) (h .taken .feeds)
-        ∙ ap answer (r .feeds taken refl (beyond text (head .at) (h .stops e)))
+        ∙ ap answer (r .feeds taken refl (h .stops e))
         ∙ answer-all (head .lines) (w .number) s rs e (h .taken .sound) (omega (arith, r .few, requests-from-length rq 0 (w .count)))
 
     -- what the code's plan leaves
@@ -171,3 +157,12 @@ module _ (text out : List ℕ) where
   pub reply-short : length out < outputLimit → replied 11 0 out ≡ respondsTo text out
   unfolding respondsTo
   reply-short l = rw (respondsTo, lt-leb outputLimit (length out) l)
+
+  -- what was written lies in the buffer
+  pub reply-inside : (n k : ℕ) (out′ : List ℕ) → replied n k out′ ≡ respondsTo text out → k ≤ length out′
+  unfolding respondsTo
+  reply-inside n k out′ e = subst (λ (r : Replied). r .bytes ≤ length (r .buffer)) (sym e) (go (leb outputLimit (length out)))
+    where
+      go : (b : Bool) → let r : Replied = elim b [ true ↦ replied 0 (length (output text)) (written (output text) out) | false ↦ replied 11 0 out ] in r .bytes ≤ length (r .buffer)
+      go true = omega (arith, length-append (output text) (drop (length (output text)) out))
+      go false = omega arith

@@ -1,25 +1,24 @@
 -- What a plan of a text's requests is answered: `finished`, or the line of the request that was refused. Assumes nothing.
 use mathlib.Core.Path.{_≡_, refl, sym, ap, _∙_}
-use mathlib.Core.Bool.{true, false, _&&_}
-use mathlib.Core.List.{List, [], _∷_, _++_, map}
-use Prim.Native.Nat.{ℕ, suc, _+_, _*_, _/_, _≤_, _<_}
+use mathlib.Core.Bool.{true, false}
+use mathlib.Core.List.{List, _++_}
+use Prim.Native.Nat.{ℕ, suc, _+_, _*_, _/_, _≤_}
 use native.Mathlib.Omega.{arith}
-use lib.Dec.{T, eqb, leb, le→leb}
-use lib.ListN.{length, take, drop, getD, length-map, length-take}
+use lib.Dec.{T, eqb}
+use lib.ListN.{length, take, drop, length-map, length-take}
 use lib.Seq.{getD-take, length-take-le}
 use borrow.Author.Tests.{eq-eqb, ne-eqb}
-use Rattle.definition.specs.BaseLaws.{and-i}
-use Rattle.definition.specs.Rows.{planLimit, recordSize, kinds}
-use Rattle.definition.specs.Refusal.{Refusal, malformed, badInput, badOwner, emptyRange, full, badLine, short, reserved, fixedNotAllowed, exhausted, conflict, says, tell, accepted}
+use Rattle.definition.specs.Tables.{kinds}
+use Rattle.definition.specs.Base.{Refusal, malformed, badInput, badOwner, emptyRange, full, badLine, short, reserved, fixedNotAllowed, exhausted, conflict, says, tell, accepted}
 use Rattle.definition.specs.Request.{Request}
 use Rattle.definition.specs.Calls.{State, poolsOf, ownersOf, sound}
-use Rattle.definition.specs.Plan.{Grant, Run, done, stopped, run, records, written, lent, roomy, atOnce, planRun, grantsOf, ended, plan}
+use Rattle.definition.specs.Plan.{Grant, Run, done, stopped, run, records, written, roomy, atOnce, planRun, grantsOf, ended}
 use Rattle.definition.specs.RequestLaws.{required}
 use Rattle.definition.specs.RunLaws.{run-requests, run-stopped}
 use Rattle.definition.specs.PlanLaws.{tell-number}
 use Rattle.lines.specs.Output.{gotLines, endLine, noLine}
-use Rattle.flat.specs.Flat.{requestSize, requestsFrom, requestsOf, wholeRequests, flatPlan}
-use Rattle.flat.proofs.FlatLaws.{requests-read, flat-whole}
+use Rattle.flat.specs.Flat.{requestSize, requestsFrom, requestsOf, wholeRequests}
+use Rattle.flat.proofs.FlatLaws.{requests-read}
 use Rattle.asking.specs.Asking.{plainly, reply}
 use Rattle.wants.specs.declared.all.Wants.{Wants}
 use Rattle.text.specs.Respond.{finished}

@@ -12,7 +12,7 @@ use writers::output::put_no;
 ghost use mathlib.Core.Path.{_≡_};
 ghost use Prim.Native.Nat.{_+_, _*_, _≤_};
 ghost use lib.ListN.{length};
-ghost use Rattle.definition.specs.Rows.{planLimit, recordSize};
+ghost use Rattle.definition.specs.Tables.{planLimit, recordSize};
 ghost use Rattle.lines.specs.Base.{textLimit};
 ghost use Rattle.lines.specs.Output.{gotLines, noLine, outputLimit};
 ghost use Rattle.lines.specs.Text.{output};

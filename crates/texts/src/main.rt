@@ -1,6 +1,4 @@
 // Runs every stored text of data/: NNN.i must give NNN.o, which is the original's answer. Writes how many passed, or the first that did not.
-ghost use Prim.Native.Nat.{_≤_};
-ghost use lib.ListN.{length};
 
 // The path of case k, with its last byte i or o: "000.i" and "000.o".
 fn path(k: usize, last: u8) -> [u8; 5] {
@@ -11,18 +9,6 @@ fn path(k: usize, last: u8) -> [u8; 5] {
         b'.',
         last,
     ]
-}
-
-// The answer's bytes in front of the buffer: how many there are.
-fn answer(text: &[u8], out: &mut [u8]) -> usize
-    ensures { λ r. ⌜ r ≤ length (now (out .exit)) ⌝ }
-{
-    let r = text::respond(text, out);
-    let n = r.length;
-    if n <= out.len() {
-        return n;
-    }
-    0
 }
 
 // Whether two slices are the same bytes.
@@ -61,7 +47,8 @@ fn one(k: usize) -> u8 {
     let wn = io::read_full(od, &mut want);
     libc::close(od);
     let mut out = [0u8; 22553];
-    let m = answer(&input[..n], &mut out);
+    let r = text::respond(&input[..n], &mut out);
+    let m = r.length;
     if same(&out[..m], &want[..wn]) { 1 } else { 2 }
 }
 

@@ -2,37 +2,35 @@
 use mathlib.Core.Path.{_≡_, refl, sym, _∙_, ap, ap₂}
 use mathlib.Core.Bool.{Bool, true, false, _&&_}
 use mathlib.Core.List.{List, [], _∷_, _++_, append-assoc, append-nil}
-use Prim.Native.Nat.{ℕ, zero, suc, _+_, _*_, _-_, _/_, _<_, _≤_}
+use Prim.Native.Nat.{ℕ, suc, _+_, _*_, _-_, _/_, _<_, _≤_}
 use native.Mathlib.Omega.{arith}
 use native.Mathlib.Nat.{add-zero, zero-add, sub-zero}
 use native.Mathlib.Numerals.{add-one}
-use lib.Dec.{T, leb, eqb}
+use lib.Dec.{T, leb}
 use lib.ListN.{length, take, drop, length-append, length-drop, length-take, drop-of-length-le, take-append-drop}
 use lib.Seq.{take-all, drop-drop, take-append-seam, drop-append-seam}
-use borrow.Author.Tests.{le-leb, lt-leb, eq-eqb}
 use borrow.Rule.Slice.PartMut.{putMid}
-use Rattle.definition.specs.Base.{pairsOf}
-use Rattle.definition.specs.Rows.{rowLimit, planLimit, recordSize, Kind, kinds, Row}
+use Rattle.definition.specs.Base.{pairsOf, Refusal, malformed, short, tell, full, accepted, refused, require}
+use Rattle.definition.specs.Tables.{planLimit, recordSize, Kind, kinds, used}
 use Rattle.definition.specs.RowLaws.{every-kind}
-use Rattle.definition.specs.Refusal.{Refusal, malformed, short, silence, tell, full, Answer, accepted, refused, require, _then_}
-use Rattle.definition.specs.Sound.{Table, used}
-use Rattle.definition.specs.TableLaws.{used-length, Grown, grown, push-nil, push-append}
+use Rattle.definition.specs.TableLaws.{used-length, Grown, grown, push-append}
 use Rattle.definition.specs.Pools.{Holders, Claim, rowsOf, room, _⊕_}
 use Rattle.definition.specs.ClaimLaws.{otherKind, rows-append, fits-one}
 use Rattle.definition.specs.Request.{Request, Pools, claims, goodRequest, resolve}
-use Rattle.definition.specs.RequestLaws.{then-accepted, require-accepted, required}
-use Rattle.definition.specs.Calls.{State, state, poolsOf, ownersOf, sound, saying, pushAll, settle}
+use Rattle.definition.specs.RequestLaws.{then-accepted, require-accepted}
+use Rattle.definition.specs.Calls.{State, poolsOf, ownersOf, sound, saying, pushAll, settle}
 use Rattle.definition.specs.StateLaws.{sound-for}
-use Rattle.definition.specs.Plan.{Grant, grant, Run, done, stopped, after, run, recordOf, records, written, Lent, lent, allRows, roomy, atOnce, planRun, grantsOf, plan}
+use Rattle.definition.specs.Plan.{Grant, grant, Run, done, stopped, after, run, recordOf, records, written, lent, allRows, roomy, planRun, grantsOf, plan}
 use Rattle.definition.specs.Plan as P
 use Rattle.definition.specs.RunLaws.{run-accepted, run-refused, record-length}
 use Rattle.flat.specs.Flat.{requestSize, requestAt, requestsFrom, requestsOf, wholeRequests, flatPlan}
-use Rattle.turns.specs.Turns.{Owners, usedOf, putFrom, Close, all, stop, ended, finish, rest, closed, Full, AllFull, lengthsFit}
+use Rattle.flat.proofs.FlatLaws.{requests-from-length}
+use Rattle.turns.specs.Turns.{Owners, usedOf, putFrom, all, stop, ended, finish, rest, closed, AllFull, lengthsFit}
 
 -- ---- the results
 
 -- records in two runs, the second behind the first
-put-append : (out us vs : List ℕ) (a b : ℕ) → b ≡ a + length us → a ≤ length out → putFrom a (us ++ vs) out ≡ putFrom b vs (putFrom a us out)
+pub put-append : (out us vs : List ℕ) (a b : ℕ) → b ≡ a + length us → a ≤ length out → putFrom a (us ++ vs) out ≡ putFrom b vs (putFrom a us out)
 put-append out us vs a b e l =
     let p : List ℕ = take a out in
     let q : List ℕ = drop (length us) (drop a out) in
@@ -47,7 +45,7 @@ put-append out us vs a b e l =
     ∙ sym (append-assoc p us (vs ++ drop (length vs) q))
     ∙ ap₂ (λ x y. x ++ (vs ++ drop (length vs) y)) (sym front) (sym back)
 
-put-nil : (out : List ℕ) (a : ℕ) → putFrom a [] out ≡ out
+pub put-nil : (out : List ℕ) (a : ℕ) → putFrom a [] out ≡ out
 put-nil out a = take-append-drop a out
 
 -- the list's part from a on, lent and handed back with these numbers in front
@@ -133,11 +131,6 @@ module _ (P : Pools) (o : Owners) (rq : List ℕ) (i n : ℕ) (out : List ℕ) w
 
 -- ---- before the first request
 
-requests-length : (rq : List ℕ) (i k : ℕ) → length (requestsFrom rq i k) ≡ k
-unfolding requestsFrom
-requests-length rq i zero = refl
-requests-length rq i (suc k) = ap suc (requests-length rq (suc i) k)
-
 first : (s : State) (out : List ℕ) (v : Run) → closed s (finish (s .owners) 0 out v) ≡ lent (P.ended s v) (written (records (grantsOf v)) out)
 unfolding finish
 first s out (done gs) = refl
@@ -154,7 +147,7 @@ module _ (rq : List ℕ) (s : State) (out : List ℕ) where
 
   roomy-is : roomy (requestsOf rq) out ≡ leb (length rq / requestSize) planLimit && leb (recordSize * (length rq / requestSize)) (length out)
   unfolding roomy requestsOf
-  roomy-is = ap (λ k. leb k planLimit && leb (recordSize * k) (length out)) (requests-length rq 0 (length rq / requestSize))
+  roomy-is = ap (λ k. leb k planLimit && leb (recordSize * k) (length out)) (requests-from-length rq 0 (length rq / requestSize))
 
   pub flat-short : sound kinds s ≡ true → lengthsFit (length rq) (length out) ≡ false → lent (saying (tell 0 short) s) out ≡ flatPlan rq s out
   unfolding flatPlan plan planRun require records lengthsFit wholeRequests

@@ -5,9 +5,8 @@ use mathlib.Core.List.{List, _++_}
 use Prim.Native.Nat.{ℕ, _+_, _*_, _-_, _/_, _≤_}
 use lib.Dec.{leb, eqb}
 use lib.ListN.{length, take, drop}
-use Rattle.definition.specs.Rows.{rowLimit, planLimit, recordSize, Kind, Row}
-use Rattle.definition.specs.Refusal.{Refusal, silence, tell}
-use Rattle.definition.specs.Sound.{Table, used}
+use Rattle.definition.specs.Tables.{rowLimit, planLimit, recordSize, Kind, Row, Table, used}
+use Rattle.definition.specs.Base.{Refusal, silence, tell}
 use Rattle.definition.specs.Pools.{Holders, rowsOf}
 use Rattle.definition.specs.Request.{Pools}
 use Rattle.definition.specs.Calls.{State, state, saying, pushAll}

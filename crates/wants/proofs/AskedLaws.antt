@@ -1,12 +1,11 @@
 -- Laws of one want's twelve numbers. Assumes nothing.
-use mathlib.Core.Path.{_≡_, refl, sym, ap, _∙_}
+use mathlib.Core.Path.{_≡_, refl, sym, _∙_}
 use mathlib.Core.Bool.{Bool, true, false, not}
 use mathlib.Core.Option.{Option, none, some}
-use mathlib.Core.List.{List, [], _∷_}
+use mathlib.Core.List.{[], _∷_}
 use Prim.Native.Nat.{ℕ, _≤_}
-use native.Mathlib.Omega.{arith}
 use borrow.Author.Tests.{le-leb}
-use Rattle.definition.specs.Rows.{top}
+use Rattle.definition.specs.Tables.{top}
 use Rattle.flat.specs.Flat.{choiceAt, allFit, formAt, readable, wantAt, requestIn, requestAt}
 use Rattle.definition.specs.Request.{Request}
 use Rattle.wants.specs.Wants.{asking, askedBy}

@@ -1,28 +1,28 @@
 -- Laws of reading wants one after the other: what is left of the text is the whole. Assumes nothing.
 use mathlib.Core.Path.{_≡_, refl, sym, ap, _∙_}
 use mathlib.Core.Logic.{_⊎_, inl, inr}
-use mathlib.Core.Bool.{Bool, true, false}
+use mathlib.Core.Bool.{true, false}
 use mathlib.Core.List.{List, [], _∷_, _++_}
 use mathlib.Core.Option.{none, some}
-use Prim.Native.Nat.{ℕ, zero, suc, _+_, _-_, _*_, _≤_, _<_}
+use Prim.Native.Nat.{ℕ, zero, suc, _+_, _*_, _≤_, _<_}
 use native.Mathlib.Omega.{arith}
 use native.Mathlib.Numerals.{add-one}
-use lib.ListN.{length, take, drop}
+use lib.ListN.{length, drop}
 use lib.Seq.{sets, length-sets}
-use Rattle.definition.specs.Rows.{planLimit}
+use Rattle.definition.specs.Tables.{planLimit}
 use Rattle.definition.specs.Request.{Request}
 use Rattle.lines.specs.Base.{newline, split}
 use Rattle.lines.specs.Line.{readLine}
 use Rattle.lines.specs.Code.{first}
-use Rattle.lines.specs.Text.{Sofar, accepts, step, fed, feedParts, close}
+use Rattle.lines.specs.Text.{Sofar, accepts, step, feedParts, close}
 use Rattle.lines.proofs.FeedLaws.{line-taken, line-open, text-ended, close-ended, close-open}
 use Rattle.flat.specs.Flat.{requestSize, requestAt, requestsFrom}
 use Rattle.flat.proofs.FlatLaws.{request-reads, requests-read, requests-from-length}
 use Rattle.flat.proofs.StoreLaws.{sets-before, sets-here, first-number}
-use Rattle.asking.specs.Asking.{wanted, setsUp, askAll, ending}
+use Rattle.lines.specs.Head.{adds, lineAt, Stops}
+use Rattle.asking.specs.Asking.{wanted, askAll}
 use Rattle.asking.proofs.FeedLaws.{step-asks, ask-more, wants-counted, end-none, end-open, end-bad, end-full}
-use Rattle.wants.specs.Wants.{flatLimit, Beyond, Reads}
-use Rattle.wants.specs.declared.all.Wants.{Wants}
+use Rattle.wants.specs.Wants.{flatLimit, Reads}
 
 -- ---- one request more, stored behind the others
 
@@ -79,7 +79,7 @@ module _ (text : List ℕ) (from : ℕ) (rq : List ℕ) (at count : ℕ) (h : Le
 
     module _ (closed : e < length text) where
       abbrev line : List ℕ
-      line = take (e - at) (drop at text)
+      line = lineAt text at e
 
       -- the wants so far, where all are accepted
       counted : (t : Sofar) → t .wants ≡ 0 → accepts (asked t .state) ≡ true → asked t .wants ≡ count
@@ -94,7 +94,7 @@ module _ (text : List ℕ) (from : ℕ) (rq : List ℕ) (at count : ℕ) (h : Le
             ∙ end-bad (asked t) line (split newline (drop (e + 1) text)) z (λ ok. late t w b ok count refl);
       }
         where
-          late : (t : Sofar) → t .wants ≡ 0 → Beyond text from → accepts (asked t .state) ≡ true → (k : ℕ) → count ≡ k → (0 < asked t .wants) ⊎ (setsUp (readLine line) ≡ false)
+          late : (t : Sofar) → t .wants ≡ 0 → Stops text from → accepts (asked t .state) ≡ true → (k : ℕ) → count ≡ k → (0 < asked t .wants) ⊎ (adds (readLine line) ≡ false)
           late t w b ok zero q = let a : at ≡ from = h .begun q in inr (rw a (b e (rw a at end) closed))
           late t w b ok (suc k) q = inl (omega (arith, counted t w ok))
 

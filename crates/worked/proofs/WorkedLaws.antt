@@ -1,12 +1,10 @@
 -- The answers of the worked cases, by computation: each state is the definition's call on the one before it. Assumes nothing.
-use mathlib.Core.Path.{_≡_, refl, ap, _∙_}
-use mathlib.Core.Bool.{Bool, true, false, not, _&&_, _||_}
-use Prim.Native.Nat.{ℕ, suc, min}
+use mathlib.Core.Path.{_≡_, ap, _∙_}
+use mathlib.Core.Bool.{true}
+use Prim.Native.Nat.{suc, min}
 use lib.Dec.{eqb}
-use Rattle.definition.specs.Base.{anyOf, allOf, pairsOf, firstOf}
-use Rattle.definition.specs.Rows.{top, kinds, sameKind, sameDom, within, sameSpan, sameRow, overlap, meets, joins, clash}
-use Rattle.definition.specs.Refusal.{require}
-use Rattle.definition.specs.Sound.{tidy, fits, fitsSpan, goodRow, goodSpan, begins, inOrder, soundTable}
+use Rattle.definition.specs.Base.{anyOf, allOf, pairsOf, firstOf, require}
+use Rattle.definition.specs.Tables.{top, kinds, sameKind, sameDom, within, sameSpan, sameRow, overlap, meets, joins, clash, tidy, fits, fitsSpan, goodRow, goodSpan, begins, inOrder, soundTable}
 use Rattle.definition.specs.Pools.{mmioPool, insert, unlessThere, addRange, rowsOf, room, mmioHold, hostHold, inputHold, pairHold, unreserved, allUnreserved, reserve}
 use Rattle.definition.specs.Request.{automatic}
 use Rattle.definition.specs.Calls.{State, fresh, givenAt, given, pushAll, Call, pool, hold, start, addAll, serve}

@@ -8,7 +8,7 @@ use native.Mathlib.Numerals.{add-one}
 use lib.Dec.{eqb}
 use lib.ListN.{length, take-append-drop, take, drop, getD, set, length-append}
 use lib.Seq.{sets, sets-eq, length-sets, take-suc, length-take-le}
-use Rattle.definition.specs.Rows.{top}
+use Rattle.definition.specs.Tables.{top}
 use Rattle.lines.specs.Base.{bytes, tab, newline, pick}
 use Rattle.lines.specs.Numbers.{digits}
 use Rattle.lines.specs.Line.{behind, lineOf}

@@ -2,7 +2,8 @@
 use mathlib.Core.Path.{refl, sym, _∙_}
 use Rattle.definition.specs.Pools.{rowsOf}
 use Rattle.definition.specs.Calls.{pushAll}
-use Rattle.calls.proofs.MsiLaws.{msi-passed, msi-stands, msi-bad, msi-malformed, kept-is, owners-is}
+use Rattle.calls.proofs.KindLaws.{served-stands, served-bad, served-malformed}
+use Rattle.calls.proofs.MsiLaws.{msi-passed, kept-is, owners-is}
 use borrow.Author.Needs.{needs}
 use Rattle.calls.proofs.msi_answer.Statement.{statement}
 use Rattle.calls.proofs.msi_answer.Tie as tie
@@ -26,7 +27,7 @@ returns : tie.Need-returns
 returns c =
     let g = c .before .before .before .grant-msi .ensures in
     record {
-      answer = msi-stands _ _ _ _ (sym (c .before .before .before .before .before .before .msi-set .ensures) ∙ c .before .before .before .before .before .if1 .taken) (c .before .before .before .before .if2 .taken) (g .answer);
+      answer = served-stands _ _ _ _ (sym (c .before .before .before .before .before .before .msi-set .ensures) ∙ c .before .before .before .before .before .if1 .taken) (c .before .before .before .before .if2 .taken) (g .answer);
       device-kept = kept-is (c .before .before .before .before .before .before .before .args .t .device) _ _ (c .before .before .with-owners .ensures);
       event-kept = kept-is (c .before .before .before .before .before .before .before .args .t .event) _ _ (c .before .with-owners2 .ensures);
       lpi-kept = kept-is (c .before .before .before .before .before .before .before .args .t .lpi) _ _ (c .with-owners3 .ensures);
@@ -37,11 +38,11 @@ returns c =
 
 returns-2 : tie.Need-returns-2
 unfolding pushAll rowsOf
-returns-2 c = record { answer = msi-bad _ _ _ (sym (c .before .before .msi-set .ensures) ∙ c .before .if1 .taken) (c .if2 .left); device-kept = refl; event-kept = refl; lpi-kept = refl; devices = refl; events = refl; lpis = refl }
+returns-2 c = record { answer = served-bad _ _ _ (sym (c .before .before .msi-set .ensures) ∙ c .before .if1 .taken) (c .if2 .left); device-kept = refl; event-kept = refl; lpi-kept = refl; devices = refl; events = refl; lpis = refl }
 
 returns-3 : tie.Need-returns-3
 unfolding pushAll rowsOf
-returns-3 c = record { answer = msi-malformed _ _ _ (sym (c .before .msi-set .ensures) ∙ c .if1 .left); device-kept = refl; event-kept = refl; lpi-kept = refl; devices = refl; events = refl; lpis = refl }
+returns-3 c = record { answer = served-malformed _ _ _ (sym (c .before .msi-set .ensures) ∙ c .if1 .left); device-kept = refl; event-kept = refl; lpi-kept = refl; devices = refl; events = refl; lpis = refl }
 
 pub msi-answer-spec : {M : Type 1} → statement M
 msi-answer-spec =

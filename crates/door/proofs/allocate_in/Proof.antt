@@ -9,7 +9,7 @@ use lib.Dec.{T as Holds}
 use mir.Syntax.{named, Fn}
 use mir.Val.{Val, WT, hasTy, vunit, vptr}
 use base.Logic.{SProp, ent, sep, emp, via, fst∗, id⊢}
-use base.Fml.{Fml, GName, Lft, Share, ftrue, flft, fobs, fbor}
+use base.Fml.{GName, Lft, Share, ftrue, flft, fobs, fbor}
 use prog.Memory.{Memory}
 use prog.Routine.{Routine}
 use prog.Wp.{Heap, Calls, Loops, WpFn, Tables}
@@ -36,7 +36,7 @@ use denote.Triple.Clauses.{ensured, lasts}
 use denote.Triple.Table.{entered, cited}
 use denote.Triple.Walked.{says, Stays, stay-ref, stay-none, stay-slice, walkOf, AllGo, goes-none, goes-slice, goes-ref, Walks, ends-at, walked, walk-meets}
 use denote.Exit.{yes}
-use Rattle.definition.specs.Rows.{kinds}
+use Rattle.definition.specs.Tables.{kinds}
 use Rattle.definition.specs.Plan.{lent, allocateInto}
 use Rattle.tables.specs.Views.{stateView}
 use Rattle.tables.specs.declared.State.{State}

@@ -1,10 +1,7 @@
+-- Each kind of call is served by the crate that has it. Assumes nothing.
 use borrow.Author.Needs.{needs}
 use Rattle.door.proofs.applied.Statement.{statement}
 use Rattle.door.proofs.applied.Tie as tie
-use Rattle.door.proofs.applied.Reads as reads
-use Rattle.door.proofs.applied.Lts as lts
-use Rattle.allocation.proofs.allocate.Reads as allocate-reads
-use Rattle.pool.proofs.serve.Reads as serve-reads
 
 -- src/lib.rt:26:20
 enum-known-c : tie.Need-enum-known-c

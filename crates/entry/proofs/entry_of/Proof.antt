@@ -9,10 +9,10 @@ use Rattle.reader.specs.Says.{lineSays}
 use Rattle.reader.specs.declared.line.Line.{Line}
 use Rattle.reader.specs.declared.line.Line.the-variants as L
 use Rattle.reader.proofs.line.Line.{the-type}
-use Rattle.entry.specs.Entries.{adds}
+use Rattle.lines.specs.Head.{adds}
 use native.Mathlib.Omega.{arith}
 use Rattle.adding.proofs.FitLaws.{range-fits}
-use Rattle.definition.specs.Rows.{mmio, pio, host, device, event, lpi}
+use Rattle.definition.specs.Tables.{mmio, pio, host, device, event, lpi}
 use Rattle.entry.proofs.EntryLaws.{reserving, fitting}
 use borrow.Author.Needs.{needs}
 use Rattle.entry.proofs.entry_of.Statement.{statement}

@@ -1,9 +1,8 @@
+-- Accepted or refused. Assumes nothing.
 use Rattle.tables.specs.Views.{stateView}
 use Rattle.front.proofs.FrontLaws.{accepted-all, accepted-some}
 use Rattle.front.proofs.accepted.Statement.{statement}
 use Rattle.front.proofs.accepted.Tie as tie
-use Rattle.front.proofs.accepted.Reads as reads
-use Rattle.front.proofs.accepted.Lts as lts
 
 -- src/lib.rt:17:9
 returns : tie.Need-returns

@@ -1,15 +1,13 @@
+-- The whole list, or its front. Assumes nothing.
 use mathlib.Core.Path.{refl, ap, sym, _∙_}
 use Prim.Native.Nat.{ℕ, _*_}
 use native.Mathlib.Omega.{arith}
 use lib.ListN.{take}
 use lib.Seq.{take-all, length-take-le}
-use Rattle.definition.specs.Rows.{recordSize}
+use Rattle.definition.specs.Tables.{recordSize}
 use borrow.Author.Needs.{needs}
 use Rattle.front.proofs.front.Statement.{statement}
 use Rattle.front.proofs.front.Tie as tie
-use Rattle.front.proofs.front.Reads as reads
-use Rattle.front.proofs.front.Lts as lts
-use Rattle.front.proofs.accepted.Reads as accepted-reads
 
 -- src/lib.rt:26:9
 accepted-requires : tie.Need-accepted-requires

@@ -1,7 +1,7 @@
 -- The choice, and its three rows pushed. Assumes nothing.
 use native.Mathlib.Omega.{arith}
 use mathlib.Core.Path.{refl}
-use Rattle.definition.specs.Rows.{sameKind}
+use Rattle.definition.specs.Tables.{sameKind}
 use Rattle.definition.specs.Pools.{rowsOf}
 use Rattle.definition.specs.Calls.{pushAll}
 use Rattle.choose.proofs.HitLaws.{ranges-length}

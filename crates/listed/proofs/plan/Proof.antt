@@ -37,7 +37,7 @@ use denote.Triple.Clauses.{ensured, lasts}
 use denote.Triple.Table.{entered, cited}
 use denote.Triple.Walked.{says, Stays, stay-ref, stay-none-slice, stay-dropped, walkOf, AllGo, goes-none-slice, goes-spent-slice, goes-ref, Walks, ends-at, walked, walk-meets}
 use denote.Exit.{yes, no}
-use Rattle.definition.specs.Rows.{recordSize}
+use Rattle.definition.specs.Tables.{recordSize}
 use Rattle.definition.specs.Plan.{Lent, lent, plan}
 use Rattle.tables.specs.Views.{stateView}
 use Rattle.tables.specs.declared.State.{State}

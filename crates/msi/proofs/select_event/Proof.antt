@@ -1,7 +1,7 @@
 -- The events' place, in 32 bits. Assumes nothing.
 use native.Mathlib.Omega.{arith}
 use mathlib.Core.Path.{sym, ap, _∙_}
-use Rattle.definition.specs.Refusal.{accepted}
+use Rattle.definition.specs.Base.{accepted}
 use Rattle.msi.proofs.SelectLaws.{granted}
 use borrow.Author.Needs.{needs}
 use Rattle.msi.proofs.select_event.Statement.{statement}

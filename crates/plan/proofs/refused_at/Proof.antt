@@ -1,6 +1,6 @@
 -- The refusal's numbers with the index, and no table changed. Assumes nothing.
 use mathlib.Core.Path.{_∙_, ap}
-use Rattle.definition.specs.Refusal.{Said, says}
+use Rattle.definition.specs.Base.{Said, says}
 use Rattle.definition.specs.Calls.{saying}
 use Rattle.tables.specs.Views.{stateView}
 use Rattle.choose.specs.Told.{refusalOf}

@@ -1,5 +1,5 @@
 -- `planned::plan` meets its contract: the walk of the plan's door (door's PartWalk.antt), over `plan::plan` and `part`. Assumes nothing.
-use mathlib.Core.Path.{_≡_, refl, ap, sym, _∙_, subst}
+use mathlib.Core.Path.{_≡_, refl, ap, _∙_, subst}
 use Prim.Native.Nat.{ℕ, _<_, _^_, _*_, _/_}
 use mathlib.Core.List.{[], _∷_, List}
 use lib.ListN.{length, take}
@@ -26,7 +26,7 @@ use denote.Plain.{uint-makes}
 use denote.Memory.{mem}
 use denote.Builtin.{usize, u64}
 use denote.Ref.{RefT, MutRef, ptr-vals, mut-tells}
-use denote.Slice.{sliceTy, sliceVal, MutSlice, ShrSlice, Room, finally, slice-vals, shr-slice-tells, shr-slice-lawful, shr-slice-copy, mut-slice-tells}
+use denote.Slice.{sliceVal, MutSlice, ShrSlice, Room, finally, slice-vals, shr-slice-tells, shr-slice-lawful, shr-slice-copy, mut-slice-tells}
 use denote.Signature.{plain, mutSliceOf}
 use denote.Steps.{owned, heard, nothing}
 use denote.Struct.Laws as LL
@@ -37,7 +37,7 @@ use denote.Triple.Clauses.{ensured, lasts}
 use denote.Triple.Table.{entered, cited}
 use denote.Triple.Walked.{says, Stays, stay-ref, stay-none-slice, stay-dropped, walkOf, AllGo, goes-none-slice, goes-spent-slice, goes-ref, Walks, ends-at, walked, walk-meets}
 use denote.Exit.{yes, no}
-use Rattle.definition.specs.Rows.{recordSize}
+use Rattle.definition.specs.Tables.{recordSize}
 use Rattle.definition.specs.Plan.{Lent, lent}
 use Rattle.tables.specs.Views.{stateView}
 use Rattle.tables.specs.declared.State.{State}

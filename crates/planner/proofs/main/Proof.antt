@@ -1,7 +1,9 @@
 -- Read, answer, write. Assumes nothing.
 use mathlib.Core.Path.{sym}
+use native.Mathlib.Omega.{arith}
 use lib.Seq.{length-take-le}
 use borrow.Author.Needs.{needs}
+use Rattle.text.proofs.OutputLaws.{reply-inside}
 use Rattle.planner.proofs.main.Statement.{statement}
 use Rattle.planner.proofs.main.Tie as tie
 
@@ -17,20 +19,20 @@ returns c = search needs
 array-share-prefix-text : tie.Need-array-share-prefix-text
 array-share-prefix-text c = search needs
 
-slice-aggregate-answer : tie.Need-slice-aggregate-answer
-slice-aggregate-answer c = sym (length-take-le _ _ (c .before .before .before .before .read-input .ensures))
+slice-aggregate-respond : tie.Need-slice-aggregate-respond
+slice-aggregate-respond c = sym (length-take-le _ _ (c .before .before .before .before .read-input .ensures))
 
-slice-aggregate-answer-2 : tie.Need-slice-aggregate-answer-2
-slice-aggregate-answer-2 c = search needs
+slice-aggregate-respond-2 : tie.Need-slice-aggregate-respond-2
+slice-aggregate-respond-2 c = search needs
 
-answer-requires : tie.Need-answer-requires
-answer-requires c κs = search needs
+respond-requires : tie.Need-respond-requires
+respond-requires c κs = search needs
 
 array-share-prefix-out : tie.Need-array-share-prefix-out
-array-share-prefix-out c = search needs
+array-share-prefix-out c = omega (arith, reply-inside _ _ _ _ _ (c .before .respond .ensures))
 
 slice-aggregate-write-all : tie.Need-slice-aggregate-write-all
-slice-aggregate-write-all c = sym (length-take-le _ _ (c .before .before .answer .ensures))
+slice-aggregate-write-all c = sym (length-take-le _ _ (reply-inside _ _ _ _ _ (c .before .before .respond .ensures)))
 
 write-all-requires : tie.Need-write-all-requires
 write-all-requires c κs = search needs
@@ -46,9 +48,9 @@ main-spec =
     read-input-requires
     returns
     array-share-prefix-text
-    slice-aggregate-answer
-    slice-aggregate-answer-2
-    answer-requires
+    slice-aggregate-respond
+    slice-aggregate-respond-2
+    respond-requires
     array-share-prefix-out
     slice-aggregate-write-all
     write-all-requires

@@ -4,7 +4,7 @@ use borrow.Author.Tests.{not-false, not-true}
 use mathlib.Core.Path.{_∙_, ap, sym}
 use Rattle.definition.specs.BaseLaws.{true-T}
 use Rattle.definition.specs.Calls.{given}
-use Rattle.definition.specs.Rows.{kinds}
+use Rattle.definition.specs.Tables.{kinds}
 use Rattle.pool.proofs.ServeLaws.{serve-hold, serve-malformed, serve-pool, serve-start}
 use Rattle.tables.specs.Views.{stateView}
 use Rattle.pool.proofs.serve.Statement.{statement}

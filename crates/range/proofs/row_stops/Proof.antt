@@ -2,7 +2,7 @@
 use borrow.Author.Needs.{needs}
 use borrow.Author.Tests.{eq-eqb, ne-eqb}
 use native.Mathlib.Omega.{arith}
-use Rattle.definition.specs.Rows.{sameDom}
+use Rattle.definition.specs.Tables.{sameDom}
 use Rattle.range.specs.Places.{before}
 use Rattle.range.proofs.row_stops.Statement.{statement}
 use Rattle.range.proofs.row_stops.Tie as tie

@@ -1,9 +1,7 @@
 -- The choice over the kind's tables, and the state with its row. Assumes nothing.
 use native.Mathlib.Omega.{arith}
 use mathlib.Core.Path.{refl, sym, ap, _∙_}
-use mathlib.Core.List.{[], _∷_}
-use Rattle.definition.specs.Rows.{host, dom}
-use Rattle.definition.specs.Pools.{at-kind}
+use Rattle.definition.specs.Tables.{host, dom}
 use Rattle.definition.specs.Request.{automatic, fixed, claims, need, irq}
 use Rattle.definition.specs.StateLaws.{sound-says}
 use Rattle.tables.specs.Views.{stateView}

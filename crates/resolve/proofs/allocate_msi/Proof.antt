@@ -1,6 +1,6 @@
 -- The choice over the three kinds' tables, and the state with its rows. Assumes nothing.
 use mathlib.Core.Path.{sym, _∙_}
-use Rattle.definition.specs.Rows.{device, event, lpi, sameKind}
+use Rattle.definition.specs.Tables.{device, event, lpi, sameKind}
 use Rattle.definition.specs.Pools.{rowsOf}
 use Rattle.definition.specs.Request.{automatic, fixed, rowAt}
 use Rattle.definition.specs.Calls.{poolsOf, ownersOf}

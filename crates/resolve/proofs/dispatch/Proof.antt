@@ -1,5 +1,5 @@
 -- The kind's own answer. Assumes nothing.
-use Rattle.definition.specs.Rows.{mmio, pio, input, host, device, event, lpi}
+use Rattle.definition.specs.Tables.{mmio, pio, input, host, device, event, lpi}
 use Rattle.tables.specs.Views.{stateView}
 use Rattle.request.proofs.GoodLaws.{memory-says, ports-says, msi-says}
 use Rattle.resolve.proofs.ReadyLaws.{sound-one}

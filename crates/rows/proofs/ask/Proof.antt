@@ -1,16 +1,10 @@
+-- Safe, and ends. Assumes nothing.
 use mathlib.Core.Path.{sym}
-use Prim.Native.Nat.{ℕ, _≤_, _<_, _*_, _+_, _-_, _/_}
 use native.Mathlib.Omega.{arith}
-use lib.ListN.{length}
 use lib.Seq.{length-take-le}
 use borrow.Author.Needs.{needs}
 use Rattle.rows.proofs.ask.Statement.{statement}
 use Rattle.rows.proofs.ask.Tie as tie
-use Rattle.rows.proofs.ask.Reads as reads
-use Rattle.rows.proofs.ask.Lts as lts
-use Rattle.allocation.proofs.allocate_into.Reads as allocate-into-reads
-use Rattle.rows.proofs.call.request_at.Reads as request-at-reads
-use Rattle.poke.proofs.show.show_record.Reads as show-record-reads
 
 -- src/main.rt:14:9
 request-at-requires : tie.Need-request-at-requires

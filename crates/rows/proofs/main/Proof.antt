@@ -1,10 +1,7 @@
+-- Safe, and ends. Assumes nothing.
 use borrow.Author.Needs.{needs}
 use Rattle.rows.proofs.main.Statement.{statement}
 use Rattle.rows.proofs.main.Tie as tie
-use Rattle.rows.proofs.main.Reads as reads
-use Rattle.rows.proofs.main.Lts as lts
-use Rattle.io.proofs.read_full.Reads as read-full-reads
-use Rattle.rows.proofs.run.Reads as run-reads
 
 -- src/main.rt:70:30
 slice-aggregate-read-full : tie.Need-slice-aggregate-read-full

@@ -1,14 +1,10 @@
-use Prim.Native.Nat.{ℕ, _≤_, _<_, _*_, _+_, _-_, _/_}
+-- Safe, and ends. Assumes nothing.
+use Prim.Native.Nat.{_≤_, _-_}
 use native.Mathlib.Omega.{arith}
 use lib.ListN.{length}
 use borrow.Author.Needs.{needs}
 use Rattle.rows.proofs.run.Statement.{statement}
 use Rattle.rows.proofs.run.Tie as tie
-use Rattle.rows.proofs.run.Reads as reads
-use Rattle.rows.proofs.run.Lts as lts
-use Rattle.rows.proofs.apply.Reads as apply-reads
-use Rattle.rows.proofs.read.read_command.Reads as read-command-reads
-use Rattle.tables.proofs.fresh.Reads as fresh-reads
 
 abbrev Inv-loop : tie.InvT-loop
 Inv-loop text s₀ i₀ s i = i ≤ length text

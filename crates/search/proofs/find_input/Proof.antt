@@ -6,12 +6,12 @@ use mathlib.Core.Path.{sym, _∙_}
 use mathlib.Core.List.{[]}
 use borrow.Author.Count.{below-more}
 use lib.ListN.{getD}
-use Rattle.definition.specs.Rows.{meets}
+use Rattle.definition.specs.Tables.{meets}
 use Rattle.tables.specs.Views.{pool, wires, wireOf, wireAt}
 use Rattle.search.specs.Asks.{needOf, inputNeed, bareWire}
 use Rattle.search.specs.Steps.{Tried}
 use Rattle.search.proofs.CoreLaws.{Barren, tried-none, barren-tried, lowest-here, lowest-none}
-use Rattle.search.proofs.IndexLaws.{first-tells}
+use Rattle.tables.proofs.IndexLaws.{first-tells}
 use Rattle.search.proofs.InputLaws.{input-free, input-tried, input-lowest}
 use Rattle.search.proofs.PoolRowLaws.{bases-hold}
 use Rattle.search.proofs.FoundLaws.{spanAt, wireIn, order-used, found-wires}

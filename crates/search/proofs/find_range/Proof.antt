@@ -5,7 +5,7 @@ use Prim.Native.Nat.{ℕ, _-_, _%_, _≤_, _<_}
 use mathlib.Core.Path.{_≡_}
 use mathlib.Core.List.{[]}
 use borrow.Author.Count.{below-more}
-use Rattle.definition.specs.Rows.{meets}
+use Rattle.definition.specs.Tables.{meets}
 use Rattle.tables.specs.Views.{pool, ranges, rangeOf, rangeAt}
 use Rattle.search.specs.Asks.{needOf}
 use Rattle.search.specs.Steps.{Tried}

@@ -3,7 +3,7 @@ use native.Mathlib.Omega.{arith}
 use Prim.Native.Nat.{_-_, _≤_}
 use mathlib.Core.Path.{_≡_, sym}
 use mathlib.Core.List.{[]}
-use Rattle.definition.specs.Rows.{wiredRow, meets}
+use Rattle.definition.specs.Tables.{wiredRow, meets}
 use Rattle.tables.specs.Below.{first}
 use Rattle.tables.specs.Views.{wires, wireOf, wireAt}
 use Rattle.tables.specs.declared.Hit.the-variants.{Clear}

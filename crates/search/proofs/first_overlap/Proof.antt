@@ -4,7 +4,7 @@ use native.Mathlib.Omega.{arith}
 use Prim.Native.Nat.{_-_, _≤_}
 use mathlib.Core.Path.{_≡_, sym, _∙_}
 use mathlib.Core.List.{[]}
-use Rattle.definition.specs.Rows.{rangeRow, meets}
+use Rattle.definition.specs.Tables.{rangeRow, meets}
 use Rattle.tables.specs.Below.{first}
 use Rattle.tables.specs.Views.{ranges, rangeOf, rangeAt}
 use Rattle.tables.specs.declared.Hit.the-variants.{Clear}

@@ -5,7 +5,6 @@ use Prim.Native.Nat.{ℕ, _-_, _≤_, _<_}
 use mathlib.Core.Path.{_≡_, sym, _∙_}
 use mathlib.Core.Bool.{false}
 use Rattle.definition.specs.Request.{holds}
-use Rattle.tables.specs.Below.{first}
 use Rattle.tables.specs.Views.{pool, spanOf, poolAt}
 use Rattle.search.specs.Asks.{needOf}
 use borrow.Author.Count.{below-more}

@@ -1,8 +1,8 @@
 -- Where a row is in the way, the next base is past its end. Assumes nothing.
 use native.Mathlib.Omega.{arith}
-use Rattle.search.proofs.IndexLaws.{first-tells}
+use Rattle.tables.proofs.IndexLaws.{first-tells}
 use Rattle.search.proofs.CoreLaws.{jump}
-use Rattle.definition.specs.Rows.{meets}
+use Rattle.definition.specs.Tables.{meets}
 use Rattle.definition.specs.Request.{rowAt}
 use borrow.Author.Needs.{needs}
 use Rattle.search.proofs.next_step.Statement.{statement}

@@ -1,7 +1,7 @@
 -- Three comparisons are the definition's one. Assumes nothing.
 use native.Mathlib.Omega.{arith}
 use borrow.Author.Tests.{eq-eqb, ne-eqb}
-use Rattle.definition.specs.Rows.{sameDom}
+use Rattle.definition.specs.Tables.{sameDom}
 use Rattle.search.proofs.same_domain.Statement.{statement}
 use Rattle.search.proofs.same_domain.Tie as tie
 

@@ -4,7 +4,7 @@ use native.Mathlib.Omega.{arith}
 use mathlib.Core.Path.{refl, subst}
 use Prim.Native.Nat.{_-_}
 use lib.ListN.{length}
-use Rattle.definition.specs.Rows as K
+use Rattle.definition.specs.Tables as K
 use Rattle.adding.specs.Whole.{holders}
 use Rattle.adding.specs.declared.reserve.RangeKind.the-variants as R
 use Rattle.entry.specs.Entries.{Comes}

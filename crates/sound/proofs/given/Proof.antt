@@ -3,7 +3,7 @@ use borrow.Author.Needs.{needs}
 use borrow.Author.Tests.{not-false, not-true}
 use mathlib.Core.Bool.{true}
 use mathlib.Core.Path.{_∙_, _≡_, sym}
-use Rattle.definition.specs.Rows.{device, event, host, input, mmio, pio}
+use Rattle.definition.specs.Tables.{device, event, host, input, mmio, pio}
 use Rattle.sound.proofs.StateLaws.{given-is}
 use Rattle.sound.specs.Tests.{givenOf}
 use Rattle.sound.proofs.given.Statement.{statement}

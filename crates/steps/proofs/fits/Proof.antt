@@ -1,10 +1,9 @@
+-- How many, then the room. Assumes nothing.
 use borrow.Author.Tests.{lt-leb, le-leb}
-use Rattle.definition.specs.Rows.{planLimit}
+use Rattle.definition.specs.Tables.{planLimit}
 use borrow.Author.Needs.{needs}
 use Rattle.steps.proofs.fits.Statement.{statement}
 use Rattle.steps.proofs.fits.Tie as tie
-use Rattle.steps.proofs.fits.Reads as reads
-use Rattle.steps.proofs.fits.Lts as lts
 
 -- src/lib.rt:25:9
 returns : tie.Need-returns

@@ -1,12 +1,10 @@
+-- Accepted or refused. Assumes nothing.
 use mathlib.Core.Path.{_∙_}
 use Rattle.tables.specs.Views.{stateView}
 use Rattle.steps.proofs.StepLaws.{numbered-clear, numbered-refused}
 use borrow.Author.Needs.{needs}
 use Rattle.steps.proofs.number.Statement.{statement}
 use Rattle.steps.proofs.number.Tie as tie
-use Rattle.steps.proofs.number.Reads as reads
-use Rattle.steps.proofs.number.Lts as lts
-use Rattle.steps.proofs.answer.Reads as answer-reads
 
 -- src/lib.rt:68:9
 returns : tie.Need-returns

@@ -1,14 +1,10 @@
+-- Sound, then the lengths. Assumes nothing.
 use mathlib.Core.Path.{sym, _∙_}
 use Rattle.tables.specs.Views.{stateView}
 use Rattle.steps.proofs.StepLaws.{opened-unsound, opened-short, opened-clear}
 use borrow.Author.Needs.{needs}
 use Rattle.steps.proofs.open.Statement.{statement}
 use Rattle.steps.proofs.open.Tie as tie
-use Rattle.steps.proofs.open.Reads as reads
-use Rattle.steps.proofs.open.Lts as lts
-use Rattle.sound.proofs.sound.Reads as sound-reads
-use Rattle.steps.proofs.answer.Reads as answer-reads
-use Rattle.steps.proofs.fits.Reads as fits-reads
 
 -- src/lib.rt:54:8
 sound-requires : tie.Need-sound-requires

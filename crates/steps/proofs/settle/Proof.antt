@@ -1,12 +1,10 @@
+-- Accepted or refused. Assumes nothing.
 use mathlib.Core.Path.{_∙_}
 use Rattle.tables.specs.Views.{stateView}
 use Rattle.steps.proofs.StepLaws.{settled-clear, settled-refused}
 use borrow.Author.Needs.{needs}
 use Rattle.steps.proofs.settle.Statement.{statement}
 use Rattle.steps.proofs.settle.Tie as tie
-use Rattle.steps.proofs.settle.Reads as reads
-use Rattle.steps.proofs.settle.Lts as lts
-use Rattle.steps.proofs.answer.Reads as answer-reads
 
 -- src/lib.rt:93:9
 returns : tie.Need-returns

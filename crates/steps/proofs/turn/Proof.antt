@@ -1,20 +1,17 @@
+-- A turn that is skipped, one that has no room, one that is answered. Assumes nothing.
 use mathlib.Core.Path.{ap, ap₂}
 use mathlib.Core.Bool.{_&&_}
 use Prim.Native.Nat.{_/_}
 use lib.Dec.{ltb}
 use lib.ListN.{length}
 use borrow.Author.Tests.{le-ltb}
-use Rattle.definition.specs.Rows.{recordSize}
+use Rattle.definition.specs.Tables.{recordSize}
 use Rattle.tables.specs.Views.{stateView}
 use Rattle.request.specs.Asked.{requestOf}
 use Rattle.steps.proofs.StepLaws.{is-clear, not-clear, turned-skips, part-answers}
 use borrow.Author.Needs.{needs}
 use Rattle.steps.proofs.turn.Statement.{statement}
 use Rattle.steps.proofs.turn.Tie as tie
-use Rattle.steps.proofs.turn.Reads as reads
-use Rattle.steps.proofs.turn.Lts as lts
-use Rattle.allocation.proofs.allocate_into.Reads as allocate-into-reads
-use Rattle.steps.proofs.number.Reads as number-reads
 
 -- src/lib.rt:79:22
 mul-to : tie.Need-mul-to

@@ -1,12 +1,12 @@
 -- `text::answer` meets its contract: the head's refusal, or the wants' plan, is the definition's output. Assumes nothing.
 use native.Mathlib.Omega.{arith}
-use mathlib.Core.Path.{_≡_, refl, sym, ap, _∙_}
-use Prim.Native.Nat.{ℕ, _≤_, _*_, _+_}
-use lib.ListN.{length, take}
+use mathlib.Core.Path.{_≡_, sym, ap}
+use Prim.Native.Nat.{_*_}
+use lib.ListN.{length}
 use lib.Seq.{length-take-le}
 use Rattle.tables.specs.Views.{stateView}
 use Rattle.lines.proofs.Longest.{output-length}
-use Rattle.text.proofs.OutputLaws.{Ends, output-refused, started-sound, ends, blank, blank-long}
+use Rattle.text.proofs.OutputLaws.{output-refused, started-sound, ends, blank, blank-long}
 use borrow.Author.Needs.{needs}
 use Rattle.text.proofs.answer.Statement.{statement}
 use Rattle.text.proofs.answer.Tie as tie

@@ -1,10 +1,8 @@
 -- `text::finish` meets its contract: `got` lines and `end`, or the refused line. Assumes nothing.
 use native.Mathlib.Omega.{arith}
-use mathlib.Core.Path.{_≡_, refl, sym, ap, _∙_}
-use mathlib.Core.List.{_++_}
-use Prim.Native.Nat.{_≤_}
+use mathlib.Core.Path.{ap}
 use lib.ListN.{length, length-append}
-use Rattle.lines.specs.Output.{gotLines, endLine, noLine}
+use Rattle.lines.specs.Output.{gotLines, endLine}
 use Rattle.writers.specs.Put.{Put}
 use Rattle.writers.proofs.PutLaws.{put-then, put-length}
 use Rattle.text.proofs.PlanLaws.{finished-refused, finished-whole}

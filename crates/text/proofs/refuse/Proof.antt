@@ -1,6 +1,6 @@
 -- `text::refuse` meets its contract: the line names no index. Assumes nothing.
 use native.Mathlib.Omega.{arith}
-use mathlib.Core.Path.{_≡_, refl, sym, ap, _∙_}
+use mathlib.Core.Path.{ap}
 use lib.ListN.{length}
 use Rattle.text.proofs.PlanLaws.{no-line-is}
 use borrow.Author.Needs.{needs}

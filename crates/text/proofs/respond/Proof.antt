@@ -1,7 +1,6 @@
 -- `text::respond` meets its contract: the definition's output, or 11 and the buffer as it was. Assumes nothing.
 use native.Mathlib.Omega.{arith}
-use mathlib.Core.Path.{_≡_, refl, sym, ap, _∙_}
-use Prim.Native.Nat.{_≤_}
+use mathlib.Core.Path.{ap}
 use lib.ListN.{length}
 use Rattle.lines.proofs.Longest.{output-length}
 use Rattle.text.proofs.OutputLaws.{output-long, reply-put, reply-short}

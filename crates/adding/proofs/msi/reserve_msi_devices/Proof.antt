@@ -3,7 +3,7 @@ use borrow.Author.Needs.{needs}
 use mathlib.Core.Path.{refl}
 use native.Mathlib.Omega.{arith}
 use Rattle.adding.proofs.FitLaws.{range-fits}
-use Rattle.definition.specs.Rows.{device}
+use Rattle.definition.specs.Tables.{device}
 use Rattle.adding.proofs.msi.reserve_msi_devices.Statement.{statement}
 use Rattle.adding.proofs.msi.reserve_msi_devices.Tie as tie
 

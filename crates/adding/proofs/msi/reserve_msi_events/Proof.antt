@@ -2,7 +2,7 @@
 use borrow.Author.Needs.{needs}
 use mathlib.Core.Path.{refl}
 use Rattle.adding.proofs.FitLaws.{range-fits}
-use Rattle.definition.specs.Rows.{device, event}
+use Rattle.definition.specs.Tables.{device, event}
 use Rattle.adding.proofs.msi.reserve_msi_events.Statement.{statement}
 use Rattle.adding.proofs.msi.reserve_msi_events.Tie as tie
 

@@ -4,7 +4,7 @@ use mathlib.Core.Path.{refl}
 use native.Mathlib.Omega.{arith}
 use Rattle.adding.proofs.FitLaws.{range-fits}
 use Rattle.definition.specs.Calls.{given}
-use Rattle.definition.specs.Rows.{host, mmio, pio}
+use Rattle.definition.specs.Tables.{host, mmio, pio}
 use Rattle.adding.proofs.reserve.hold.Statement.{statement}
 use Rattle.adding.proofs.reserve.hold.Tie as tie
 

@@ -1,6 +1,6 @@
 -- The row reserved in its table, which is put in its place. Assumes nothing.
 use Rattle.adding.proofs.HeldLaws.{few-at, input-held}
-use Rattle.definition.specs.Rows.{input}
+use Rattle.definition.specs.Tables.{input}
 use Rattle.tables.specs.Views.{wireOf}
 use Rattle.adding.proofs.reserve.hold_input.Statement.{statement}
 use Rattle.adding.proofs.reserve.hold_input.Tie as tie

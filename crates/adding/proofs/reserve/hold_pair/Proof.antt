@@ -2,7 +2,7 @@
 use borrow.Author.Needs.{needs}
 use Rattle.adding.proofs.HeldLaws.{few-at}
 use Rattle.adding.proofs.PairLaws.{pair-both, pair-neither}
-use Rattle.definition.specs.Rows.{host, input}
+use Rattle.definition.specs.Tables.{host, input}
 use Rattle.adding.proofs.reserve.hold_pair.Statement.{statement}
 use Rattle.adding.proofs.reserve.hold_pair.Tie as tie
 

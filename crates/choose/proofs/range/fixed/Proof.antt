@@ -1,10 +1,10 @@
 -- The pool, then the first row in the way. Assumes nothing.
 use native.Mathlib.Omega.{arith}
 use mathlib.Core.Path.{sym, _∙_}
-use Rattle.definition.specs.Rows.{meets}
+use Rattle.definition.specs.Tables.{meets}
 use Rattle.definition.specs.Request.{rowAt}
 use Rattle.tables.specs.Views.{ranges}
-use Rattle.search.proofs.IndexLaws.{first-tells}
+use Rattle.tables.proofs.IndexLaws.{first-tells}
 use Rattle.search.proofs.AllowedLaws.{allowed-high}
 use Rattle.choose.proofs.PlaceLaws.{fixed-outside, fixed-met, fixed-clear}
 use Rattle.choose.proofs.HitLaws.{top-fits, range-obstacle}

@@ -1,10 +1,10 @@
 -- The pool, then the first row on the input and what it shares. Assumes nothing.
 use native.Mathlib.Omega.{arith}
 use mathlib.Core.Path.{refl, sym, _∙_}
-use Rattle.definition.specs.Rows.{meets}
+use Rattle.definition.specs.Tables.{meets}
 use Rattle.definition.specs.Request.{rowAt}
 use Rattle.tables.specs.Views.{wires}
-use Rattle.search.proofs.IndexLaws.{first-tells}
+use Rattle.tables.proofs.IndexLaws.{first-tells}
 use Rattle.search.proofs.InputLaws.{input-allowed}
 use Rattle.search.proofs.AllowedLaws.{allowed-high}
 use Rattle.search.proofs.FoundLaws.{wireIn}

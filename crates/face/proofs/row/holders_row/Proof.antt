@@ -1,6 +1,6 @@
 -- Each kind. Assumes nothing.
 use borrow.Author.Needs.{needs}
-use Rattle.definition.specs.Rows.{mmio, pio, host, device, event, lpi}
+use Rattle.definition.specs.Tables.{mmio, pio, host, device, event, lpi}
 use Rattle.face.proofs.ReadLaws.{kind-other}
 use mathlib.Core.Path.{refl}
 use Rattle.face.proofs.row.holders_row.Statement.{statement}

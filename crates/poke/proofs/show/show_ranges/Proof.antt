@@ -1,15 +1,9 @@
-use Prim.Native.Nat.{ℕ, _≤_, _<_, _*_, _+_, _-_, _/_}
+-- Safe, and ends. Assumes nothing.
+use Prim.Native.Nat.{_≤_, _-_}
 use native.Mathlib.Omega.{arith}
-use lib.ListN.{length}
 use borrow.Author.Needs.{needs}
 use Rattle.poke.proofs.show.show_ranges.Statement.{statement}
 use Rattle.poke.proofs.show.show_ranges.Tie as tie
-use Rattle.poke.proofs.show.show_ranges.Reads as reads
-use Rattle.poke.proofs.show.show_ranges.Lts as lts
-use Rattle.poke.proofs.show.blank_number.Reads as blank-number-reads
-use Rattle.poke.proofs.show.newline.Reads as newline-reads
-use Rattle.poke.proofs.show.row_head.Reads as row-head-reads
-use Rattle.poke.proofs.show.wide.Reads as wide-reads
 
 abbrev Inv-loop : tie.InvT-loop
 Inv-loop table kind t i₀ i = i ≤ 128

@@ -1,14 +1,9 @@
-use Prim.Native.Nat.{ℕ, _≤_, _<_, _*_, _+_, _-_, _/_}
+-- Safe, and ends. Assumes nothing.
+use Prim.Native.Nat.{_≤_, _-_}
 use native.Mathlib.Omega.{arith}
-use lib.ListN.{length}
 use borrow.Author.Needs.{needs}
 use Rattle.poke.proofs.show.show_record.Statement.{statement}
 use Rattle.poke.proofs.show.show_record.Tie as tie
-use Rattle.poke.proofs.show.show_record.Reads as reads
-use Rattle.poke.proofs.show.show_record.Lts as lts
-use Rattle.io.proofs.print_decimal.Reads as print-decimal-reads
-use Rattle.poke.proofs.show.blank_number.Reads as blank-number-reads
-use Rattle.poke.proofs.show.newline.Reads as newline-reads
 
 abbrev Inv-loop : tie.InvT-loop
 Inv-loop out n -a i₀ i = i ≤ n

@@ -1,12 +1,10 @@
-use Prim.Native.Nat.{ℕ, _≤_, _<_, _*_, _+_, _-_, _/_}
+-- Safe, and ends. Assumes nothing.
+use Prim.Native.Nat.{_≤_, _-_}
 use native.Mathlib.Omega.{arith}
 use lib.ListN.{length}
 use borrow.Author.Needs.{needs}
 use Rattle.rows.proofs.read.read_command.Statement.{statement}
 use Rattle.rows.proofs.read.read_command.Tie as tie
-use Rattle.rows.proofs.read.read_command.Reads as reads
-use Rattle.rows.proofs.read.read_command.Lts as lts
-use Rattle.rows.proofs.read.with_digit.Reads as with-digit-reads
 
 abbrev Inv-loop : tie.InvT-loop
 Inv-loop text from x₀ j₀ i₀ x j i = (from ≤ i) × (j ≤ i) × (i ≤ length text)

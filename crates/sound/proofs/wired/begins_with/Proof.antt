@@ -4,7 +4,7 @@ use borrow.Author.Needs.{needs}
 use borrow.Author.Tests.{le-leb, lt-leb}
 use mathlib.Core.Path.{_∙_, sym}
 use native.Mathlib.Omega.{arith}
-use Rattle.definition.specs.Rows.{rowLimit}
+use Rattle.definition.specs.Tables.{rowLimit}
 use Rattle.sound.proofs.WireLaws.{wires-begin-is}
 use Rattle.tables.specs.Views.{wires}
 use Rattle.sound.proofs.wired.begins_with.Statement.{statement}

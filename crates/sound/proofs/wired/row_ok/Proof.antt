@@ -3,8 +3,7 @@ use borrow.Author.Needs.{needs}
 use borrow.Author.Tests.{not-false, not-true}
 use mathlib.Core.Bool.{true}
 use mathlib.Core.Path.{_∙_, _≡_, sym}
-use Rattle.definition.specs.Rows.{input}
-use Rattle.definition.specs.Sound.{goodRow}
+use Rattle.definition.specs.Tables.{input, goodRow}
 use Rattle.sound.proofs.WireLaws.{wire-bad, wire-high, wire-rest}
 use Rattle.tables.specs.Views.{wireAt, wireOf, wires}
 use Rattle.sound.proofs.wired.row_ok.Statement.{statement}

@@ -2,7 +2,7 @@
 use Prim.Native.Nat.{suc}
 use borrow.Author.Tests.{eq-eqb, ne-eqb}
 use native.Mathlib.Omega.{arith}
-use Rattle.definition.specs.Rows.{sameDom, sameRow}
+use Rattle.definition.specs.Tables.{sameDom, sameRow}
 use Rattle.sound.proofs.wired.same_row.Statement.{statement}
 use Rattle.sound.proofs.wired.same_row.Tie as tie
 

@@ -3,7 +3,7 @@ use borrow.Author.Needs.{needs}
 use borrow.Author.Tests.{le-leb, lt-leb}
 use mathlib.Core.Path.{_∙_, sym}
 use native.Mathlib.Omega.{arith}
-use Rattle.definition.specs.Rows.{rowLimit}
+use Rattle.definition.specs.Tables.{rowLimit}
 use Rattle.sound.proofs.WireLaws.{wires-tidy}
 use Rattle.sound.proofs.wired.tidy.Statement.{statement}
 use Rattle.sound.proofs.wired.tidy.Tie as tie

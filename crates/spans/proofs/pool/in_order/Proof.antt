@@ -2,7 +2,7 @@
 use borrow.Author.Tests.{eq-eqb, ne-eqb}
 use mathlib.Core.Path.{sym}
 use native.Mathlib.Omega.{arith}
-use Rattle.definition.specs.Rows.{sameDom}
+use Rattle.definition.specs.Tables.{sameDom}
 use Rattle.spans.proofs.PoolLaws.{order-above, order-apart, order-below, order-same}
 use Rattle.spans.proofs.pool.in_order.Statement.{statement}
 use Rattle.spans.proofs.pool.in_order.Tie as tie

@@ -3,7 +3,7 @@ use borrow.Author.Needs.{needs}
 use borrow.Author.Tests.{le-leb, lt-leb}
 use mathlib.Core.Path.{_∙_, sym}
 use native.Mathlib.Omega.{arith}
-use Rattle.definition.specs.Rows.{poolLimit}
+use Rattle.definition.specs.Tables.{poolLimit}
 use Rattle.spans.proofs.PoolLaws.{pool-tidy}
 use Rattle.spans.proofs.pool.tidy.Statement.{statement}
 use Rattle.spans.proofs.pool.tidy.Tie as tie

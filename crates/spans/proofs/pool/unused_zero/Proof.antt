@@ -5,8 +5,7 @@ use borrow.Author.Tests.{not-false, not-true}
 use mathlib.Core.Bool.{true}
 use mathlib.Core.Path.{_∙_, _≡_, sym}
 use native.Mathlib.Omega.{arith}
-use Rattle.definition.specs.Rows.{poolLimit, sameSpan}
-use Rattle.definition.specs.Sound.{blankSpan}
+use Rattle.definition.specs.Tables.{poolLimit, sameSpan, blankSpan}
 use Rattle.tables.proofs.BelowLaws.{from-more, from-start, from-stop}
 use Rattle.tables.specs.Below.{allFrom}
 use Rattle.tables.specs.Views.{pool, poolAt, spanOf}

@@ -3,7 +3,7 @@ use Prim.Native.Nat.{_-_, _≤_}
 use borrow.Author.Needs.{needs}
 use mathlib.Core.Path.{_∙_, _≡_, sym}
 use native.Mathlib.Omega.{arith}
-use Rattle.definition.specs.Rows.{meets}
+use Rattle.definition.specs.Tables.{meets}
 use Rattle.tables.proofs.BelowLaws.{first-found, first-more, first-start}
 use Rattle.tables.specs.Below.{first}
 use Rattle.tables.specs.Views.{rangeAt, rangeOf, ranges}

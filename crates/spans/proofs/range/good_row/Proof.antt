@@ -2,7 +2,7 @@
 use borrow.Author.Needs.{needs}
 use borrow.Author.Tests.{le-leb, le-ltb, lt-leb, lt-ltb}
 use native.Mathlib.Omega.{arith}
-use Rattle.definition.specs.Rows.{top}
+use Rattle.definition.specs.Tables.{top}
 use Rattle.spans.specs.Tests.{goodRange}
 use Rattle.spans.proofs.range.good_row.Statement.{statement}
 use Rattle.spans.proofs.range.good_row.Tie as tie

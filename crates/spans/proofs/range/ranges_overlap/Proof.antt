@@ -1,6 +1,6 @@
 -- Two ranges overlap where each starts below the end of the other. Assumes nothing.
 use borrow.Author.Tests.{le-ltb, lt-ltb}
-use Rattle.definition.specs.Rows.{overlap}
+use Rattle.definition.specs.Tables.{overlap}
 use Rattle.spans.proofs.range.ranges_overlap.Statement.{statement}
 use Rattle.spans.proofs.range.ranges_overlap.Tie as tie
 

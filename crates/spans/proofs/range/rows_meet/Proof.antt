@@ -3,7 +3,7 @@ use borrow.Author.Needs.{needs}
 use borrow.Author.Tests.{eq-eqb, ne-eqb, not-false, not-true}
 use mathlib.Core.Path.{_∙_, sym}
 use native.Mathlib.Omega.{arith}
-use Rattle.definition.specs.Rows.{meets, sameDom}
+use Rattle.definition.specs.Tables.{meets, sameDom}
 use Rattle.definition.specs.BaseLaws.{and-false, and-true}
 use Rattle.spans.proofs.range.rows_meet.Statement.{statement}
 use Rattle.spans.proofs.range.rows_meet.Tie as tie

@@ -1,7 +1,7 @@
 -- Two rows are the same where each number is. Assumes nothing.
 use borrow.Author.Tests.{eq-eqb, ne-eqb}
 use native.Mathlib.Omega.{arith}
-use Rattle.definition.specs.Rows.{sameDom, sameRow}
+use Rattle.definition.specs.Tables.{sameDom, sameRow}
 use Rattle.spans.proofs.range.same_row.Statement.{statement}
 use Rattle.spans.proofs.range.same_row.Tie as tie
 

@@ -3,7 +3,7 @@ use borrow.Author.Needs.{needs}
 use borrow.Author.Tests.{le-leb, lt-leb}
 use mathlib.Core.Path.{_∙_, sym}
 use native.Mathlib.Omega.{arith}
-use Rattle.definition.specs.Rows.{rowLimit}
+use Rattle.definition.specs.Tables.{rowLimit}
 use Rattle.spans.proofs.RangeLaws.{ranges-tidy}
 use Rattle.spans.proofs.range.tidy.Statement.{statement}
 use Rattle.spans.proofs.range.tidy.Tie as tie

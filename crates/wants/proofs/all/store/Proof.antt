@@ -3,7 +3,7 @@ use native.Mathlib.Omega.{arith}
 use mathlib.Core.Path.{_≡_, refl, _∙_, ap}
 use Prim.Native.Nat.{_≤_, _-_}
 use lib.ListN.{length, take}
-use lib.Seq.{sets, length-sets, take-all}
+use lib.Seq.{sets, take-all}
 use borrow.Author.Needs.{needs}
 use Rattle.writers.proofs.PutLaws.{sets-more}
 use Rattle.wants.proofs.all.store.Statement.{statement}
