@@ -1,5 +1,8 @@
 //! Plans of 128 requests of all kinds: accepted, pinned, run again in part and in any order; too long, too short, refused in the middle. Each test has a stack of 1 MiB.
 
+mod common;
+
+use common::{planner_plan, small_stack, Rng};
 use thurgoleo::{
     Choice, Hold, Kind, Part, Plan, Planner, Pool, Refusal, Request, Use, Want, STATE_SIZE,
 };
@@ -13,39 +16,6 @@ const KINDS: [Kind; 7] = [
     Kind::Event,
     Kind::Lpi,
 ];
-
-extern "C" {
-    fn planner_plan(
-        state: *mut u64,
-        size: u64,
-        requests: *const u64,
-        n: usize,
-        results: *mut u64,
-        m: usize,
-    ) -> u64;
-}
-
-fn small_stack(run: fn()) {
-    std::thread::Builder::new()
-        .stack_size(1 << 20)
-        .spawn(run)
-        .unwrap()
-        .join()
-        .unwrap();
-}
-
-// The numbers of a splitmix64 generator.
-struct Rng(u64);
-
-impl Rng {
-    fn below(&mut self, n: usize) -> usize {
-        self.0 = self.0.wrapping_add(0x9e37_79b9_7f4a_7c15);
-        let mut x = self.0;
-        x = (x ^ (x >> 30)).wrapping_mul(0xbf58_476d_1ce4_e5b9);
-        x = (x ^ (x >> 27)).wrapping_mul(0x94d0_49bb_1331_11eb);
-        ((x ^ (x >> 31)) % n as u64) as usize
-    }
-}
 
 fn stand() -> Box<Planner> {
     let mut p = Box::new(Planner::new());

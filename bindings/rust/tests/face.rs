@@ -1,37 +1,11 @@
 //! The edge: codes, lengths and numbers that cannot be read get their refusal, and nothing else happens.
 
+mod common;
+
+use common::{planner_call, planner_fresh, planner_plan, planner_read, planner_state_size};
 use thurgoleo::{
     Choice, Hold, Kind, Part, Plan, Planner, Pool, Refusal, Request, Use, Want, STATE_SIZE,
 };
-
-extern "C" {
-    fn planner_state_size() -> u64;
-    fn planner_fresh(state: *mut u64, size: u64) -> u64;
-    fn planner_call(
-        state: *mut u64,
-        size: u64,
-        numbers: *const u64,
-        n: usize,
-        answer: *mut u64,
-        m: usize,
-    ) -> u64;
-    fn planner_plan(
-        state: *mut u64,
-        size: u64,
-        requests: *const u64,
-        n: usize,
-        results: *mut u64,
-        m: usize,
-    ) -> u64;
-    fn planner_read(
-        state: *const u64,
-        size: u64,
-        what: *const u64,
-        n: usize,
-        out: *mut u64,
-        m: usize,
-    ) -> u64;
-}
 
 fn call(state: &mut [u64], numbers: &[u64]) -> [u64; 5] {
     let mut answer = [77; 5];

@@ -1,62 +1,17 @@
 //! Random calls on random memory, with guard words around all that is lent, on a stack of 1 MiB. RANDOM_CALLS says how many (20,000 if it is not set).
 
-use thurgoleo::{Planner, STATE_SIZE};
+mod common;
 
-extern "C" {
-    fn planner_fresh(state: *mut u64, size: u64) -> u64;
-    fn planner_call(
-        s: *mut u64,
-        size: u64,
-        x: *const u64,
-        n: usize,
-        out: *mut u64,
-        m: usize,
-    ) -> u64;
-    fn planner_allocate(
-        s: *mut u64,
-        size: u64,
-        x: *const u64,
-        n: usize,
-        out: *mut u64,
-        m: usize,
-    ) -> u64;
-    fn planner_plan(
-        s: *mut u64,
-        size: u64,
-        x: *const u64,
-        n: usize,
-        out: *mut u64,
-        m: usize,
-    ) -> u64;
-    fn planner_read(
-        s: *const u64,
-        size: u64,
-        x: *const u64,
-        n: usize,
-        out: *mut u64,
-        m: usize,
-    ) -> u64;
-    fn planner_pin(x: *mut u64, n: usize, results: *const u64, m: usize);
-}
+use common::{
+    planner_allocate, planner_call, planner_fresh, planner_pin, planner_plan, planner_read,
+    small_stack, Rng,
+};
+use thurgoleo::{Planner, STATE_SIZE};
 
 const WORDS: usize = STATE_SIZE / 8;
 const GUARD: u64 = 0xA5A5_5A5A_C3C3_3C3C;
 
-struct Rng(u64);
-
 impl Rng {
-    fn next(&mut self) -> u64 {
-        self.0 = self.0.wrapping_add(0x9e37_79b9_7f4a_7c15);
-        let mut x = self.0;
-        x = (x ^ (x >> 30)).wrapping_mul(0xbf58_476d_1ce4_e5b9);
-        x = (x ^ (x >> 27)).wrapping_mul(0x94d0_49bb_1331_11eb);
-        x ^ (x >> 31)
-    }
-
-    fn below(&mut self, n: usize) -> usize {
-        (self.next() % n as u64) as usize
-    }
-
     // Small numbers mostly, then the widths' limits, then anything.
     fn number(&mut self) -> u64 {
         match self.below(8) {
@@ -164,10 +119,5 @@ fn any_memory_any_numbers() {
         .ok()
         .and_then(|n| n.parse().ok())
         .unwrap_or(20_000);
-    std::thread::Builder::new()
-        .stack_size(1 << 20)
-        .spawn(move || calls(count))
-        .unwrap()
-        .join()
-        .unwrap();
+    small_stack(move || calls(count));
 }

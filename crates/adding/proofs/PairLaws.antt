@@ -13,7 +13,8 @@ use Rattle.tables.specs.declared.Wires.{Wires}
 use Rattle.tables.specs.declared.Holders.{Holders}
 use Rattle.range.specs.Answers.{telling, heard, pushedOr, Held, earlierOf}
 use Rattle.range.specs.declared.Reply.{Reply}
-use Rattle.range.proofs.HoldLaws.{tell-number, held-pushed}
+use Rattle.definition.specs.PlanLaws.{tell-number}
+use Rattle.range.proofs.HoldLaws.{held-pushed}
 use Rattle.range.proofs.PairLaws.{pair-told, earlier-zero}
 use Rattle.adding.specs.Whole.{putPair, Keeping}
 use Rattle.adding.proofs.PutLaws.{every}
@@ -40,7 +41,7 @@ module _ (h : Holders) (w r : Row) (x : Wires) (y : Ranges) (a b c : Reply) (e :
         (sym (push-nil _)) (sym (push-nil _)) (sym (push-nil _))
 
     taken : c .number ≡ 0 → (j : Kind) (z : Answer (List Claim)) → reserve (heldOf s) rows ≡ z → heard c ≡ telling z → holdersView (putPair h x y) j ≡ pushedOr j (s .held j) z
-    taken n j (refused z) g t = absurd (tell-number z (sym (ap (λ v. v .number) t) ∙ n))
+    taken n j (refused z) g t = absurd (tell-number 0 z (sym (ap (λ v. v .number) t) ∙ n))
     taken n j (accepted ds) g t =
         both n j ∙ ap (λ t. pushAll (t j) (rowsOf j rows)) (sym same) ∙ ap (λ ds. pushAll (s .held j) (rowsOf j ds)) (reserve-says (heldOf s) rows ds g .0)
 

@@ -9,7 +9,7 @@ use Rattle.definition.specs.Request.{Use}
 use Rattle.definition.specs.Calls.{State, state, addAll}
 use Rattle.definition.specs.StateLaws.{add-accepted, add-refused}
 use Rattle.tables.specs.declared.Pools.{Pools}
-use Rattle.range.proofs.HoldLaws.{tell-number}
+use Rattle.definition.specs.PlanLaws.{tell-number}
 use Rattle.adding.specs.Whole.{side, Filling}
 
 module _ (u : Use) (c : In Span) (cs : List (In Span)) (s : State) where
@@ -27,7 +27,7 @@ module _ (u : Use) (c : In Span) (cs : List (In Span)) (s : State) where
     where
       go : (x : Answer (List Span)) → addRange (c .kind) (c .row) (used (s .pools u (c .kind))) ≡ x → addAll u (c ∷ cs) s ≡ addAll u cs (addAll u (c ∷ []) s)
       go (accepted ps) q = add-accepted u c cs s ps q ∙ ap (addAll u cs) (sym (add-accepted u c [] s ps q))
-      go (refused x) q = absurd (tell-number x (sym (ap (λ t. t .said .number) (add-refused u c [] s x q)) ∙ z))
+      go (refused x) q = absurd (tell-number 0 x (sym (ap (λ t. t .said .number) (add-refused u c [] s x q)) ∙ z))
 
 -- ---- over the pools of one use
 

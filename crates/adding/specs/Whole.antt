@@ -12,6 +12,7 @@ use Rattle.definition.specs.Calls.{State as Given, state, heldOf, holding, sett
 use Rattle.tables.specs.Views.{poolOf, poolView, poolsView, holdersView}
 use Rattle.tables.specs.declared.Pool.{Pool}
 use Rattle.tables.specs.declared.Ranges.{Ranges}
+use Rattle.tables.specs.Whole.{holders}
 use Rattle.tables.specs.declared.Wires.{Wires}
 use Rattle.tables.specs.declared.Pools.{Pools}
 use Rattle.tables.specs.declared.Holders.{Holders}
@@ -79,9 +80,6 @@ pub record Filling (p q : Pools) (cs : List (In Span)) (number : ℕ) : Type 0 w
   pub adds : (u : Use) (f : Pools) (h o : Kind → Table Row) (w : Said) → addAll u cs (state (side u p f) h o w) ≡ state (side u q f) h o (says 0 number 0 0 0)
 
 -- ---- reservations
-
-abbrev pub holders : Ranges → Ranges → Wires → Ranges → Ranges → Ranges → Ranges → Holders
-holders m p i h d e l = record { mmio = m; pio = p; input = i; host = h; device = d; event = e; lpi = l }
 
 abbrev pub rangesOf : Holders → RangeKind → Ranges
 rangesOf h R.Mmio = h .mmio

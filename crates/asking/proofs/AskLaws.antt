@@ -15,11 +15,10 @@ use Rattle.definition.specs.Calls.{State, state, poolsOf, ownersOf, given, soun
 use Rattle.definition.specs.Plan.{grant, Run, done, stopped, after, run, recordOf, records, lent, allocateInto, allRows}
 use Rattle.definition.specs.BaseLaws.{T-true}
 use Rattle.definition.specs.RowLaws.{every-kind}
-use Rattle.definition.specs.ClaimLaws.{rows-append, fits-one}
-use Rattle.definition.specs.TableLaws.{push-append}
+use Rattle.definition.specs.ClaimLaws.{fits-one}
 use Rattle.definition.specs.ResolveLaws.{Resolved, resolved, rows-kept}
 use Rattle.definition.specs.StateLaws.{Sound, SoundFor, given-for, for-sound, sound-ground, sound-fits, granting-sound, start-sound}
-use Rattle.definition.specs.PlanLaws.{tell-number, start-is}
+use Rattle.definition.specs.PlanLaws.{tell-number, granting-append, start-is}
 use Rattle.definition.specs.RunLaws.{run-accepted, run-refused}
 use Rattle.lines.specs.Output.{gotLines, endLine, noLine}
 use Rattle.lines.specs.Text.{Sofar, sofar, accepts, next, opened, answered, ask, answer}
@@ -27,9 +26,6 @@ use Rattle.lines.proofs.WantLaws.{want-record}
 use Rattle.asking.specs.Asking.{asks, askAll, plainly, ending, reply}
 
 -- ---- rows pushed one grant after the other, or all at once
-
-granting-append : (cs ds : List Claim) (s : State) → granting (cs ++ ds) s ≡ granting ds (granting cs s)
-granting-append cs ds s = λ i. state (s .pools) (s .held) (λ k. (ap (pushAll (s .owners k)) (rows-append k cs ds) ∙ push-append (s .owners k) (rowsOf k cs) (rowsOf k ds)) i) silence
 
 granting-nil : (s : State) → s .said ≡ silence → granting [] s ≡ s
 unfolding pushAll rowsOf

@@ -8,8 +8,6 @@ use Rattle.definition.specs.Pools.{Claim}
 use Rattle.definition.specs.Plan.{grant, recordOf}
 use Rattle.definition.specs.Request as R
 use Rattle.tables.specs.Views.{poolOf, poolsView, holdersView}
-use Rattle.tables.specs.declared.Ranges.{Ranges}
-use Rattle.tables.specs.declared.Wires.{Wires}
 use Rattle.tables.specs.declared.Pools.{Pools}
 use Rattle.tables.specs.declared.Holders.{Holders}
 use Rattle.choose.specs.Told.{refusalOf}
@@ -22,10 +20,6 @@ use Rattle.turns.specs.Turns.{putFrom, Close, all, stop}
 use Rattle.course.specs.declared.Stop.{Stop}
 use Rattle.course.specs.declared.Stop.the-variants.{Nowhere, Before}
 use Rattle.course.specs.declared.Ran.{Ran}
-
--- the owner tables, one by one
-abbrev pub holders : Ranges → Ranges → Wires → Ranges → Ranges → Ranges → Ranges → Holders
-holders m p w h d e l = record { mmio = m; pio = p; input = w; host = h; device = d; event = e; lpi = l }
 
 -- the used rows of the pools
 abbrev pub poolLists : Pools → Pools → R.Pools

@@ -9,13 +9,14 @@ use lib.ListN.{length, take, drop, length-map, length-take}
 use lib.Dec.{T, leb, leb→le, le→leb}
 use Rattle.definition.specs.BaseLaws.{and-l, and-r, and-i, either}
 use Rattle.definition.specs.Tables.{rowLimit, planLimit, recordSize, Kind, kinds, used}
-use Rattle.definition.specs.Base.{Refusal, malformed, badInput, badOwner, emptyRange, full, badLine, short, reserved, fixedNotAllowed, exhausted, conflict, Said, silence, tell, Answer, accepted, refused, require, _then_}
+use Rattle.definition.specs.Base.{Refusal, malformed, badInput, badOwner, emptyRange, full, badLine, short, reserved, fixedNotAllowed, exhausted, conflict, Said, says, silence, tell, Answer, accepted, refused, require, _then_}
 use Rattle.definition.specs.Pools.{Claim, rowsOf, _⊕_, Hold, heldRows, reserve}
 use Rattle.definition.specs.Request.{Request, Pools, resolve}
 use Rattle.definition.specs.Calls.{State, state, poolsOf, heldOf, ownersOf, given, sound, saying, pushAll, holding, granting, starting, Call, pool, hold, start, want, settle, serve}
 use Rattle.definition.specs.Plan.{Grant, Run, done, stopped, run, records, written, Lent, lent, allRows, roomy, atOnce, planRun, grantsOf, ended, plan, pinned}
 use Rattle.definition.specs.RowLaws.{every-kind}
-use Rattle.definition.specs.ClaimLaws.{Fits, length-put}
+use Rattle.definition.specs.ClaimLaws.{Fits, length-put, rows-append}
+use Rattle.definition.specs.TableLaws.{push-append}
 use Rattle.definition.specs.RequestLaws.{require-accepted, required, AutoInFixed, Wide, SoundRows}
 use Rattle.definition.specs.StateLaws.{Given, Sound, GivenFor, SoundFor, given-for, for-given, sound-for, for-sound, sound-saying, sound-ground, sound-fits, granting-sound, start-sound, settle-malformed}
 use Rattle.definition.specs.RunLaws.{run-take, run-stopped, run-requests, run-kept, Sounds, not-done}
@@ -36,6 +37,27 @@ tell-number i (reserved o) e = omega arith
 tell-number i (fixedNotAllowed s) e = omega arith
 tell-number i (exhausted s) e = omega arith
 tell-number i (conflict s o d) e = omega arith
+
+-- a refusal's numbers are those of the request alone, but for its index
+pub told-at : (i : ℕ) (x : Refusal) → says i (tell 0 x .number) (tell 0 x .namespace) (tell 0 x .owner) (tell 0 x .detail) ≡ tell i x
+told-at i malformed = refl
+told-at i badInput = refl
+told-at i badOwner = refl
+told-at i emptyRange = refl
+told-at i full = refl
+told-at i badLine = refl
+told-at i short = refl
+told-at i (reserved o) = refl
+told-at i (fixedNotAllowed s) = refl
+told-at i (exhausted s) = refl
+told-at i (conflict s o d) = refl
+
+pub tell-index : (i : ℕ) (x : Refusal) → tell i x .index ≡ i
+tell-index i x = sym (ap (λ (w : Said). w .index) (told-at i x))
+
+-- rows granted one list after another are granted together
+pub granting-append : (cs ds : List Claim) (s : State) → granting (cs ++ ds) s ≡ granting ds (granting cs s)
+granting-append cs ds s = λ i. state (s .pools) (s .held) (λ k. (ap (pushAll (s .owners k)) (rows-append k cs ds) ∙ push-append (s .owners k) (rowsOf k cs) (rowsOf k ds)) i) silence
 
 -- accepted, or every table as handed in
 abbrev pub AcceptedOrSame : State → State → Type 0

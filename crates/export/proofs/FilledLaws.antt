@@ -9,12 +9,12 @@ use lib.ListN.{length, take}
 use borrow.Author.Tests.{le-leb, ne-eqb}
 use Rattle.definition.specs.BaseLaws.{and-l, true-T}
 use Rattle.definition.specs.Tables.{planLimit, recordSize, kinds}
-use Rattle.definition.specs.Base.{Refusal, malformed, badInput, badOwner, emptyRange, full, badLine, short, reserved, fixedNotAllowed, exhausted, conflict, tell, accepted, require}
+use Rattle.definition.specs.Base.{Refusal, malformed, short, tell, accepted, require}
 use Rattle.definition.specs.Pools.{Holders}
 use Rattle.definition.specs.Request.{Request, Pools}
 use Rattle.definition.specs.Calls.{State, poolsOf, ownersOf, sound}
 use Rattle.definition.specs.Plan.{Grant, Run, done, stopped, run, records, roomy, atOnce, planRun, grantsOf, ended, plan}
-use Rattle.definition.specs.PlanLaws.{tell-number, plan-says}
+use Rattle.definition.specs.PlanLaws.{tell-number, tell-index, plan-says}
 use Rattle.definition.specs.RunLaws.{run-requests, run-stopped, records-length}
 use Rattle.flat.specs.Flat.{requestSize, requestsOf, wholeRequests, flatPlan}
 use Rattle.flat.proofs.FlatLaws.{requests-length, flat-whole}
@@ -42,19 +42,6 @@ some-granted P rs S gs x e =
 
 -- ---- a refusal's index
 
-index-is : (i : ℕ) (x : Refusal) → tell i x .index ≡ i
-index-is i malformed = refl
-index-is i badInput = refl
-index-is i badOwner = refl
-index-is i emptyRange = refl
-index-is i full = refl
-index-is i badLine = refl
-index-is i short = refl
-index-is i (reserved o) = refl
-index-is i (fixedNotAllowed s) = refl
-index-is i (exhausted s) = refl
-index-is i (conflict s o d) = refl
-
 few : (a b : Bool) (v : Run) (gs : List Grant) (x : Refusal) → atOnce (require a malformed (require b short (accepted v))) ≡ stopped gs x → (b ≡ true → v ≡ stopped gs x → length gs ≤ planLimit) → length gs ≤ planLimit
 unfolding require
 few false b v gs x e f = let z : 0 ≡ length gs = ap (λ (w : Run). length (grantsOf w)) e in omega arith
@@ -76,7 +63,7 @@ module _ (rs : List Request) (s : State) (out : List ℕ) (n : ℕ) (asked : len
   unfolding filledIn
   counted-run (done gs) e = ap (λ (m : ℕ). recordSize * m) (sym asked ∙ sym (all-granted (poolsOf s) rs (ownersOf s) gs (plan-says rs s out gs e .ran))) ∙ sym (records-length gs)
   counted-run (stopped gs x) e =
-      rw (ne-eqb (tell (length gs) x .number) 0 (tell-number (length gs) x), index-is (length gs) x, le-leb (length gs) planLimit (few-granted rs s out gs x e), filledIn) (ap (λ (m : ℕ). recordSize * m) (index-is (length gs) x) ∙ sym (records-length gs))
+      rw (ne-eqb (tell (length gs) x .number) 0 (tell-number (length gs) x), tell-index (length gs) x, le-leb (length gs) planLimit (few-granted rs s out gs x e), filledIn) (ap (λ (m : ℕ). recordSize * m) (tell-index (length gs) x) ∙ sym (records-length gs))
 
 -- THE COUNT: a plan of whole requests answers with the length of the records that it has written
 pub filled-is : (rq : List ℕ) (s : State) (out : List ℕ) → wholeRequests rq ≡ true

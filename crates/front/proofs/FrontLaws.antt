@@ -9,26 +9,13 @@ use lib.ListN.{length, take, drop}
 use lib.Seq.{take-at}
 use Rattle.definition.specs.BaseLaws.{T-false}
 use Rattle.definition.specs.Tables.{recordSize}
-use Rattle.definition.specs.Base.{Refusal, malformed, badInput, badOwner, emptyRange, full, badLine, short, reserved, fixedNotAllowed, exhausted, conflict, Said, tell}
+use Rattle.definition.specs.Base.{Refusal, Said, tell}
 use Rattle.definition.specs.Request.{Request}
 use Rattle.definition.specs.Calls.{State}
 use Rattle.definition.specs.Plan.{Grant, Run, done, stopped, planRun, grantsOf, records, written, ended, plan}
-use Rattle.definition.specs.PlanLaws.{tell-number, plan-requests}
+use Rattle.definition.specs.PlanLaws.{tell-number, tell-index, plan-requests}
 use Rattle.definition.specs.RunLaws.{records-length}
 use Rattle.front.specs.Front.{acceptedOf, filled}
-
-tell-index : (i : ℕ) (x : Refusal) → tell i x .index ≡ i
-tell-index i malformed = refl
-tell-index i badInput = refl
-tell-index i badOwner = refl
-tell-index i emptyRange = refl
-tell-index i full = refl
-tell-index i badLine = refl
-tell-index i short = refl
-tell-index i (reserved o) = refl
-tell-index i (fixedNotAllowed s) = refl
-tell-index i (exhausted s) = refl
-tell-index i (conflict s o d) = refl
 
 pub accepted-all : (w : Said) (n : ℕ) → w .number ≡ 0 → n ≡ acceptedOf w n
 accepted-all w n e = sym (ap (λ (k : ℕ). elim (eqb k 0) [ true ↦ n | false ↦ w .index ]) e)

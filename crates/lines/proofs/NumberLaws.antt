@@ -11,12 +11,9 @@ use lib.ListN.{length, drop, getD, drop-of-length-le}
 use lib.Seq.{drop-cons}
 use borrow.Author.Tests.{eq-eqb, ne-eqb, le-leb, lt-leb}
 use Rattle.definition.specs.Base.{allOf}
+use Rattle.definition.specs.BaseLaws.{and-false}
 use Rattle.lines.specs.Base.{when}
 use Rattle.lines.specs.Numbers.{digit, valueFrom, plain, number}
-
-and-no : (a : Bool) → (a && false) ≡ false
-and-no true = refl
-and-no false = refl
 
 -- digits never make a number smaller
 value-grows : (v : ℕ) (bs : List ℕ) → v ≤ valueFrom v bs
@@ -56,7 +53,7 @@ too-large : (most v : ℕ) (bs : List ℕ) → most < v → numberFrom most v bs
 unfolding numberFrom when
 too-large most v bs h =
     let g : most < valueFrom v bs = omega (arith, value-grows v bs) in
-    rw (lt-leb (valueFrom v bs) most g, and-no (allOf digit bs))
+    rw (lt-leb (valueFrom v bs) most g, and-false (allOf digit bs))
 
 -- one turn: the digit at i is taken, or ends it
 module _ (most : ℕ) (f : List ℕ) (i v : ℕ) (l : i < length f) where
@@ -73,7 +70,7 @@ module _ (most : ℕ) (f : List ℕ) (i v : ℕ) (l : i < length f) where
 
   pub from-high : 57 < getD f i 0 → numberFrom most v (drop i f) ≡ none
   unfolding numberFrom allOf when
-  from-high a = rw (drop-cons f i 0 l, lt-leb (getD f i 0) 57 a, and-no (leb 48 (getD f i 0)))
+  from-high a = rw (drop-cons f i 0 l, lt-leb (getD f i 0) 57 a, and-false (leb 48 (getD f i 0)))
 
   pub from-large : 48 ≤ getD f i 0 → getD f i 0 ≤ 57 → most < grown → numberFrom most v (drop i f) ≡ none
   from-large a b h = from-more a b ∙ too-large most grown (drop (i + 1) f) h

@@ -9,8 +9,7 @@ use borrow.Author.Tests.{le-leb, lt-leb}
 use Rattle.definition.specs.BaseLaws.{and-l, and-r, T-true, T-false, true-T, eq→eqb}
 use Rattle.definition.specs.Tables.{planLimit, recordSize, kinds}
 use Rattle.definition.specs.RowLaws.{every-kind}
-use Rattle.definition.specs.Base.{malformed, badInput, badOwner, emptyRange, full, badLine, short, reserved, fixedNotAllowed, exhausted, conflict, silence, tell, says}
-use Rattle.definition.specs.Base as F
+use Rattle.definition.specs.Base.{silence, tell}
 use Rattle.definition.specs.Request.{automatic, fixed}
 use Rattle.definition.specs.Calls.{state, sound, saying}
 use Rattle.definition.specs.StateLaws.{sound-for}
@@ -25,20 +24,6 @@ use Rattle.turns.specs.Turns.{ended, closed, lengthsFit}
 use Rattle.course.specs.Steps.{PoolsReady, closeOf}
 use Rattle.course.specs.declared.Stop.the-variants.{Nowhere, Before}
 use Rattle.course.specs.declared.Ran.{Ran}
-
--- a refusal's numbers with the index of its request
-pub told-at : (i : ℕ) (x : F.Refusal) → says i (tell 0 x .number) (tell 0 x .namespace) (tell 0 x .owner) (tell 0 x .detail) ≡ tell i x
-told-at i malformed = refl
-told-at i badInput = refl
-told-at i badOwner = refl
-told-at i emptyRange = refl
-told-at i full = refl
-told-at i badLine = refl
-told-at i short = refl
-told-at i (reserved o) = refl
-told-at i (fixedNotAllowed n) = refl
-told-at i (exhausted n) = refl
-told-at i (conflict n o d) = refl
 
 -- ---- the steps
 

@@ -8,7 +8,7 @@ use native.Mathlib.Omega.{arith}
 use lib.Dec.{T, leb, ltb, eqb, ltb→lt}
 use lib.ListN.{length}
 use borrow.Author.Tests.{lt-ltb, le-ltb, le-leb, lt-leb, eq-eqb}
-use Rattle.definition.specs.Base.{allOf, firstOf, Refusal, malformed, badInput, badOwner, emptyRange, full, badLine, short, reserved, fixedNotAllowed, exhausted, conflict, tell, Answer, accepted, refused, require}
+use Rattle.definition.specs.Base.{allOf, firstOf, Refusal, badInput, badOwner, emptyRange, full, reserved, Answer, accepted, refused, require}
 use Rattle.definition.specs.Tables.{rowLimit, top, lastTrigger, shared, dom, Kind, input, Row, wiredRow, sameDom, within, overlap, meets, Table, used, fits}
 use Rattle.definition.specs.Pools.{at-kind, Holders, Claim, rowsOf, room, unreserved, allUnreserved, reserve}
 use Rattle.definition.specs.Calls.{pushAll}
@@ -16,6 +16,7 @@ use Rattle.definition.specs.BaseLaws.{and-l, and-r, and-true, and-false, T-true
 use Rattle.definition.specs.RowLaws.{kind-same}
 use Rattle.definition.specs.ClaimLaws.{rows-same}
 use Rattle.definition.specs.PoolLaws.{reserve-says}
+use Rattle.definition.specs.PlanLaws.{tell-number}
 use Rattle.definition.specs.TableLaws.{used-length}
 use Rattle.tables.specs.Below.{first}
 use Rattle.tables.specs.declared.Hit.the-variants.{At, Clear}
@@ -181,20 +182,6 @@ module _ (c x t s o c′ x′ t′ s′ o′ : ℕ) where
 
 -- ---- the table afterwards
 
--- a refusal's number is not 0
-pub tell-number : (x : Refusal) → tell 0 x .number ≡ 0 → ⊥
-tell-number malformed e = omega arith
-tell-number badInput e = omega arith
-tell-number badOwner e = omega arith
-tell-number emptyRange e = omega arith
-tell-number full e = omega arith
-tell-number badLine e = omega arith
-tell-number short e = omega arith
-tell-number (reserved o) e = omega arith
-tell-number (fixedNotAllowed n) e = omega arith
-tell-number (exhausted n) e = omega arith
-tell-number (conflict n o d) e = omega arith
-
 rows-one : (k : Kind) (r : Row) → rowsOf k (at-kind k r ∷ []) ≡ r ∷ []
 unfolding rowsOf
 rows-one k r = rows-same k (at-kind k r) [] (kind-same k)
@@ -211,7 +198,7 @@ module _ (k : Kind) (r : Row) (t : Table Row) (a : Reply) (h : Told k r t a) whe
   held-accepted u n e = record { rows = e ∙ go (reserveOne k r (used t)) refl (h .said); said = h .said }
     where
       go : (x : Answer (List Claim)) → reserveOne k r (used t) ≡ x → heard a ≡ telling x → pushAll t (r ∷ []) ≡ pushedOr k t x
-      go (refused x) q s = absurd (tell-number x (sym (ap (λ s. s .number) s) ∙ n))
+      go (refused x) q s = absurd (tell-number 0 x (sym (ap (λ s. s .number) s) ∙ n))
       go (accepted cs) q s = ap (pushAll t) (sym (rows-one k r) ∙ ap (rowsOf k) (reserve-says (λ j. used t) (at-kind k r ∷ []) cs q .0))
 
 -- .. so an accepted one has pushed its row
@@ -219,5 +206,5 @@ pub held-pushed : (k : Kind) (r : Row) (t u : Table Row) (a : Reply) → Held k 
 held-pushed k r t u a h n = go (reserveOne k r (used t)) refl (h .rows) (h .said)
   where
     go : (x : Answer (List Claim)) → reserveOne k r (used t) ≡ x → u ≡ pushedOr k t x → heard a ≡ telling x → u ≡ pushAll t (r ∷ [])
-    go (refused x) q e s = absurd (tell-number x (sym (ap (λ w. w .number) s) ∙ n))
+    go (refused x) q e s = absurd (tell-number 0 x (sym (ap (λ w. w .number) s) ∙ n))
     go (accepted cs) q e s = e ∙ ap (pushAll t) (ap (rowsOf k) (sym (reserve-says (λ j. used t) (at-kind k r ∷ []) cs q .0)) ∙ rows-one k r)

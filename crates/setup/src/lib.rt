@@ -12,7 +12,7 @@ ghost use mathlib.Core.Path.{_≡_};
 ghost use Prim.Native.Nat.{_≤_};
 ghost use lib.ListN.{length};
 ghost use Rattle.lines.specs.Base.{textLimit};
-ghost use Rattle.adding.specs.Whole.{holders};
+ghost use Rattle.tables.specs.Whole.{holders};
 ghost use Rattle.setup.specs.Setup.{standing, SetsUp};
 
 // The tables and the last answer; where the first line stands that was not taken; how many were.

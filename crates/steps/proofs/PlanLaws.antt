@@ -11,21 +11,21 @@ use borrow.Author.Tests.{leb-true}
 use Rattle.definition.specs.BaseLaws.{T-true, true-T, and-r}
 use Rattle.definition.specs.Tables.{planLimit, recordSize, Kind, kinds}
 use Rattle.definition.specs.RowLaws.{every-kind}
-use Rattle.definition.specs.Base.{Refusal, malformed, badInput, badOwner, emptyRange, full, badLine, short, reserved, fixedNotAllowed, exhausted, conflict, Said, silence, tell, Answer, accepted, refused, require}
-use Rattle.definition.specs.TableLaws.{push-nil, push-append}
+use Rattle.definition.specs.Base.{Refusal, malformed, short, Said, silence, tell, Answer, accepted, refused, require}
+use Rattle.definition.specs.TableLaws.{push-nil}
 use Rattle.definition.specs.Pools.{Holders, Claim, rowsOf, _⊕_}
-use Rattle.definition.specs.ClaimLaws.{rows-append, fits-one}
+use Rattle.definition.specs.ClaimLaws.{fits-one}
 use Rattle.definition.specs.Request.{Request, resolve}
 use Rattle.definition.specs.ResolveLaws.{Resolved, resolved, rows-kept}
-use Rattle.definition.specs.Calls.{State, state, poolsOf, ownersOf, sound, saying, granting, pushAll}
+use Rattle.definition.specs.Calls.{State, state, poolsOf, ownersOf, sound, saying, granting}
 use Rattle.definition.specs.StateLaws.{Sound, SoundFor, sound-for, for-sound, sound-saying, sound-ground, sound-fits, granting-sound}
 use Rattle.definition.specs.Plan.{Grant, grant, Run, done, stopped, after, run, recordOf, records, written, Lent, lent, allRows, roomy, planRun, ended, grantsOf, plan}
-use Rattle.definition.specs.PlanLaws.{tell-number}
+use Rattle.definition.specs.PlanLaws.{tell-number, told-at, granting-append}
 use Rattle.definition.specs.RunLaws.{run-accepted, run-refused, record-length}
 use Rattle.turns.specs.Turns.{putFrom}
 use Rattle.turns.proofs.TurnLaws.{put-append, put-nil}
 use Rattle.allocation.proofs.ServeLaws.{into-refused, into-granted}
-use Rattle.steps.specs.Steps.{opened, indexed, numbered, answered, turned, turns, settled, steps}
+use Rattle.steps.specs.Steps.{opened, numbered, answered, turned, turns, settled, steps}
 use Rattle.steps.proofs.StepLaws.{not-clear, opened-unsound, opened-short, opened-clear, numbered-clear, numbered-refused, settled-clear, settled-refused, turned-skips, turned-answers}
 
 -- ---- the results
@@ -39,22 +39,6 @@ put-length out us a l =
 granting-nil : (w : Said) (t : State) → saying w (granting [] t) ≡ saying w t
 unfolding rowsOf
 granting-nil w t = λ j. state (t .pools) (t .held) (λ k. push-nil (t .owners k) j) w
-
-granting-append : (cs ds : List Claim) (t : State) → granting (cs ++ ds) t ≡ granting ds (granting cs t)
-granting-append cs ds t = λ j. state (t .pools) (t .held) (λ k. (ap (pushAll (t .owners k)) (rows-append k cs ds) ∙ push-append (t .owners k) (rowsOf k cs) (rowsOf k ds)) j) silence
-
-indexed-tell : (i : ℕ) (x : Refusal) → indexed i (tell 0 x) ≡ tell i x
-indexed-tell i malformed = refl
-indexed-tell i badInput = refl
-indexed-tell i badOwner = refl
-indexed-tell i emptyRange = refl
-indexed-tell i full = refl
-indexed-tell i badLine = refl
-indexed-tell i short = refl
-indexed-tell i (reserved o) = refl
-indexed-tell i (fixedNotAllowed s) = refl
-indexed-tell i (exhausted s) = refl
-indexed-tell i (conflict s o d) = refl
 
 -- ---- what is left after i requests, of which t and out are the tables and the results
 
@@ -95,7 +79,7 @@ module _ (i : ℕ) (r : Request) (t : State) (out : List ℕ) (snd : sound kinds
   turned-refused x e =
       sym (turned-answers i r t out quiet (omega (arith, l)))
       ∙ ap (λ (p : Lent). lent (numbered i (p .state)) (take a out ++ p .results)) (sym (into-refused kinds r t (drop a out) snd part-room x e))
-      ∙ ap₂ lent (sym (numbered-refused i (saying (tell 0 x) t) (tell-number 0 x)) ∙ ap (λ (w : Said). saying w t) (indexed-tell i x)) (take-append-drop a out)
+      ∙ ap₂ lent (sym (numbered-refused i (saying (tell 0 x) t) (tell-number 0 x)) ∙ ap (λ (w : Said). saying w t) (told-at i x)) (take-append-drop a out)
 
 turns-run : (rs : List Request) (i : ℕ) (t : State) (out : List ℕ) → SoundFor kinds t → t .said ≡ silence → recordSize * (i + length rs) ≤ length out → turns i rs t out ≡ finished i t out (run (poolsOf t) (ownersOf t) rs)
 unfolding turns run records

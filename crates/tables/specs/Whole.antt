@@ -63,6 +63,11 @@ freshState =
       detail = 0;
     }
 
+-- ---- the seven tables of a side, one by one
+
+abbrev pub holders : Ranges → Ranges → Wires → Ranges → Ranges → Ranges → Ranges → Holders
+holders m p w h d e l = record { mmio = m; pio = p; input = w; host = h; device = d; event = e; lpi = l }
+
 -- ---- a row more, behind the last used one
 
 abbrev pub pushedRange : Ranges → Row → Ranges

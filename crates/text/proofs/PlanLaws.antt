@@ -9,13 +9,13 @@ use lib.ListN.{length, take, drop, length-map, length-take}
 use lib.Seq.{getD-take, length-take-le}
 use borrow.Author.Tests.{eq-eqb, ne-eqb}
 use Rattle.definition.specs.Tables.{kinds}
-use Rattle.definition.specs.Base.{Refusal, malformed, badInput, badOwner, emptyRange, full, badLine, short, reserved, fixedNotAllowed, exhausted, conflict, says, tell, accepted}
+use Rattle.definition.specs.Base.{Refusal, malformed, short, says, tell, accepted}
 use Rattle.definition.specs.Request.{Request}
 use Rattle.definition.specs.Calls.{State, poolsOf, ownersOf, sound}
 use Rattle.definition.specs.Plan.{Grant, Run, done, stopped, run, records, written, roomy, atOnce, planRun, grantsOf, ended}
 use Rattle.definition.specs.RequestLaws.{required}
 use Rattle.definition.specs.RunLaws.{run-requests, run-stopped}
-use Rattle.definition.specs.PlanLaws.{tell-number}
+use Rattle.definition.specs.PlanLaws.{tell-number, told-at, tell-index}
 use Rattle.lines.specs.Output.{gotLines, endLine, noLine}
 use Rattle.flat.specs.Flat.{requestSize, requestsFrom, requestsOf, wholeRequests}
 use Rattle.flat.proofs.FlatLaws.{requests-read}
@@ -26,32 +26,9 @@ use Rattle.text.proofs.GotLaws.{gots-front}
 
 -- ---- a refusal's numbers, but for its index, are those of the request alone
 
-tell-index : (i : ℕ) (x : Refusal) → tell i x .index ≡ i
-tell-index i malformed = refl
-tell-index i badInput = refl
-tell-index i badOwner = refl
-tell-index i emptyRange = refl
-tell-index i full = refl
-tell-index i badLine = refl
-tell-index i short = refl
-tell-index i (reserved o) = refl
-tell-index i (fixedNotAllowed s) = refl
-tell-index i (exhausted s) = refl
-tell-index i (conflict s o d) = refl
-
 tell-line : (l i : ℕ) (x : Refusal) → noLine l (tell i x) ≡ noLine l (tell 0 x)
 unfolding noLine
-tell-line l i malformed = refl
-tell-line l i badInput = refl
-tell-line l i badOwner = refl
-tell-line l i emptyRange = refl
-tell-line l i full = refl
-tell-line l i badLine = refl
-tell-line l i short = refl
-tell-line l i (reserved o) = refl
-tell-line l i (fixedNotAllowed s) = refl
-tell-line l i (exhausted s) = refl
-tell-line l i (conflict s o d) = refl
+tell-line l i x = sym (ap (noLine l) (told-at i x))
 
 -- an answer's index is not written
 pub no-line-is : (l i n s o d : ℕ) → noLine l (says i n s o d) ≡ noLine l (says 0 n s o d)

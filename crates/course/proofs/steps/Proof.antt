@@ -12,7 +12,7 @@ use Rattle.tables.specs.Views.{holdersView}
 use Rattle.course.proofs.SizedLaws.{ranges-sized, wires-sized}
 use Rattle.tables.specs.Sized.{SizedHolders}
 use Rattle.flat.specs.Flat.{requestSize}
-use Rattle.course.specs.Steps.{holders}
+use Rattle.tables.specs.Whole.{holders}
 use Rattle.course.proofs.StepLaws.{RoomThree, Going, begun, pool-ready, mmio-says, pio-says, count-says, at-end, stop-bad, stop-mmio, room-mmio, turn-mmio, stop-pio, room-pio, turn-pio, stop-input, room-input, turn-input, stop-host, room-host, turn-host, stop-msi, room-msi, turn-msi}
 use Rattle.course.proofs.steps.Statement.{statement}
 use Rattle.course.proofs.steps.Tie as tie

@@ -4,7 +4,7 @@ use Rattle.definition.specs.Base.{Said, says}
 use Rattle.definition.specs.Calls.{saying}
 use Rattle.tables.specs.Views.{stateView}
 use Rattle.choose.specs.Told.{refusalOf}
-use Rattle.plan.proofs.RunLaws.{told-at}
+use Rattle.definition.specs.PlanLaws.{told-at}
 use borrow.Author.Needs.{needs}
 use Rattle.plan.proofs.refused_at.Statement.{statement}
 use Rattle.plan.proofs.refused_at.Tie as tie

@@ -5,7 +5,7 @@ use mathlib.Core.Path.{refl, subst}
 use Prim.Native.Nat.{_-_}
 use lib.ListN.{length}
 use Rattle.definition.specs.Tables as K
-use Rattle.adding.specs.Whole.{holders}
+use Rattle.tables.specs.Whole.{holders}
 use Rattle.adding.specs.declared.reserve.RangeKind.the-variants as R
 use Rattle.entry.specs.Entries.{Comes}
 use Rattle.setup.proofs.StepLaws.{stopped, refused-out}
