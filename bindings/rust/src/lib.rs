@@ -28,6 +28,7 @@
 #![no_std]
 
 mod ask;
+mod exported;
 mod plan;
 mod raw;
 mod refusal;

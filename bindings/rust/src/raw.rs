@@ -1,45 +1,11 @@
-//! The exported functions, and nothing else. Every pointer here comes from a reference or a slice that outlives the call, with its own length,
+//! The exported functions over references and slices, and nothing else. Every pointer here comes from a reference or a slice that outlives the call, with its own length,
 //! so none is null; the state has the size that is passed.
 
+use crate::exported::{
+    planner_allocate, planner_call, planner_fresh, planner_pin, planner_plan, planner_read,
+    planner_text,
+};
 use crate::{STATE_SIZE, WORDS};
-
-extern "C" {
-    fn planner_fresh(state: *mut u64, size: u64) -> u64;
-    fn planner_call(
-        state: *mut u64,
-        size: u64,
-        numbers: *const u64,
-        n: usize,
-        answer: *mut u64,
-        m: usize,
-    ) -> u64;
-    fn planner_allocate(
-        state: *mut u64,
-        size: u64,
-        request: *const u64,
-        n: usize,
-        record: *mut u64,
-        m: usize,
-    ) -> u64;
-    fn planner_plan(
-        state: *mut u64,
-        size: u64,
-        requests: *const u64,
-        n: usize,
-        results: *mut u64,
-        m: usize,
-    ) -> u64;
-    fn planner_read(
-        state: *const u64,
-        size: u64,
-        what: *const u64,
-        n: usize,
-        out: *mut u64,
-        m: usize,
-    ) -> u64;
-    fn planner_pin(requests: *mut u64, n: usize, results: *const u64, m: usize);
-    fn planner_text(text: *const u8, n: usize, out: *mut u8, m: usize) -> u64;
-}
 
 const SIZE: u64 = STATE_SIZE as u64;
 
