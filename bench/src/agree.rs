@@ -25,6 +25,8 @@ pub fn check(input: &Input, requests: &[Request]) {
     let mut allocated = resolved.clone();
     let mut told = Box::new(Told { state: *resolved, record: [0; RECORD] });
     let mut kinds: Vec<OfKind> = (1..=5).map(|kind| OfKind::of(&resolved, kind)).collect();
+    #[cfg(feature = "list")]
+    let mut placed = resolved.clone();
     let mut cores: Vec<CoreOf> = (1..=5).map(|kind| CoreOf::of(&resolved, kind)).collect();
     for request in requests {
         assert!(sound(&resolved), "{}: tables before {request:?}", input.name);
@@ -34,6 +36,9 @@ pub fn check(input: &Input, requests: &[Request]) {
         let numbers = flat(request);
         // SAFETY: the tables were found sound.
         unsafe { ours::resolve(&mut resolved, &numbers) };
+        #[cfg(feature = "list")]
+        // SAFETY: as `resolved`, which has stayed equal to it.
+        let bases = unsafe { ours::resolve_in(&mut placed, &crate::list::Request::of(request)) };
         let core = &mut cores[numbers[0] as usize - 1];
         // SAFETY: they are among the tables that were found sound.
         unsafe { core.grant(&numbers) };
@@ -43,6 +48,8 @@ pub fn check(input: &Input, requests: &[Request]) {
         kind.allocate(&numbers);
         let expected = State::of(judge.tables());
         assert!(*resolved == *expected, "{}: resolve after {request:?}", input.name);
+        #[cfg(feature = "list")]
+        assert!(bases.accepted && *placed == *expected, "{}: in place after {request:?}", input.name);
         assert!(*allocated == *expected, "{}: allocate after {request:?}", input.name);
         assert!(told.state == *expected, "{}: allocate_into after {request:?}", input.name);
         assert_eq!(told.record, record, "{}: the record of {request:?}", input.name);
@@ -95,15 +102,17 @@ pub fn check_plan(input: &Input, requests: &[Request]) {
     same(input, "plan", &whole, &expected);
 }
 
-/// The same requests as a list of structs, through both doors; the part handed back is all records.
+/// The same requests as a list of structs, through the three doors; the part handed back is all records.
 #[cfg(feature = "list")]
 pub fn check_list(input: &Input, requests: &[Request]) {
     let (state, expected) = planned(input, requests);
-    let (mut left, mut handed) = (lent(&state), lent(&state));
+    let (mut left, mut each, mut handed) = (lent(&state), lent(&state), lent(&state));
     let list: Vec<_> = requests.iter().map(crate::list::Request::of).collect();
     ours::list_in(&mut left, &list);
+    ours::placed_in(&mut each, &list);
     let filled = ours::list_part(&mut handed, &list);
     same(input, "listed::plan_in", &left, &expected);
+    same(input, "placed::plan_in", &each, &expected);
     same(input, "listed::plan", &handed, &expected);
     assert_eq!(filled, requests.len() * RECORD, "{}: the filled part", input.name);
 }

@@ -12,6 +12,7 @@ pub enum Choice {
 }
 
 #[repr(u8)]
+#[derive(Clone, Copy)]
 pub enum Want {
     Mmio { size: u64, alignment: u64, choice: Choice },
     Pio { size: u64, alignment: u64, choice: Choice },
@@ -21,6 +22,7 @@ pub enum Want {
 }
 
 #[repr(C)]
+#[derive(Clone, Copy)]
 pub struct Request {
     pub requester: u32,
     pub slot: u32,

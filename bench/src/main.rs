@@ -66,8 +66,10 @@ fn tests(inputs: &[Input]) {
 }
 
 fn single_requests(input: &Input) {
+    #[cfg(feature = "list")]
+    in_place(input);
     println!(
-        "| one request, {} | original | kind's core | ratio | kind's call, with its test | ratio | `resolve` | ratio |",
+        "| one request by value, {} | original | kind's core | ratio | kind's call, with its test | ratio | `resolve` | ratio |",
         input.name
     );
     println!("|---|---|---|---|---|---|---|---|");
@@ -98,6 +100,25 @@ fn single_requests(input: &Input) {
     let words = spelt(&request(1, false, 0));
     let base = median(BATCH, || pools.started(), |theirs| theirs.allocate(&words));
     println!("| the search alone, MMIO | {base:.3} us | {find:.3} us | {:.2} | | | | |\n", find / base);
+}
+
+/// One request on a lent state, in place.
+#[cfg(feature = "list")]
+fn in_place(input: &Input) {
+    println!("| one request in place, {} | original | `inplace::resolve` | ratio |", input.name);
+    println!("|---|---|---|---|");
+    let state = started(input);
+    let pools = Theirs::with(&input.adds);
+    for (kind, fixed) in singles() {
+        let asked = request(kind, fixed, 0);
+        let (listed, words) = (list::Request::of(&asked), spelt(&asked));
+        let base = median(BATCH, || pools.started(), |theirs| theirs.allocate(&words));
+        // SAFETY: the tables were found sound.
+        let took = median(BATCH, || state.clone(), |state| unsafe { ours::resolve_in(state, &listed) });
+        let choice = if fixed { "fixed" } else { "automatic" };
+        println!("| {}, {choice} | {base:.3} us | {took:.3} us | {:.2} |", KINDS[kind - 1], took / base);
+    }
+    println!();
 }
 
 /// Requests one after another, and as one plan where there are plans.
@@ -146,7 +167,12 @@ fn run_of(input: &Input, length: usize) {
     {
         let make = || agree::lent(&state);
         let list: Vec<_> = requests.iter().map(list::Request::of).collect();
+        // SAFETY: the tables were found sound before each.
+        let each =
+            |state: &mut Box<State>| list.iter().filter(|one| unsafe { ours::resolve_in(state, one) }.accepted).count();
+        row("`inplace::resolve` one by one", median(1, || state.clone(), each));
         row("`listed::plan_in`, over a list of structs", median(1, make, |lent| ours::list_in(lent, &list)));
+        row("`placed::plan_in`, each request in place", median(1, make, |lent| ours::placed_in(lent, &list)));
         row("`listed::plan`, its filled part handed back", median(1, make, |lent| ours::list_part(lent, &list)));
     }
 }
@@ -191,6 +217,17 @@ fn stacks(input: &Input) {
             taken_by(|| tables.allocate(numbers))
         };
         row(&format!("the kind's call, {name}"), deepest(&of_kind));
+        #[cfg(feature = "list")]
+        {
+            let placed = [false, true].map(|fixed| {
+                let (mut copy, asked) = (state.clone(), list::Request::of(&request(kind, fixed, 0)));
+                taken_by(|| {
+                    // SAFETY: the tables were found sound.
+                    std::hint::black_box(unsafe { ours::resolve_in(&mut copy, &asked) });
+                })
+            });
+            row(&format!("`inplace::resolve`, {name}"), placed.into_iter().max().unwrap_or(0));
+        }
     }
     #[cfg(feature = "plan")]
     {
@@ -203,7 +240,8 @@ fn stacks(input: &Input) {
     #[cfg(feature = "list")]
     {
         let list: Vec<_> = run(RUN).iter().map(list::Request::of).collect();
-        let (mut left, mut handed) = (agree::lent(&state), agree::lent(&state));
+        let (mut left, mut each, mut handed) = (agree::lent(&state), agree::lent(&state), agree::lent(&state));
+        row("`placed::plan_in`", taken_by(|| ours::placed_in(&mut each, &list)));
         row("`listed::plan_in`", taken_by(|| ours::list_in(&mut left, &list)));
         let part = || {
             std::hint::black_box(ours::list_part(&mut handed, &list));

@@ -65,6 +65,8 @@ mod doors {
     extern "C" {
         #[link_name = "listed::plan_in"]
         pub fn plan_in(state: *mut State, requests: *const Slice<Request>, results: *const Slice<u64>);
+        #[link_name = "placed::plan_in"]
+        pub fn placed_in(state: *mut State, requests: *const Slice<Request>, results: *const Slice<u64>);
         #[link_name = "listed::plan"]
         pub fn plan(
             part: *mut Slice<u64>,
@@ -72,7 +74,21 @@ mod doors {
             requests: *const Slice<Request>,
             results: *const Slice<u64>,
         );
+        // the request is a copy of the caller's
+        #[link_name = "inplace::resolve"]
+        pub fn resolve(bases: *mut Bases, state: *mut State, request: *const Request);
     }
+}
+
+/// The first numbers of the rows that a request was granted.
+#[cfg(feature = "list")]
+#[repr(C)]
+#[derive(Default)]
+pub struct Bases {
+    pub accepted: bool,
+    pub first: u64,
+    pub second: u64,
+    pub third: u64,
 }
 
 /// The tables of one kind, by the kind's number.
@@ -167,6 +183,18 @@ pub unsafe fn resolve(state: &mut State, request: &Flat) {
     symbols::timed_resolve(state, request.as_ptr(), request.len())
 }
 
+/// The same in place: no table is copied.
+///
+/// # Safety
+/// The tables are sound: `judge` says 0.
+#[cfg(feature = "list")]
+pub unsafe fn resolve_in(state: &mut State, request: &Request) -> Bases {
+    let mut bases = Bases::default();
+    let asked = *request;
+    doors::resolve(&mut bases, state, &asked);
+    bases
+}
+
 /// One request over handed-in tables: the test, then the request.
 pub fn allocate(state: &mut State, request: &Flat) {
     // SAFETY: a whole state and a whole list; the call requires nothing more.
@@ -241,6 +269,14 @@ pub fn list_in(lent: &mut Lent, requests: &[Request]) {
     let (list, results) = slices(&mut lent.results, requests);
     // SAFETY: a whole state, and whole lists; the call requires nothing more, and reads the requests only.
     unsafe { doors::plan_in(&mut lent.state, &list, &results) }
+}
+
+/// The same, each request answered in place.
+#[cfg(feature = "list")]
+pub fn placed_in(lent: &mut Lent, requests: &[Request]) {
+    let (list, results) = slices(&mut lent.results, requests);
+    // SAFETY: as in `list_in`.
+    unsafe { doors::placed_in(&mut lent.state, &list, &results) }
 }
 
 /// The same, and how long the filled part is that it hands back.

@@ -36,9 +36,10 @@ use denote.Exit.{Kept, Exit}
 use denote.Steps.{peeks, facts, heard, only}
 use denote.Triple.Call.{calls-from}
 use borrow.Rule.Array.Share.{room-take}
-use Rattle.lending.proofs.Loan.{lies-in, lies-out, Front, Behind, front-out, front-back}
+use Rattle.lending.proofs.Loan.{Front, Behind, front-out, front-back}
 use Rattle.door.proofs.Walk.{rowOf}
 use Rattle.door.proofs.Again.{LentAgain, lends-again, comes-back}
+use Rattle.placed.proofs.Lies.{lies-in, lies-out}
 
 abbrev pub lendCode : Name → ℕ → Ty → Ty → Ty → Ty → Fn
 lendCode g N π ρ τ σ = record {

@@ -1,14 +1,14 @@
--- The steps make the definition's plan. Assumes nothing.
-use mathlib.Core.Path.{_≡_, refl, ap, ap₂, sym, _∙_}
+-- The steps make the definition's plan, and a turn in place is a turn. Assumes nothing.
+use mathlib.Core.Path.{_≡_, refl, ap, ap₂, sym, subst, _∙_}
 use mathlib.Core.Bool.{Bool, true, false, _&&_}
 use mathlib.Core.List.{List, [], _∷_, _++_}
-use Prim.Native.Nat.{ℕ, suc, _+_, _*_, _/_, _-_, _≤_}
+use Prim.Native.Nat.{ℕ, suc, _+_, _*_, _/_, _-_, _≤_, _<_}
 use native.Mathlib.Omega.{arith}
 use native.Mathlib.Nat.{add-zero, zero-add}
-use lib.Dec.{leb, ltb}
+use lib.Dec.{T, leb, ltb, eqb→eq}
 use lib.ListN.{length, take, drop, length-append, length-take, length-drop, take-append-drop}
-use borrow.Author.Tests.{leb-true}
-use Rattle.definition.specs.BaseLaws.{T-true, true-T, and-r}
+use borrow.Author.Tests.{leb-true, ltb-true}
+use Rattle.definition.specs.BaseLaws.{T-true, true-T, and-l, and-r}
 use Rattle.definition.specs.Tables.{planLimit, recordSize, Kind, kinds}
 use Rattle.definition.specs.RowLaws.{every-kind}
 use Rattle.definition.specs.Base.{Refusal, malformed, short, Said, silence, tell, Answer, accepted, refused, require}
@@ -19,13 +19,14 @@ use Rattle.definition.specs.Request.{Request, resolve}
 use Rattle.definition.specs.ResolveLaws.{Resolved, resolved, rows-kept}
 use Rattle.definition.specs.Calls.{State, state, poolsOf, ownersOf, sound, saying, granting}
 use Rattle.definition.specs.StateLaws.{Sound, SoundFor, sound-for, for-sound, sound-saying, sound-ground, sound-fits, granting-sound}
-use Rattle.definition.specs.Plan.{Grant, grant, Run, done, stopped, after, run, recordOf, records, written, Lent, lent, allRows, roomy, planRun, ended, grantsOf, plan}
+use Rattle.definition.specs.Plan.{Grant, grant, Run, done, stopped, after as andThen, run, recordOf, records, written, Lent, lent, allRows, roomy, planRun, ended, grantsOf, plan}
 use Rattle.definition.specs.PlanLaws.{tell-number, told-at, granting-append}
 use Rattle.definition.specs.RunLaws.{run-accepted, run-refused, record-length}
 use Rattle.turns.specs.Turns.{putFrom}
 use Rattle.turns.proofs.TurnLaws.{put-append, put-nil}
 use Rattle.allocation.proofs.ServeLaws.{into-refused, into-granted}
-use Rattle.steps.specs.Steps.{opened, numbered, answered, turned, turns, settled, steps}
+use Rattle.resolve.specs.Outcomes.{basesIn, after}
+use Rattle.steps.specs.Steps.{clear, Steady, opened, indexed, numbered, answered, turned, turns, recorded, indexFor, settled, steps}
 use Rattle.steps.proofs.StepLaws.{not-clear, opened-unsound, opened-short, opened-clear, numbered-clear, numbered-refused, settled-clear, settled-refused, turned-skips, turned-answers}
 
 -- ---- the results
@@ -46,7 +47,7 @@ abbrev finished : ℕ → State → List ℕ → Run → Lent
 finished i t out (done gs) = lent (granting (allRows gs) t) (putFrom (recordSize * i) (records gs) out)
 finished i t out (stopped gs x) = lent (saying (tell (i + length gs) x) (granting (allRows gs) t)) (putFrom (recordSize * i) (records gs) out)
 
-finished-after : (i : ℕ) (t : State) (out : List ℕ) (g : Grant) (R : Run) → recordSize * i ≤ length out → finished i t out (after g R) ≡ finished (i + 1) (granting (g .rows) t) (putFrom (recordSize * i) (recordOf g) out) R
+finished-after : (i : ℕ) (t : State) (out : List ℕ) (g : Grant) (R : Run) → recordSize * i ≤ length out → finished i t out (andThen g R) ≡ finished (i + 1) (granting (g .rows) t) (putFrom (recordSize * i) (recordOf g) out) R
 unfolding records
 finished-after i t out g (done gs) l = ap₂ lent (granting-append (g .rows) (allRows gs) t) (put-append out (recordOf g) (records gs) (recordSize * i) (recordSize * (i + 1)) (omega (arith, record-length g)) l)
 finished-after i t out g (stopped gs x) l =
@@ -81,6 +82,64 @@ module _ (i : ℕ) (r : Request) (t : State) (out : List ℕ) (snd : sound kinds
       ∙ ap (λ (p : Lent). lent (numbered i (p .state)) (take a out ++ p .results)) (sym (into-refused kinds r t (drop a out) snd part-room x e))
       ∙ ap₂ lent (sym (numbered-refused i (saying (tell 0 x) t) (tell-number 0 x)) ∙ ap (λ (w : Said). saying w t) (told-at i x)) (take-append-drop a out)
 
+-- rows granted to a request keep the tables sound
+granted-sound : (r : Request) (t : State) (cs : List Claim) → SoundFor kinds t → resolve (poolsOf t) (ownersOf t) r ≡ accepted cs → (k : Kind) → Sound (granting cs t) k × (ownersOf (granting cs t) k ≡ (ownersOf t ⊕ cs) k)
+granted-sound r t cs h q k =
+    let a : Resolved (poolsOf t) (ownersOf t) r cs = resolved (poolsOf t) (ownersOf t) r cs (λ j n. sound-ground t j (h j (every-kind j))) q in
+    granting-sound t cs k (h k (every-kind k)) (fits-one (ownersOf t) k cs (sound-fits t k (h k (every-kind k))) (a .apart) (a .has-room)) (rows-kept (poolsOf t) (ownersOf t) r cs k a ((sound-ground t k (h k (every-kind k))) .1))
+
+-- ---- a request in place: the tables are granted to, the index is stored, the record is written
+
+module _ (i : ℕ) (r : Request) (t : State) (out : List ℕ) where
+  abbrev answer : Answer (List Claim)
+  answer = resolve (poolsOf t) (ownersOf t) r
+
+  -- the turn's test, taken apart
+  quiet-of : clear t ≡ true → t .said .number ≡ 0
+  quiet-of e = eqb→eq (t .said .number) 0 (true-T (clear t) e)
+
+  pub room-of : ltb i (length out / recordSize) ≡ true → recordSize * i + recordSize ≤ length out
+  room-of e = let l : i < length out / recordSize = ltb-true i (length out / recordSize) e in omega (arith, l)
+
+  pub turned-in-place : clear t ≡ true → ltb i (length out / recordSize) ≡ true → T (sound kinds t)
+      → lent (saying (indexed (indexFor (basesIn answer) i) (after t answer .said)) (after t answer)) (recorded i r answer out) ≡ turned i r t out
+  turned-in-place c e h = go answer refl
+    where
+      snd : sound kinds t ≡ true
+      snd = T-true (sound kinds t) h
+
+      go : (x : Answer (List Claim)) → answer ≡ x → lent (saying (indexed (indexFor (basesIn x) i) (after t x .said)) (after t x)) (recorded i r x out) ≡ turned i r t out
+      go (accepted cs) q = sym (turned-accepted i r t out snd (quiet-of c) (room-of e) cs q)
+      go (refused x) q = ap (λ (w : Said). lent (saying w t) out) (told-at i x) ∙ sym (turned-refused i r t out snd (quiet-of c) (room-of e) x q)
+
+  -- while no request was refused the tables stay sound
+  pub turned-steady : Steady t → Steady (turned i r t out .state)
+  turned-steady h = go (clear t && ltb i (length out / recordSize)) refl
+    where
+      at : (p : Lent) → turned i r t out ≡ p → Steady (p .state) → Steady (turned i r t out .state)
+      at p q = subst (λ (u : Lent). Steady (u .state)) (sym q)
+
+      went : clear t ≡ true → ltb i (length out / recordSize) ≡ true → (x : Answer (List Claim)) → answer ≡ x → Steady (turned i r t out .state)
+      went c e (accepted cs) q =
+          at _ (turned-accepted i r t out (T-true (sound kinds t) (h c)) (quiet-of c) (room-of e) cs q) (λ _. for-sound kinds (granting cs t) (λ k m. granted-sound r t cs (sound-for kinds t (h c)) q k .0))
+      went c e (refused x) q =
+          at _ (turned-refused i r t out (T-true (sound kinds t) (h c)) (quiet-of c) (room-of e) x q) (λ _. for-sound kinds (saying (tell i x) t) (λ k m. sound-saying (tell i x) t k (sound-for kinds t (h c) k m)))
+
+      go : (b : Bool) → clear t && ltb i (length out / recordSize) ≡ b → Steady (turned i r t out .state)
+      go false e = at (lent t out) (sym (turned-skips i r t out e)) h
+      go true e =
+          went (T-true _ (and-l (clear t) (ltb i (length out / recordSize)) (true-T _ e))) (T-true _ (and-r (clear t) (ltb i (length out / recordSize)) (true-T _ e))) answer refl
+
+pub opened-steady : (n room : ℕ) (s : State) → Steady (opened n room s)
+opened-steady n room s = go (sound kinds s) refl (leb n planLimit && leb (recordSize * n) room) refl
+  where
+    go : (b : Bool) → sound kinds s ≡ b → (f : Bool) → leb n planLimit && leb (recordSize * n) room ≡ f → Steady (opened n room s)
+    go false e f u = subst Steady (opened-unsound n room s e) (λ c. absurd (true-T false c))
+    go true e false u = subst Steady (opened-short n room s e u) (λ c. absurd (true-T false c))
+    go true e true u = subst Steady (opened-clear n room s e u) (λ _. for-sound kinds (saying silence s) (λ k m. sound-saying silence s k (sound-for kinds s (true-T (sound kinds s) e) k m)))
+
+-- ---- the turns of a list
+
 turns-run : (rs : List Request) (i : ℕ) (t : State) (out : List ℕ) → SoundFor kinds t → t .said ≡ silence → recordSize * (i + length rs) ≤ length out → turns i rs t out ≡ finished i t out (run (poolsOf t) (ownersOf t) rs)
 unfolding turns run records
 turns-run [] i t out h e l = ap₂ lent (sym (granting-nil silence t ∙ (λ j. state (t .pools) (t .held) (t .owners) (sym e j)))) (sym (put-nil out (recordSize * i)))
@@ -102,9 +161,7 @@ turns-run (r ∷ rs) i t out h e l = go (turns-run rs (i + 1)) (resolve (poolsOf
         ∙ ap₂ lent (ap (λ (m : ℕ). saying (tell m x) t) (sym (add-zero i)) ∙ sym (granting-nil (tell (i + 0) x) t)) (sym (put-nil out (recordSize * i)))
         ∙ ap (finished i t out) (sym (run-refused (poolsOf t) (ownersOf t) r rs x q))
     go below (accepted cs) q =
-        let a : Resolved (poolsOf t) (ownersOf t) r cs = resolved (poolsOf t) (ownersOf t) r cs (λ j n. sound-ground t j (h j (every-kind j))) q in
-        let kept : (k : Kind) → Sound (granting cs t) k × (ownersOf (granting cs t) k ≡ (ownersOf t ⊕ cs) k)
-        = λ k. granting-sound t cs k (h k (every-kind k)) (fits-one (ownersOf t) k cs (sound-fits t k (h k (every-kind k))) (a .apart) (a .has-room)) (rows-kept (poolsOf t) (ownersOf t) r cs k a ((sound-ground t k (h k (every-kind k))) .1)) in
+        let kept : (k : Kind) → Sound (granting cs t) k × (ownersOf (granting cs t) k ≡ (ownersOf t ⊕ cs) k) = granted-sound r t cs h q in
         let owned : ownersOf (granting cs t) ≡ ownersOf t ⊕ cs = λ j k. kept k .1 j in
         let out′ : List ℕ = putFrom (recordSize * i) (recordOf (grant r cs)) out in
         let long : length out′ ≡ length out = put-length out (recordOf (grant r cs)) (recordSize * i) (omega (arith, fit, record-length (grant r cs))) in

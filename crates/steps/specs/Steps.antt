@@ -1,18 +1,29 @@
 -- A plan as steps over requests that come one by one. That they make the definition's plan is the law `steps-plan`. Assumes nothing.
+use mathlib.Core.Path.{_≡_}
 use mathlib.Core.Bool.{Bool, true, false, _&&_}
 use mathlib.Core.List.{List, [], _∷_, _++_}
 use Prim.Native.Nat.{ℕ, _+_, _*_, _/_}
-use lib.Dec.{leb, ltb, eqb}
+use lib.Dec.{T, leb, ltb, eqb}
 use lib.ListN.{length, take, drop}
 use Rattle.definition.specs.Tables.{planLimit, recordSize, kinds}
-use Rattle.definition.specs.Base.{malformed, short, Said, says, silence, accepted, require}
+use Rattle.definition.specs.Base.{malformed, short, Said, says, silence, Answer, accepted, refused, require}
 use Rattle.definition.specs.Request.{Request}
 use Rattle.definition.specs.Calls.{State, sound, saying, settle}
-use Rattle.definition.specs.Plan.{Lent, lent, allocateInto}
+use Rattle.definition.specs.Pools.{Claim}
+use Rattle.definition.specs.Plan.{Lent, lent, allocateInto, grant, recordOf}
+use Rattle.turns.specs.Turns.{putFrom}
+use Rattle.request.specs.Asked.{requestOf}
+use Rattle.request.specs.declared.Request as R
+use Rattle.resolve.specs.Outcomes.{basesIn}
+use Rattle.resolve.specs.declared.Bases.{Bases}
 
 -- no request was refused so far
 abbrev pub clear : State → Bool
 clear s = eqb (s .said .number) 0
+
+-- while no request was refused the tables are sound
+abbrev pub Steady : State → Type 0
+Steady s = clear s ≡ true → T (sound kinds s)
 
 -- before the first request: 1, 11, or five zeros beside the tables
 unfoldable pub opened : ℕ → ℕ → State → State
@@ -37,6 +48,20 @@ turned i r s out = elim (clear s && ltb i (length out / recordSize)) [ true ↦ 
 unfoldable pub turns : ℕ → List Request → State → List ℕ → Lent
 turns i [] s out = lent s out
 turns i (r ∷ rs) s out = turns (i + 1) rs (turned i r s out .state) (turned i r s out .results)
+
+-- what an answer writes
+abbrev pub recorded : ℕ → Request → Answer (List Claim) → List ℕ → List ℕ
+recorded i r (accepted cs) out = putFrom (recordSize * i) (recordOf (grant r cs)) out
+recorded i r (refused y) out = out
+
+-- ---- the parts of a turn, as the code has them
+
+abbrev pub indexFor : Bases → ℕ → ℕ
+indexFor b i = elim (b .accepted) [ true ↦ 0 | false ↦ i ]
+
+-- the record of an accepted request in its place, and no other number changed
+abbrev pub Recorded : ℕ → R.Request → Bases → List ℕ → List ℕ → Type 0
+Recorded i r b out out′ = (a : Answer (List Claim)) → b ≡ basesIn a → out′ ≡ recorded i (requestOf r) a out
 
 -- after the last: a refusal puts the tables back as they were at the start
 abbrev pub settled : State → State → State

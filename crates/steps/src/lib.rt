@@ -1,17 +1,19 @@
 // The steps of a plan over requests that come one by one: what is judged before the first, one request in its turn, and what is handed back after the last.
 use request::Request;
+use resolve::Bases;
 use tables::State;
 ghost use mathlib.Core.Path.{_≡_};
 ghost use mathlib.Core.Bool.{_&&_};
-ghost use Prim.Native.Nat.{_*_};
-ghost use lib.Dec.{leb};
+ghost use Prim.Native.Nat.{_+_, _*_, _/_, _≤_};
+ghost use lib.Dec.{leb, ltb, eqb};
+ghost use lib.ListN.{length};
 ghost use Rattle.definition.specs.Tables.{planLimit, recordSize};
 ghost use Rattle.definition.specs.Base.{says};
 ghost use Rattle.definition.specs.Calls.{saying};
 ghost use Rattle.definition.specs.Plan.{lent};
 ghost use Rattle.tables.specs.Views.{stateView};
 ghost use Rattle.request.specs.Asked.{requestOf};
-ghost use Rattle.steps.specs.Steps.{opened, numbered, turned, settled};
+ghost use Rattle.steps.specs.Steps.{opened, numbered, turned, settled, indexFor, Recorded};
 
 const PLAN: usize = 128;
 
@@ -76,6 +78,40 @@ pub fn turn(s: State, r: Request, i: usize, results: &mut [u64]) -> State
         return s;
     }
     s
+}
+
+// ---- the same turn on a state that is lent: its parts
+
+// Whether a request has its turn: none was refused so far, and its record has room.
+pub fn goes(number: u64, i: usize, room: usize) -> bool
+    ensures { λ r. ⌜ r ≡ eqb number 0 && ltb i (room / recordSize) ⌝ }
+{
+    if number == 0 {
+        return i < room / RECORD;
+    }
+    false
+}
+
+// The index beside the numbers of an answer: a refusal names its request.
+pub fn index(b: Bases, i: usize) -> u64
+    ensures { λ r. ⌜ r ≡ indexFor b i ⌝ }
+{
+    if b.accepted {
+        return 0;
+    }
+    i as u64
+}
+
+// The record of an accepted request in its place; nothing is written of a refused one.
+pub fn write(results: &mut [u64], i: usize, r: Request, b: Bases)
+    requires { ⌜ recordSize * i + recordSize ≤ length (now results) ⌝ }
+    ensures { λ _. ⌜ Recorded i r b (now (results .entry)) (now (results .exit)) ⌝ }
+{
+    if b.accepted {
+        let place = RECORD * i;
+        let line = allocation::record_of(r, b);
+        allocation::write_record(&mut results[place..], line);
+    }
 }
 
 // After the last: a refusal hands back the tables as they were at the plan's start, with its own numbers.

@@ -1,0 +1,5 @@
+pub mod QueryLaws
+pub mod AskLaws
+pub mod KeptLaws
+pub mod MsiLaws
+pub mod FindingLaws

@@ -1,0 +1,13 @@
+-- The wire, and no need. Assumes nothing.
+use borrow.Author.Needs.{needs}
+use Rattle.finding.proofs.of_wire.Statement.{statement}
+use Rattle.finding.proofs.of_wire.Tie as tie
+
+no-need-requires : tie.Need-no-need-requires
+no-need-requires c κs = search needs
+
+returns : tie.Need-returns
+returns c = rw (c .no-need .ensures)
+
+pub of-wire-spec : {M : Type 1} → statement M
+of-wire-spec = tie.close (tie.spec no-need-requires returns)

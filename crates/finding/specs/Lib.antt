@@ -1,0 +1,4 @@
+pub mod Query
+pub mod Finding
+pub mod Kept
+pub mod Tables

@@ -1,0 +1,9 @@
+pub mod Asking
+pub mod Nested
+pub mod StateParts
+pub mod FindWalk
+pub mod Callees
+pub mod LendPart
+pub mod KeepWalk
+pub mod ResolveWalk
+pub mod AllocateWalk

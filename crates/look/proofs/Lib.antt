@@ -1,0 +1,4 @@
+pub mod SizedLaws
+pub mod PartOf
+pub mod Columns
+pub mod Steps
