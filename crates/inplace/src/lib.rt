@@ -1,5 +1,4 @@
-// One request on a lent state that is known to be sound, in place: no table is copied.
-
+// One request on a lent state, in place: no table is copied. All but `allocate` take the tables to be sound.
 use finding::Finding;
 use request::Request;
 use resolve::Bases;
