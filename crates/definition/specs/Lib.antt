@@ -4,6 +4,7 @@ pub mod Pools
 pub mod Request
 pub mod Calls
 pub mod Plan
+pub mod Cut
 pub mod BaseLaws
 pub mod SearchLaws
 pub mod RowLaws
@@ -17,6 +18,8 @@ pub mod StateLaws
 pub mod RunLaws
 pub mod ReplayLaws
 pub mod PlanLaws
+pub mod WipeLaws
+pub mod CutLaws
 pub mod CountLaws
 pub mod ReadLaws
 pub mod Cases
