@@ -15,6 +15,8 @@ pub mod TableLaws
 pub mod PoolLaws
 pub mod AutoLaws
 pub mod StateLaws
+pub mod ServeLaws
+pub mod RefusedLaws
 pub mod RunLaws
 pub mod ReplayLaws
 pub mod PlanLaws
