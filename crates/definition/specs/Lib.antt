@@ -14,6 +14,8 @@ pub mod ResolveLaws
 pub mod TableLaws
 pub mod PoolLaws
 pub mod AutoLaws
+pub mod MsiTurnLaws
+pub mod MsiLaws
 pub mod StateLaws
 pub mod ServeLaws
 pub mod RefusedLaws
