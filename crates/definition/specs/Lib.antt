@@ -25,6 +25,8 @@ pub mod PlanLaws
 pub mod WipeLaws
 pub mod CutLaws
 pub mod CountLaws
+pub mod IntoLaws
 pub mod ReadLaws
+pub mod ReadRowsLaws
 pub mod Cases
 pub mod Example
