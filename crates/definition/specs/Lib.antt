@@ -16,9 +16,11 @@ pub mod PoolLaws
 pub mod AutoLaws
 pub mod MsiTurnLaws
 pub mod MsiLaws
+pub mod MsiRefusalLaws
 pub mod StateLaws
 pub mod ServeLaws
 pub mod RefusedLaws
+pub mod HaltLaws
 pub mod RunLaws
 pub mod ReplayLaws
 pub mod PlanLaws
@@ -26,6 +28,7 @@ pub mod WipeLaws
 pub mod CutLaws
 pub mod CountLaws
 pub mod IntoLaws
+pub mod IntoPlanLaws
 pub mod ReadLaws
 pub mod ReadRowsLaws
 pub mod Cases

@@ -1,7 +1,4 @@
--- Demand 2's sentence for MSI: the least device of all, then the least events of all for that device, then the least LPIs of all; or Exhausted in the turn that
--- finds none, and no other device is tried. Assumes nothing.
-use mathlib.Core.Path.{_≡_, refl, subst}
-use mathlib.Core.Logic.{_⊎_, inl, inr}
+-- Demand 2's sentence for MSI: the least device of all, then its least events, then the least LPIs; or Exhausted in the first turn that finds none. Assumes nothing.
 use mathlib.Core.Option.{Option}
 use mathlib.Core.List.{List}
 use Prim.Native.Nat.{ℕ, _≤_, _<_}
@@ -43,8 +40,8 @@ module _ (P : Pools) (S : Holders) where
   unfolding room allOf
   three-free rd re rl fd fe fl = search (and-i, lt→ltb)
 
-  -- who asks, and the slot; controller, ITS, count
-  module _ (q slot k i n : ℕ) where
+  -- who asks; controller, ITS, count
+  module _ (q k i n : ℕ) where
     abbrev pub LeastDevice : ℕ → Type 0
     LeastDevice d = Least (deviceNeed k i q) d
 
@@ -63,10 +60,10 @@ module _ (P : Pools) (S : Holders) where
       no-event : (d : ℕ) → LeastDevice d → None (eventNeed k i d n q) → MsiSays (refused (exhausted 5))
       no-lpi : (d e : ℕ) → LeastDevice d → LeastEvent d e → None (lpiNeed k n q) → MsiSays (refused (exhausted 6))
 
-    pub msi-says : T (goodRequest (asks P S q slot (msi k i n auto auto auto))) → length (S device) < rowLimit → length (S event) < rowLimit → length (S lpi) < rowLimit
+    pub msi-says : (slot : ℕ) → T (goodRequest (asks P S q slot (msi k i n auto auto auto))) → length (S device) < rowLimit → length (S event) < rowLimit → length (S lpi) < rowLimit
         → MsiSays (resolve P S (asks P S q slot (msi k i n auto auto auto)))
     unfolding resolve claims rowAt
-    msi-says good fd fe fl =
+    msi-says slot good fd fe fl =
         rw (required (goodRequest (asks P S q slot (msi k i n auto auto auto))) badInput (claims P S q (msi k i n auto auto auto) then λ cs. require (room S cs) full (accepted cs)) good)
         (first (turn-says (deviceNeed k i q) (omega arith)))
       where
@@ -89,42 +86,3 @@ module _ (P : Pools) (S : Holders) where
             → MsiSays (fitted (a then λ rd. place P S (eventNeed k i (rd .start) n q) auto then λ re. place P S (lpiNeed k n q) auto then λ rl. accepted (threeRows rd re rl)))
         first (no-run u) = no-device u
         first (least-run d hd) = second d hd (turn-says (eventNeed k i d n q) (omega arith))
-
-    -- ---- the two refusals, exactly when
-
-    least-one : (m : Need) (b c : ℕ) → Least m b → Least m c → b ≡ c
-    least-one m b c (ub, lb) (uc, lc) = omega (arith, lb c uc, lc b ub)
-
-    -- namespace 5: no device at all, or none of the least device's events
-    abbrev pub NoneInFive : Type 0
-    NoneInFive = None (deviceNeed k i q) ⊎ ((d : ℕ) × LeastDevice d × None (eventNeed k i d n q))
-
-    -- namespace 6: both stand, and no LPIs
-    abbrev pub NoneInSix : Type 0
-    NoneInSix = (d : ℕ) × (e : ℕ) × LeastDevice d × LeastEvent d e × None (lpiNeed k n q)
-
-    pub five-says : {a : Answer (List Claim)} → MsiSays a → a ≡ refused (exhausted 5) → NoneInFive
-    five-says (all-least d e l hd he hl) z = let y : _≡_ {A = ℕ} 0 1 = cc in absurd (omega arith)
-    five-says (no-device u) z = inl u
-    five-says (no-event d hd u) z = inr (d, hd, u)
-    five-says (no-lpi d e hd he u) z = let y : _≡_ {A = ℕ} 6 5 = cc in absurd (omega arith)
-
-    pub says-five : {a : Answer (List Claim)} → MsiSays a → NoneInFive → a ≡ refused (exhausted 5)
-    says-five (no-device u) z = refl
-    says-five (no-event d hd u) z = refl
-    says-five (all-least d e l hd he hl) (inl u) = absurd (u d (hd .0))
-    says-five (all-least d e l hd he hl) (inr (c, hc, u)) = absurd (u e (subst (λ x. Usable P S (eventNeed k i x n q) e) (least-one (deviceNeed k i q) d c hd hc) (he .0)))
-    says-five (no-lpi d e hd he v) (inl u) = absurd (u d (hd .0))
-    says-five (no-lpi d e hd he v) (inr (c, hc, u)) = absurd (u e (subst (λ x. Usable P S (eventNeed k i x n q) e) (least-one (deviceNeed k i q) d c hd hc) (he .0)))
-
-    pub six-says : {a : Answer (List Claim)} → MsiSays a → a ≡ refused (exhausted 6) → NoneInSix
-    six-says (all-least d e l hd he hl) z = let y : _≡_ {A = ℕ} 0 1 = cc in absurd (omega arith)
-    six-says (no-device u) z = let y : _≡_ {A = ℕ} 5 6 = cc in absurd (omega arith)
-    six-says (no-event d hd u) z = let y : _≡_ {A = ℕ} 5 6 = cc in absurd (omega arith)
-    six-says (no-lpi d e hd he u) z = (d, e, hd, he, u)
-
-    pub says-six : {a : Answer (List Claim)} → MsiSays a → NoneInSix → a ≡ refused (exhausted 6)
-    says-six (all-least d e l hd he hl) (c, f, hc, hf, u) = absurd (u l (hl .0))
-    says-six (no-device v) (c, f, hc, hf, u) = absurd (v c (hc .0))
-    says-six (no-event d hd v) (c, f, hc, hf, u) = absurd (v f (subst (λ x. Usable P S (eventNeed k i x n q) f) (least-one (deviceNeed k i q) c d hc hd) (hf .0)))
-    says-six (no-lpi d e hd he v) z = refl

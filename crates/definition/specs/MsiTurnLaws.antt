@@ -25,7 +25,7 @@ lpiNeed k n q = need lpi (dom k 0 0) n 1 q
 abbrev pub threeRows : Row → Row → Row → List Claim
 threeRows rd re rl = at-kind device rd ∷ at-kind event re ∷ at-kind lpi rl ∷ []
 
-module _ (P : Pools) (S : Holders) (q slot k i n : ℕ) (d e l : Choice) where
+module _ (P : Pools) (S : Holders) (q k i n : ℕ) (d e l : Choice) where
   abbrev pub DeviceIs : Answer Row → Type 0
   DeviceIs a = place P S (deviceNeed k i q) d ≡ a
 
@@ -42,9 +42,9 @@ module _ (P : Pools) (S : Holders) (q slot k i n : ℕ) (d e l : Choice) where
     no-row-free : (rd re rl : Row) → DeviceIs (accepted rd) → EventIs rd (accepted re) → LpiIs (accepted rl) → (T (room S (threeRows rd re rl)) → ⊥) → MsiTurns (refused full)
     all-stand : (rd re rl : Row) → DeviceIs (accepted rd) → EventIs rd (accepted re) → LpiIs (accepted rl) → T (room S (threeRows rd re rl)) → MsiTurns (accepted (threeRows rd re rl))
 
-  pub msi-turns : T (goodRequest (asks P S q slot (msi k i n d e l))) → MsiTurns (resolve P S (asks P S q slot (msi k i n d e l)))
+  pub msi-turns : (slot : ℕ) → T (goodRequest (asks P S q slot (msi k i n d e l))) → MsiTurns (resolve P S (asks P S q slot (msi k i n d e l)))
   unfolding resolve claims require
-  msi-turns good =
+  msi-turns slot good =
       rw (required (goodRequest (asks P S q slot (msi k i n d e l))) badInput (claims P S q (msi k i n d e l) then λ cs. require (room S cs) full (accepted cs)) good)
       (first (place P S (deviceNeed k i q) d) refl)
     where

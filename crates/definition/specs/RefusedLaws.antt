@@ -1,16 +1,14 @@
--- A refused call leaves all tables, an MSI domain's apart; and of a refused MSI domain exactly the ranges before the refused one are added. Assumes nothing.
+-- A refused call leaves all tables as handed in, the adding of an MSI domain apart. Assumes nothing.
 use mathlib.Core.Path.{_≡_, refl, ap}
-use mathlib.Core.Logic.{_⊎_, inl, inr}
 use mathlib.Core.Bool.{Bool, true, false}
-use mathlib.Core.List.{List, [], _∷_, _++_}
+use mathlib.Core.List.{List, [], _∷_}
 use lib.Dec.{T}
 use Rattle.definition.specs.Base.{Refusal, malformed, Said, silence, tell, Answer, accepted, refused, require, _then_}
 use Rattle.definition.specs.Tables.{Kind, Span, used}
 use Rattle.definition.specs.Pools.{In, Pool, mmioPool, pioPool, hostPool, inputPool, msiPool, spans, addRange, Claim, heldRows, reserve}
 use Rattle.definition.specs.Request.{Use, resolve}
-use Rattle.definition.specs.Calls.{State, poolsOf, heldOf, ownersOf, given, sound, saying, holding, granting, starting, pooling, Call, pool, hold, start, want, settle, addAll, serve}
-use Rattle.definition.specs.RequestLaws.{required}
-use Rattle.definition.specs.StateLaws.{add-accepted, add-refused, settle-malformed}
+use Rattle.definition.specs.Calls.{State, poolsOf, heldOf, ownersOf, given, sound, saying, holding, granting, starting, Call, pool, hold, start, want, settle, addAll, serve}
+use Rattle.definition.specs.StateLaws.{add-accepted, add-refused}
 
 -- accepted, or the five numbers of a refusal and every table as handed in
 pub data Leaves (s : State) : State → Type 0 where
@@ -25,44 +23,6 @@ leaves-required : (s : State) (b : Bool) (a : Answer State) → Leaves s (settle
 unfolding require
 leaves-required s true a h = h
 leaves-required s false a h = left malformed
-
--- ---- pool ranges in turn
-
--- the ranges before the refused one, it, and those behind it; its refusal; all before it are added, and nothing else
-pub record Halted (u : Use) (cs : List (In Span)) (s s′ : State) : Type 0 where
-  pub before : List (In Span)
-  pub at : In Span
-  pub behind : List (In Span)
-  pub why : Refusal
-  pub split : cs ≡ before ++ at ∷ behind
-  pub added : addAll u before s .said ≡ silence
-  pub refusal : addRange (at .kind) (at .row) (used (addAll u before s .pools u (at .kind))) ≡ refused why
-  pub leaves : s′ ≡ saying (tell 0 why) (addAll u before s)
-
-pub add-halts : (u : Use) (cs : List (In Span)) (s : State) → (addAll u cs s .said ≡ silence) ⊎ Halted u cs s (addAll u cs s)
-unfolding addAll
-add-halts u [] s = inl refl
-add-halts u (c ∷ cs) s = go (add-halts u cs) (addRange (c .kind) (c .row) (used (s .pools u (c .kind)))) refl
-  where
-    up : (ps : List Span) → addRange (c .kind) (c .row) (used (s .pools u (c .kind))) ≡ accepted ps
-        → (addAll u cs (pooling u (c .kind) ps s) .said ≡ silence) ⊎ Halted u cs (pooling u (c .kind) ps s) (addAll u cs (pooling u (c .kind) ps s))
-        → (addAll u (c ∷ cs) s .said ≡ silence) ⊎ Halted u (c ∷ cs) s (addAll u (c ∷ cs) s)
-    up ps e (inl z) = inl (rw (add-accepted u c cs s ps e) z)
-    up ps e (inr h) = inr record {
-      before = c ∷ h .before;
-      at = h .at;
-      behind = h .behind;
-      why = h .why;
-      split = ap {B = List (In Span)} (λ xs. c ∷ xs) (h .split);
-      added = rw (add-accepted u c (h .before) s ps e) (h .added);
-      refusal = rw (add-accepted u c (h .before) s ps e) (h .refusal);
-      leaves = rw (add-accepted u c cs s ps e, add-accepted u c (h .before) s ps e) (h .leaves);
-    }
-
-    go : ((t : State) → (addAll u cs t .said ≡ silence) ⊎ Halted u cs t (addAll u cs t)) → (a : Answer (List Span)) → addRange (c .kind) (c .row) (used (s .pools u (c .kind))) ≡ a
-        → (addAll u (c ∷ cs) s .said ≡ silence) ⊎ Halted u (c ∷ cs) s (addAll u (c ∷ cs) s)
-    go below (accepted ps) e = up ps e (below (pooling u (c .kind) ps s))
-    go below (refused x) e = inr record { before = []; at = c; behind = cs; why = x; split = refl; added = refl; refusal = e; leaves = add-refused u c cs s x e }
 
 one-range : (u : Use) (c : In Span) (s : State) → Leaves s (addAll u (c ∷ []) s)
 unfolding addAll
@@ -109,12 +69,3 @@ call-same ks c s t = go (call-leaves ks c s t)
     go : {s′ : State} → Leaves s s′ → (s′ .said .number ≡ 0 → ⊥) → (x : Refusal) × (s′ ≡ saying (tell 0 x) s)
     go (went z) u = absurd (u (ap (λ (w : Said). w .number) z))
     go (left x) u = (x, refl)
-
--- AN MSI DOMAIN, as every pool call, adds its ranges up to the refused one, and no other row; unsound tables are left
-pub pool-halts : (ks : List Kind) (u : Use) (p : Pool) (s : State) → T (given ks s) → (serve ks (pool u p) s .said ≡ silence) ⊎ Halted u (spans p) s (serve ks (pool u p) s)
-unfolding serve
-pool-halts ks u p s t = rw (required (given ks s) malformed (accepted (addAll u (spans p) s)) t) (add-halts u (spans p) s)
-
-pub pool-malformed : (ks : List Kind) (u : Use) (p : Pool) (s : State) → (T (given ks s) → ⊥) → serve ks (pool u p) s ≡ saying (tell 0 malformed) s
-unfolding serve
-pool-malformed ks u p s n = settle-malformed (given ks s) s (accepted (addAll u (spans p) s)) n
