@@ -1,4 +1,4 @@
--- Cutting tables back: the used rows from a count on become blank, and that count is the table's. A refused plan can be put back so, with no copy of the tables kept. Assumes nothing.
+-- Cutting tables back: the used rows from a count on become blank, and that count is the table's. A refused plan can be put back so, with no copy of the tables kept; no call is defined by it. Assumes nothing.
 use mathlib.Core.List.{List, [], _∷_}
 use Prim.Native.Nat.{ℕ, zero, suc}
 use Rattle.definition.specs.Tables.{Kind, Table, blankRow}
