@@ -1,0 +1,5 @@
+pub mod Columns
+pub mod Frame
+pub mod Passing
+pub mod StateParts
+pub mod Straight
