@@ -3,6 +3,7 @@
 --     covered          a function of no lifetime
 --     Lends r          whoever holds r and a token of κ can have a `&κ` to a value of F at (b, o), and holds both as before
 --     part-lent        of a part of what a `&κ` points at.        in-left, in-right     of one of two things held.        among    of what the k-th parameter owns
+--     Shows r          whoever holds r and a token of κ knows a fact, and holds both as before.        struct-shown, shown-among      of a `&κ` to a struct; of what the k-th parameter owns
 --     Arg              an argument: lent so, or a plain value.        passing      a function of one lifetime that is handed such arguments
 use mathlib.Core.Path.{_≡_, refl, ap, subst}
 use Prim.Native.Nat.{ℕ, zero, suc}
@@ -18,7 +19,7 @@ use prog.Wp.{Heap, Calls}
 use ghost.Atoms.{Atoms, sem}
 use sound.WpLaws.{FmC}
 use contract.Monad.{fact}
-use types.Kit.{Given, Item, mean, ‵, raw, _⊛_, some, later, _$_, _∵_, !, qed, by, move, drop, use0, use1, use2, split, join, pick, await, updating, now, show, fsplit, fjoin, feqI, done}
+use types.Kit.{Given, Item, mean, ‵, raw, _⊛_, some, later, _$_, _∵_, !, qed, by, move, keep, drop, use0, use1, use2, split, join, pick, await, updating, now, show, fsplit, fjoin, feqI, done}
 use denote.RattleType.{RattleType, Denots, Valss, flat, owns}
 use denote.Laws.{Is, Ises, Are, Tells, Makess, shows, owns-make}
 use denote.Plain.{bool-tells, bool-lawful}
@@ -28,7 +29,8 @@ use denote.Ref.{RefT, ShrRef, shr-copy}
 use denote.Signature.{Slot, plain, shrRefTo, typesAt}
 use denote.Struct.Declared.{Declared, row}
 use denote.Struct.Laws as LL
-use denote.Steps.{heard, facts, nothing, only}
+use denote.Steps.{heard, facts, nothing, only, looks, shuts, peeks}
+use denote.Struct.Steps.{spelt}
 use denote.Triple.Entry.{Args, Vals}
 use denote.Triple.End.{Kepts}
 use denote.Triple.Spec.{tripleOf}
@@ -128,6 +130,33 @@ module _ {M : Type 1} (𝓤 : URA M) (H : Heap 𝓤) (A : Atoms 𝓤) (W : Given
         -- [s; κ's token; the part; r]
         show ! (λ (γ : GName). mean 𝓤 H A (refTo F x b o γ ⊛ held (r ⊛ s))) γ $ move ! (3 ∷ 0 ∷ []) $ join ! $ move ! (0 ∷ 1 ∷ []) $ join ! $ move ! (1 ∷ 0 ∷ []) $ done !))
 
+    -- what is held tells a fact and stays: of a `&κ` to a struct, the relation of its type
+    abbrev pub Shows : Item 𝓤 → Type 0 → Type 1
+    Shows r φ = ent 𝓤 (mean 𝓤 H A (held r)) (mean 𝓤 H A (later (held r ⊛ raw (fact 𝓤 φ))))
+
+    pub struct-shown : (T : Declared) (L : LL.Laws T) → LL.Copyables (T .parts) → (x : T .D) (b o : ℕ) (γ : GName) → Shows (refTo (row T) x b o γ) (Is (row T) x (LL.vals T L x))
+    struct-shown T L cs x b o γ =
+        qed W (held (refTo (row T) x b o γ) ∷ []) {P = mean 𝓤 H A (later (held (refTo (row T) x b o γ) ⊛ raw (fact 𝓤 (Is (row T) x (LL.vals T L x)))))} (
+        updating ! $ split ! $ use1 W (refTo (row T) x b o γ ⊛ refTo (row T) x b o γ) (shr-copy 𝓤 H A W (named 0) κ (row T) .twice (ref b o γ x) (vptr b o ∷ [])) $ split ! $ fsplit ! $ drop ! $ fsplit ! $ drop ! $ move ! (0 ∷ 2 ∷ []) $
+        -- [the struct's borrow; κ's token; the reference]
+        looks ! tt (row T) (Is (row T)) (shows 𝓤 H A (row T)) (LL.vals T L) (LL.tells T L) (LL.copy T cs 𝓤 H A W) x b o (λ q′ vs. spelt ! (row T) (Is (row T)) (shows 𝓤 H A (row T)) (LL.vals T L) (LL.tells T L) q′ x vs b o $
+        move ! (1 ∷ []) $ peeks ! (row T) (Is (row T)) (shows 𝓤 H A (row T)) x (LL.vals T L x) (λ is. move ! (1 ∷ []) $ shuts ! tt (row T) q′ x (LL.vals T L x) b o $
+        now ! $ says ! is $ keep ! (2 ∷ 0 ∷ []) $ join ! $ done !)))
+
+    pub shown-left : (r s : Item 𝓤) (φ : Type 0) → Shows r φ → Shows (r ⊛ s) φ
+    shown-left r s φ tells =
+        qed W (held (r ⊛ s) ∷ []) {P = mean 𝓤 H A (later (held (r ⊛ s) ⊛ raw (fact 𝓤 φ)))} (
+        updating ! $ split ! $ split ! $ move ! (0 ∷ 2 ∷ []) $ use2 W (later (held r ⊛ raw (fact 𝓤 φ))) tells $ await ! tt $ split ! $ move ! (1 ∷ []) $ heard ! φ (λ x. split ! $
+        -- [r; κ's token; s]
+        now ! $ says ! x $ move ! (0 ∷ 2 ∷ []) $ join ! $ join ! $ done !))
+
+    pub shown-right : (r s : Item 𝓤) (φ : Type 0) → Shows s φ → Shows (r ⊛ s) φ
+    shown-right r s φ tells =
+        qed W (held (r ⊛ s) ∷ []) {P = mean 𝓤 H A (later (held (r ⊛ s) ⊛ raw (fact 𝓤 φ)))} (
+        updating ! $ split ! $ split ! $ move ! (1 ∷ 2 ∷ []) $ use2 W (later (held s ⊛ raw (fact 𝓤 φ))) tells $ await ! tt $ split ! $ move ! (1 ∷ []) $ heard ! φ (λ x. split ! $
+        -- [s; κ's token; r]
+        now ! $ says ! x $ move ! (2 ∷ 0 ∷ []) $ join ! $ join ! $ done !))
+
     -- what one parameter owns, of all that the parameters own
     abbrev pub OwnAt : (Rs : List RattleType) → Denots Rs → Valss Rs → ℕ → Fml
     OwnAt [] a vss k = ftrue
@@ -138,6 +167,11 @@ module _ {M : Type 1} (𝓤 : URA M) (H : Heap 𝓤) (A : Atoms 𝓤) (W : Given
     among [] a vss k F x b o l = l
     among (R ∷ Rs) a vss zero F x b o l = in-left (‵ (R .own (a .0) (vss .0))) (‵ (owns Rs (a .1) (vss .1))) F x b o l
     among (R ∷ Rs) a vss (suc k) F x b o l = in-right (‵ (R .own (a .0) (vss .0))) (‵ (owns Rs (a .1) (vss .1))) F x b o (among Rs (a .1) (vss .1) k F x b o l)
+
+    pub shown-among : (Rs : List RattleType) (a : Denots Rs) (vss : Valss Rs) (k : ℕ) (φ : Type 0) → Shows (‵ (OwnAt Rs a vss k)) φ → Shows (‵ (owns Rs a vss)) φ
+    shown-among [] a vss k φ t = t
+    shown-among (R ∷ Rs) a vss zero φ t = shown-left (‵ (R .own (a .0) (vss .0))) (‵ (owns Rs (a .1) (vss .1))) φ t
+    shown-among (R ∷ Rs) a vss (suc k) φ t = shown-right (‵ (R .own (a .0) (vss .0))) (‵ (owns Rs (a .1) (vss .1))) φ (shown-among Rs (a .1) (vss .1) k φ t)
 
     -- ---- the arguments of a callee
     module _ (r : Item 𝓤) where

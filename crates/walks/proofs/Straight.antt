@@ -3,6 +3,7 @@
 --     Value, Gives     as a walk sees a type of plain values; and that whoever holds i can call f at vs, which returns a value of Y of which P holds, with i held as before
 --     Evals            what operands are in a store
 --     Runs             the code, run from a store with i held, ends in Post:
+--         learn        no step: what is held tells a fact
 --         point        `_l = addrOf (*_p).st`: the address of a part
 --         ask          `_l = f(xs)`, of a callee that `Gives`
 --         back         `return`
@@ -142,6 +143,7 @@ pub data Evals (σ : Store) (ls : List Local) : List Operand → List Val → Ty
 
 pub data Runs {M : Type 1} {𝓤 : URA M} {H : Heap 𝓤} {A : Atoms 𝓤} (W : Given 𝓤 H A) (C : Calls 𝓤 H) (i : Item 𝓤) (ls : List Local) (Post : Val → SProp 𝓤) : Store → Body → Type 1 where
   back : {σ : Store} (v : Val) → val zero σ ≡ some v → Has zero ls → ent 𝓤 (mean 𝓤 H A i) (Post v) → Runs W C i ls Post σ return
+  learn : {σ : Store} {b : Body} (φ : Type 0) → ent 𝓤 (mean 𝓤 H A i) (mean 𝓤 H A (later (i ⊛ raw (fact 𝓤 φ)))) → (φ → Runs W C i ls Post σ b) → Runs W C i ls Post σ b
   point : {σ : Store} {l p : ℕ} {π : Ty} {st : List PStep} {rest : Body} {b o a : ℕ} → val p σ ≡ some (vptr b o) → leads π o st ≡ some a → Has p ls → Has l ls → Holds (hasTy (tyAt l ls) (vptr b a)) × WT (vptr b a)
       → Runs W C i ls Post (set l (vptr b a) σ) rest → Runs W C i ls Post σ (seq (assign (place l []) (addrOf (place p (deref π ∷ st)))) rest)
   ask : {σ : Store} {g : Name} {xs : List Operand} {l : ℕ} {rest : Body} (Y : Value) (P : Y .D → Type 0) {vs : List Val} → Evals σ ls xs vs → Gives 𝓤 H A W C i g vs Y P → Has l ls → Y .ty ≡ tyAt l ls
@@ -256,6 +258,7 @@ module _ {M : Type 1} {𝓤 : URA M} {H : Heap 𝓤} {A : Atoms 𝓤} (W : Given
   module _ (C : Calls 𝓤 H) (Λ : Loops 𝓤 H) (fm : FmC 𝓤 H (W .laws) C) (i : Item 𝓤) (ls : List Local) (f : ℕ → ℕ) (Post : Val → SProp 𝓤) where
     goes : (σ : Store) (b : Body) → Runs W C i ls Post σ b → Seq (Go {0}) W (i ∷ cells 𝓤 (env ls f) σ) (runs C Λ (env ls f) b (atRet (env ls f) Post))
     goes σ _ (back v e h k) = returns ! (reads W ls f i σ zero v e h) $ free-all i (env ls f) σ (prop (Post v)) (by ! k)
+    goes σ b (learn φ tells k) = use1 W (later (i ⊛ raw (fact 𝓤 φ))) tells $ await ! tt $ split ! $ move ! (1 ∷ []) $ heard ! φ (λ x. goes σ b (k x))
     goes σ _ (point {l} {p} {π} {st} {rest} {b} {o} {a} e lies hp hl wt k) =
         let w : Way W (i ∷ cells 𝓤 (env ls f) σ) (env ls f) π b o a st = way W (i ∷ cells 𝓤 (env ls f) σ) (env ls f) st π b o a lies in
         assigns ! (addr ! (from ! (hop ! (reads W ls f i σ p (vptr b o) e hp) (w .walk)))) (from ! (stop !)) (writes W ls f i σ l (vptr b a) hl wt) $ goes (set l (vptr b a) σ) rest k
