@@ -27,36 +27,24 @@ use Rattle.tables.proofs.Holders as Holders′
 use Rattle.tables.proofs.Holders.Laws as Holders″
 use Rattle.tables.proofs.State as State′
 use Rattle.tables.proofs.State.Laws as State″
-use Rattle.look.proofs.PartOf.{struct-part}
-use Rattle.inplace.proofs.FindWalk.{Table, mmio, pio, input, host, device, event, lpi, Layout}
+use Rattle.walks.proofs.Columns.{offset, struct-part}
+use Rattle.inplace.proofs.FindWalk.{number, Table, mmio, pio, input, host, device, event, lpi, Layout}
 
 -- the automatic pools, the fixed pools and the owners, within a state; and a table, within its pools or its holders
 abbrev pub auto-at : ℕ
-auto-at = 0
+auto-at = offset State″.mir 0
 
 abbrev pub fixed-at : ℕ
-fixed-at = 5432
+fixed-at = offset State″.mir 1
 
 abbrev pub owners-at : ℕ
-owners-at = 38568
+owners-at = offset State″.mir 3
 
 abbrev pub pool-at : Table → ℕ
-pool-at mmio = 0
-pool-at pio = 776
-pool-at input = 1552
-pool-at host = 2328
-pool-at device = 3104
-pool-at event = 3880
-pool-at lpi = 4656
+pool-at k = offset Pools″.mir (number k)
 
 abbrev pub holder-at : Table → ℕ
-holder-at mmio = 0
-holder-at pio = 4104
-holder-at input = 8208
-holder-at host = 11288
-holder-at device = 15392
-holder-at event = 19496
-holder-at lpi = 23600
+holder-at k = offset Holders″.mir (number k)
 
 abbrev holder : Table → Ty
 holder mmio = Ranges″.mir
