@@ -1,7 +1,3 @@
-pub mod Asking
-pub mod Nested
-pub mod StateParts
-pub mod FindWalk
 pub mod Callees
 pub mod LendPart
 pub mod KeepWalk

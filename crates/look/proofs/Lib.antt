@@ -1,4 +1,1 @@
 pub mod SizedLaws
-pub mod PartOf
-pub mod Columns
-pub mod Steps

@@ -48,24 +48,25 @@ pub fn range_columns<'a>(
     pi: &'a [u32; POOL_ROWS],
     ps: &'a [u64; POOL_ROWS],
     pe: &'a [u64; POOL_ROWS],
-    pn: usize,
+    pn: &'a usize,
     fc: &'a [u32; POOL_ROWS],
     fi: &'a [u32; POOL_ROWS],
     fs: &'a [u64; POOL_ROWS],
     fe: &'a [u64; POOL_ROWS],
-    nf: usize,
+    nf: &'a usize,
     oc: &'a [u32; ROWS],
     oi: &'a [u32; ROWS],
     od: &'a [u32; ROWS],
     os: &'a [u64; ROWS],
     oe: &'a [u64; ROWS],
     ow: &'a [u32; ROWS],
-    on: usize,
+    on: &'a usize,
     ask: Ask,
 ) -> Seen
-    requires { ⌜ Asks (pool pn (now pc) (now pi) (now ps) (now pe)) (pool nf (now fc) (now fi) (now fs) (now fe)) (ranges on (now oc) (now oi) (now od) (now os) (now oe) (now ow)) ask ⌝ }
-    ensures { λ r. ⌜ Tells (pool pn (now (pc .entry)) (now (pi .entry)) (now (ps .entry)) (now (pe .entry))) (pool nf (now (fc .entry)) (now (fi .entry)) (now (fs .entry)) (now (fe .entry))) (ranges on (now (oc .entry)) (now (oi .entry)) (now (od .entry)) (now (os .entry)) (now (oe .entry)) (now (ow .entry))) ask r ⌝ }
+    requires { ⌜ Asks (pool (now pn) (now pc) (now pi) (now ps) (now pe)) (pool (now nf) (now fc) (now fi) (now fs) (now fe)) (ranges (now on) (now oc) (now oi) (now od) (now os) (now oe) (now ow)) ask ⌝ }
+    ensures { λ r. ⌜ Tells (pool (now (pn .entry)) (now (pc .entry)) (now (pi .entry)) (now (ps .entry)) (now (pe .entry))) (pool (now (nf .entry)) (now (fc .entry)) (now (fi .entry)) (now (fs .entry)) (now (fe .entry))) (ranges (now (on .entry)) (now (oc .entry)) (now (oi .entry)) (now (od .entry)) (now (os .entry)) (now (oe .entry)) (now (ow .entry))) ask r ⌝ }
 {
+    let n = *on;
     if ask.go {
         let need = ask.need;
         let choice = ask.choice;
@@ -74,25 +75,25 @@ pub fn range_columns<'a>(
             pi,
             ps,
             pe,
-            pn,
+            *pn,
             fc,
             fi,
             fs,
             fe,
-            nf,
+            *nf,
             oc,
             oi,
             od,
             os,
             oe,
             ow,
-            on,
+            n,
             need,
             choice,
         );
-        return Seen { chosen, at: on };
+        return Seen { chosen, at: n };
     }
-    unasked(on)
+    unasked(n)
 }
 
 pub fn wire_columns<'a>(
@@ -100,23 +101,24 @@ pub fn wire_columns<'a>(
     pi: &'a [u32; POOL_ROWS],
     ps: &'a [u64; POOL_ROWS],
     pe: &'a [u64; POOL_ROWS],
-    pn: usize,
+    pn: &'a usize,
     fc: &'a [u32; POOL_ROWS],
     fi: &'a [u32; POOL_ROWS],
     fs: &'a [u64; POOL_ROWS],
     fe: &'a [u64; POOL_ROWS],
-    nf: usize,
+    nf: &'a usize,
     oc: &'a [u32; ROWS],
     ox: &'a [u64; ROWS],
     ot: &'a [u32; ROWS],
     os: &'a [u32; ROWS],
     ow: &'a [u32; ROWS],
-    on: usize,
+    on: &'a usize,
     ask: WireAsk,
 ) -> Seen
-    requires { ⌜ WireAsks (pool pn (now pc) (now pi) (now ps) (now pe)) (pool nf (now fc) (now fi) (now fs) (now fe)) (wires on (now oc) (now ox) (now ot) (now os) (now ow)) ask ⌝ }
-    ensures { λ r. ⌜ TellsWire (pool pn (now (pc .entry)) (now (pi .entry)) (now (ps .entry)) (now (pe .entry))) (pool nf (now (fc .entry)) (now (fi .entry)) (now (fs .entry)) (now (fe .entry))) (wires on (now (oc .entry)) (now (ox .entry)) (now (ot .entry)) (now (os .entry)) (now (ow .entry))) ask r ⌝ }
+    requires { ⌜ WireAsks (pool (now pn) (now pc) (now pi) (now ps) (now pe)) (pool (now nf) (now fc) (now fi) (now fs) (now fe)) (wires (now on) (now oc) (now ox) (now ot) (now os) (now ow)) ask ⌝ }
+    ensures { λ r. ⌜ TellsWire (pool (now (pn .entry)) (now (pc .entry)) (now (pi .entry)) (now (ps .entry)) (now (pe .entry))) (pool (now (nf .entry)) (now (fc .entry)) (now (fi .entry)) (now (fs .entry)) (now (fe .entry))) (wires (now (on .entry)) (now (oc .entry)) (now (ox .entry)) (now (ot .entry)) (now (os .entry)) (now (ow .entry))) ask r ⌝ }
 {
+    let n = *on;
     if ask.go {
         let wire = ask.wire;
         let choice = ask.choice;
@@ -125,24 +127,24 @@ pub fn wire_columns<'a>(
             pi,
             ps,
             pe,
-            pn,
+            *pn,
             fc,
             fi,
             fs,
             fe,
-            nf,
+            *nf,
             oc,
             ox,
             ot,
             os,
             ow,
-            on,
+            n,
             wire,
             choice,
         );
-        return Seen { chosen, at: on };
+        return Seen { chosen, at: n };
     }
-    unasked(on)
+    unasked(n)
 }
 
 // A range of one table: its pools and its owners are lent whole.
@@ -155,19 +157,19 @@ pub fn range<'a>(auto: &'a Pool, fixed: &'a Pool, own: &'a Ranges, ask: Ask) -> 
         &auto.its,
         &auto.start,
         &auto.end,
-        auto.n,
+        &auto.n,
         &fixed.controller,
         &fixed.its,
         &fixed.start,
         &fixed.end,
-        fixed.n,
+        &fixed.n,
         &own.controller,
         &own.its,
         &own.device,
         &own.start,
         &own.end,
         &own.owner,
-        own.n,
+        &own.n,
         ask,
     )
 }
@@ -182,18 +184,18 @@ pub fn wire<'a>(auto: &'a Pool, fixed: &'a Pool, own: &'a Wires, ask: WireAsk) -
         &auto.its,
         &auto.start,
         &auto.end,
-        auto.n,
+        &auto.n,
         &fixed.controller,
         &fixed.its,
         &fixed.start,
         &fixed.end,
-        fixed.n,
+        &fixed.n,
         &own.controller,
         &own.input,
         &own.trigger,
         &own.sharing,
         &own.owner,
-        own.n,
+        &own.n,
         ask,
     )
 }

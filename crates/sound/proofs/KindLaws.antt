@@ -1,5 +1,5 @@
 -- The tests of one kind's tables are the definition's tests of that kind. Assumes nothing.
-use mathlib.Core.Path.{_≡_, refl, _∙_, ap, ap₂}
+use mathlib.Core.Path.{_≡_, refl, sym, _∙_, ap, ap₂}
 use mathlib.Core.Bool.{Bool, true, false, _&&_}
 use Rattle.definition.specs.Tables.{Kind, input, used, soundHeld, soundOwners, begins}
 use Rattle.definition.specs.Request.{automatic, fixed}
@@ -10,7 +10,7 @@ use Rattle.tables.specs.declared.Ranges.{Ranges}
 use Rattle.tables.specs.declared.Wires.{Wires}
 use Rattle.spans.specs.Tests.{limitsOf, soundPoolIn, soundRangesIn, holdersIn}
 use Rattle.spans.proofs.KindLaws.{Ranged, pool-kind, held-kind, owners-kind}
-use Rattle.sound.specs.Tests.{soundWires, givenRanges, setRanges, givenWires, setWires}
+use Rattle.sound.specs.Tests.{soundWires, poolsIn, givenRanges, setRanges, givenWires, setWires}
 
 -- ---- inputs
 
@@ -24,14 +24,20 @@ owners-wires t = refl
 
 -- ---- the tables of one kind of a state
 
+-- code tests the two pools together
+together : (a b c : Bool) → a && (b && c) ≡ (a && b) && c
+together true b c = refl
+together false b c = refl
+
 module _ (s : State) where
   pub given-ranges :
       (k : Kind) → Ranged k → (a f : Pool) (h : Ranges)
       → s .pools automatic k ≡ poolView a → s .pools fixed k ≡ poolView f → s .held k ≡ rangesView h
       → givenAt s k ≡ givenRanges (limitsOf k) a f h
-  unfolding givenAt givenRanges
+  unfolding givenAt givenRanges poolsIn
   given-ranges k r a f h p q e =
       rw (p, q, e) (ap₂ (λ x y. x && y) (pool-kind k a) (ap₂ (λ x y. x && y) (pool-kind k f) (held-kind k r h)))
+      ∙ together (soundPoolIn (limitsOf k) a) (soundPoolIn (limitsOf k) f) (soundRangesIn (limitsOf k) h)
 
   pub set-ranges :
       (k : Kind) → Ranged k → (a f : Pool) (h o : Ranges)
@@ -41,19 +47,15 @@ module _ (s : State) where
   set-ranges k r a f h o p q e d =
       ap₂ (λ x y. x && y) (given-ranges k r a f h p q e)
       (ap₂ (λ x y. x && y) (ap (soundOwners k) d ∙ owners-kind k r o) (ap₂ (λ x y. begins (used x) (used y)) e d))
-      ∙ turn (soundPoolIn (limitsOf k) a) (soundPoolIn (limitsOf k) f) (soundRangesIn (limitsOf k) h) _
-    where
-      turn : (a b c d : Bool) → (a && (b && c)) && d ≡ a && (b && (c && d))
-      turn true true c d = refl
-      turn true false c d = refl
-      turn false b c d = refl
+      ∙ sym (together (poolsIn (limitsOf k) a f) (soundRangesIn (limitsOf k) h) _)
 
   pub given-wires :
       (a f : Pool) (h : Wires) → s .pools automatic input ≡ poolView a → s .pools fixed input ≡ poolView f → s .held input ≡ wiresView h
       → givenAt s input ≡ givenWires a f h
-  unfolding givenAt givenWires
+  unfolding givenAt givenWires poolsIn
   given-wires a f h p q e =
       rw (p, q, e) (ap₂ (λ x y. x && y) (pool-kind input a) (ap₂ (λ x y. x && y) (pool-kind input f) (held-wires h)))
+      ∙ together (soundPoolIn (limitsOf input) a) (soundPoolIn (limitsOf input) f) (soundWires true h)
 
   pub set-wires :
       (a f : Pool) (h o : Wires)

@@ -33,6 +33,17 @@ wire-good c x t s o p q r =
 
 -- ---- two rows
 
+-- an input is the range from it to the number behind it: where the first numbers are the same so are the last
+pub once : (c : Bool) (x x′ : ℕ) (r : Bool) → c && (eqb x x′ && r) ≡ (c && true) && (eqb x x′ && (eqb (suc x) (suc x′) && r))
+once c x x′ r = rw (and-true c, next) (ap (λ z. c && z) (twice (eqb x x′) r))
+  where
+    next : eqb (suc x) (suc x′) ≡ eqb x x′
+    next = T-ext _ _ (λ t. let e = eqb→eq (suc x) (suc x′) t in eq→eqb x x′ (omega arith)) (λ t. eq→eqb (suc x) (suc x′) (ap suc (eqb→eq x x′ t)))
+
+    twice : (a r : Bool) → a && r ≡ a && (a && r)
+    twice true r = refl
+    twice false r = refl
+
 module _ (c x t s w c′ x′ t′ s′ w′ : ℕ) where
   -- two numbers n..n+1 overlap where they are one
   one-number : ltb x (suc x′) && ltb x′ (suc x) ≡ eqb x x′

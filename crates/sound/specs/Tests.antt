@@ -32,14 +32,17 @@ soundWires single t = soundTable rowLimit (sameRow blankWire) (goodRow input) (w
 
 -- ---- the tables of one kind: what an addition reads, and what a request reads
 
+unfoldable pub poolsIn : Limits → Pool → Pool → Bool
+poolsIn l auto fixed = soundPoolIn l auto && soundPoolIn l fixed
+
 unfoldable pub givenRanges : Limits → Pool → Pool → Ranges → Bool
-givenRanges l auto fixed held = soundPoolIn l auto && (soundPoolIn l fixed && soundRangesIn l held)
+givenRanges l auto fixed held = poolsIn l auto fixed && soundRangesIn l held
 
 unfoldable pub setRanges : Limits → Pool → Pool → Ranges → Ranges → Bool
-setRanges l auto fixed held owners = soundPoolIn l auto && (soundPoolIn l fixed && holdersIn l held owners)
+setRanges l auto fixed held owners = poolsIn l auto fixed && holdersIn l held owners
 
 unfoldable pub givenWires : Pool → Pool → Wires → Bool
-givenWires auto fixed held = soundPoolIn (limitsOf input) auto && (soundPoolIn (limitsOf input) fixed && soundWires true held)
+givenWires auto fixed held = poolsIn (limitsOf input) auto fixed && soundWires true held
 
 unfoldable pub setWires : Pool → Pool → Wires → Wires → Bool
 setWires auto fixed held owners =

@@ -3,12 +3,9 @@ use spans::limits::Limits;
 use spans::limits::device_limits;
 use spans::limits::event_limits;
 use spans::limits::host_limits;
-use spans::limits::input_limits;
 use spans::limits::lpi_limits;
 use spans::limits::mmio_limits;
 use spans::limits::pio_limits;
-use spans::pool;
-use spans::range;
 use tables::Pool;
 use tables::Ranges;
 use tables::State;
@@ -19,37 +16,32 @@ ghost use Rattle.definition.specs.Calls.{given, sound};
 ghost use Rattle.tables.specs.Views.{stateView};
 ghost use Rattle.sound.specs.Tests.{givenRanges, setRanges, givenWires, setWires};
 
+pub mod columns;
 pub mod wired;
 
-// Whether the pools and reservations of a kind of ranges are sound. Here and below columns are lent: no table is copied.
+// Whether the pools and reservations of a kind of ranges are sound. Here and below columns are lent: the columns module has the tests.
 pub fn ranges_given(l: Limits, auto: Pool, fixed: Pool, held: Ranges) -> bool
     ensures { λ r. ⌜ r ≡ givenRanges l auto fixed held ⌝ }
 {
-    let n = auto.n;
-    if !pool::table_sound(l, n, &auto.controller, &auto.its, &auto.start, &auto.end) {
-        return false;
-    }
-    let n = fixed.n;
-    if !pool::table_sound(
+    columns::ranges_given(
         l,
-        n,
+        &auto.controller,
+        &auto.its,
+        &auto.start,
+        &auto.end,
+        &auto.n,
         &fixed.controller,
         &fixed.its,
         &fixed.start,
         &fixed.end,
-    ) {
-        return false;
-    }
-    let n = held.n;
-    range::table_sound(
-        l,
-        n,
+        &fixed.n,
         &held.controller,
         &held.its,
         &held.device,
         &held.start,
         &held.end,
         &held.owner,
+        &held.n,
     )
 }
 
@@ -57,39 +49,32 @@ pub fn ranges_given(l: Limits, auto: Pool, fixed: Pool, held: Ranges) -> bool
 pub fn ranges_set(l: Limits, auto: Pool, fixed: Pool, held: Ranges, owners: Ranges) -> bool
     ensures { λ r. ⌜ r ≡ setRanges l auto fixed held owners ⌝ }
 {
-    let n = auto.n;
-    if !pool::table_sound(l, n, &auto.controller, &auto.its, &auto.start, &auto.end) {
-        return false;
-    }
-    let n = fixed.n;
-    if !pool::table_sound(
+    columns::ranges_set(
         l,
-        n,
+        &auto.controller,
+        &auto.its,
+        &auto.start,
+        &auto.end,
+        &auto.n,
         &fixed.controller,
         &fixed.its,
         &fixed.start,
         &fixed.end,
-    ) {
-        return false;
-    }
-    let m = held.n;
-    let n = owners.n;
-    range::holders_sound(
-        l,
-        m,
+        &fixed.n,
         &held.controller,
         &held.its,
         &held.device,
         &held.start,
         &held.end,
         &held.owner,
-        n,
+        &held.n,
         &owners.controller,
         &owners.its,
         &owners.device,
         &owners.start,
         &owners.end,
         &owners.owner,
+        &owners.n,
     )
 }
 
@@ -97,31 +82,23 @@ pub fn ranges_set(l: Limits, auto: Pool, fixed: Pool, held: Ranges, owners: Rang
 pub fn wires_given(auto: Pool, fixed: Pool, held: Wires) -> bool
     ensures { λ r. ⌜ r ≡ givenWires auto fixed held ⌝ }
 {
-    let l = input_limits();
-    let n = auto.n;
-    if !pool::table_sound(l, n, &auto.controller, &auto.its, &auto.start, &auto.end) {
-        return false;
-    }
-    let n = fixed.n;
-    if !pool::table_sound(
-        l,
-        n,
+    columns::wires_given(
+        &auto.controller,
+        &auto.its,
+        &auto.start,
+        &auto.end,
+        &auto.n,
         &fixed.controller,
         &fixed.its,
         &fixed.start,
         &fixed.end,
-    ) {
-        return false;
-    }
-    let n = held.n;
-    wired::table_sound(
-        true,
-        n,
+        &fixed.n,
         &held.controller,
         &held.input,
         &held.trigger,
         &held.sharing,
         &held.owner,
+        &held.n,
     )
 }
 
@@ -129,35 +106,29 @@ pub fn wires_given(auto: Pool, fixed: Pool, held: Wires) -> bool
 pub fn wires_set(auto: Pool, fixed: Pool, held: Wires, owners: Wires) -> bool
     ensures { λ r. ⌜ r ≡ setWires auto fixed held owners ⌝ }
 {
-    if !wires_given(auto, fixed, held) {
-        return false;
-    }
-    let n = owners.n;
-    if !wired::table_sound(
-        false,
-        n,
-        &owners.controller,
-        &owners.input,
-        &owners.trigger,
-        &owners.sharing,
-        &owners.owner,
-    ) {
-        return false;
-    }
-    let m = held.n;
-    wired::begins_with(
-        m,
+    columns::wires_set(
+        &auto.controller,
+        &auto.its,
+        &auto.start,
+        &auto.end,
+        &auto.n,
+        &fixed.controller,
+        &fixed.its,
+        &fixed.start,
+        &fixed.end,
+        &fixed.n,
         &held.controller,
         &held.input,
         &held.trigger,
         &held.sharing,
         &held.owner,
-        n,
+        &held.n,
         &owners.controller,
         &owners.input,
         &owners.trigger,
         &owners.sharing,
         &owners.owner,
+        &owners.n,
     )
 }
 

@@ -41,19 +41,12 @@ pub fn wires_fit(single: bool, a: WireRow, b: WireRow) -> bool
 pub fn same_row(a: WireRow, b: WireRow) -> bool
     ensures { λ r. ⌜ r ≡ sameRow (wireOf a) (wireOf b) ⌝ }
 {
-    if a.controller != b.controller {
-        return false;
-    }
-    if a.input != b.input {
-        return false;
-    }
-    if a.trigger != b.trigger {
-        return false;
-    }
-    if a.sharing != b.sharing {
-        return false;
-    }
-    a.owner == b.owner
+    let controller = a.controller == b.controller;
+    let input = a.input == b.input;
+    let trigger = a.trigger == b.trigger;
+    let sharing = a.sharing == b.sharing;
+    let owner = a.owner == b.owner;
+    controller & (input & (trigger & (sharing & owner)))
 }
 
 // Whether a row has known codes and an owner. Its numbers keep to their width by their types.
@@ -97,7 +90,7 @@ pub fn fits_below<'a>(
     true
 }
 
-// Whether each row from `n` on is zero.
+// Whether each row from `n` on is zero. No early end: so the compiler takes several rows at a time.
 pub fn unused_zero<'a>(
     n: usize,
     controller: &'a [u32; ROWS],
@@ -116,17 +109,17 @@ pub fn unused_zero<'a>(
         sharing: 0,
         owner: 0,
     };
+    let mut zeros = true;
     let mut k: usize = n;
     while k < ROWS {
-        if !same_row(
+        let same = same_row(
             zero,
             tables::wire_at(k, controller, input, trigger, sharing, owner),
-        ) {
-            return false;
-        }
+        );
+        zeros = zeros & same;
         k += 1;
     }
-    true
+    zeros
 }
 
 // Whether a table in lent columns has its count within its size and zeros in its unused rows.

@@ -2,7 +2,7 @@
 use mathlib.Core.List.{List}
 use mathlib.Core.Logic.{⊎-elim}
 use mathlib.Core.Path.{_≡_, sym, subst}
-use Prim.Native.Nat.{ℕ, _+_, _<_, _≤_}
+use Prim.Native.Nat.{ℕ, _+_, _<_, _≤_, max}
 use native.Mathlib.Nat.{eq-or-lt-of-le}
 use native.Mathlib.Omega.{arith}
 use lib.ListN.{getD}
@@ -12,9 +12,11 @@ pub high-start : (h : ℕ) (col : List ℕ) → NoneAbove h col 0
 unfolding NoneAbove
 high-start h col j l = absurd (omega arith)
 
-pub high-more : (h h′ : ℕ) (col : List ℕ) (k : ℕ) → NoneAbove h col k → h ≤ h′ → getD col k 0 ≤ h′ → NoneAbove h′ col (k + 1)
+pub high-more : (h h′ : ℕ) (col : List ℕ) (k : ℕ) → NoneAbove h col k → h′ ≡ max h (getD col k 0) → NoneAbove h′ col (k + 1)
 unfolding NoneAbove
-high-more h h′ col k a l m j p =
+high-more h h′ col k a r j p =
+    let l : h ≤ h′ = omega arith in
+    let m : getD col k 0 ≤ h′ = omega arith in
     ⊎-elim (λ (e : j ≡ k). subst (λ (i : ℕ). getD col i 0 ≤ h′) (sym e) m) (λ (q : j < k). omega (arith, a j q)) (eq-or-lt-of-le (omega arith))
 
 pub high-at : (h : ℕ) (col : List ℕ) (k : ℕ) → NoneAbove h col k → (j : ℕ) → j < k → getD col j 0 ≤ h

@@ -1,7 +1,7 @@
 // What the rows of a kind keep to.
 use tables::ROWS;
 ghost use mathlib.Core.Path.{_≡_};
-ghost use Prim.Native.Nat.{_≤_, min};
+ghost use Prim.Native.Nat.{min, max};
 ghost use Rattle.definition.specs.Tables.{rowLimit, mmio, pio, input, host, device, event, lpi};
 ghost use Rattle.spans.specs.Tests.{limitsOf};
 
@@ -103,7 +103,7 @@ pub fn capped(n: usize) -> usize
 
 // The higher of two numbers.
 pub fn higher(a: u64, b: u64) -> u64
-    ensures { λ r. ⌜ (a ≤ r) × (b ≤ r) ⌝ }
+    ensures { λ r. ⌜ r ≡ max a b ⌝ }
 {
     if a < b { b } else { a }
 }

@@ -33,16 +33,11 @@ pub fn in_order(a: PoolRow, b: PoolRow) -> bool
 pub fn same_row(a: PoolRow, b: PoolRow) -> bool
     ensures { λ r. ⌜ r ≡ sameSpan (spanOf a) (spanOf b) ⌝ }
 {
-    if a.controller != b.controller {
-        return false;
-    }
-    if a.its != b.its {
-        return false;
-    }
-    if a.start != b.start {
-        return false;
-    }
-    a.end == b.end
+    let controller = a.controller == b.controller;
+    let its = a.its == b.its;
+    let start = a.start == b.start;
+    let end = a.end == b.end;
+    (controller & its) & (start & end)
 }
 
 // Whether a row keeps to its kind's limits and holds a number.
@@ -83,7 +78,7 @@ pub fn order_below<'a>(
     true
 }
 
-// Whether each row from `n` on is zero.
+// Whether each row from `n` on is zero. No early end: so the compiler takes several rows at a time.
 pub fn unused_zero<'a>(
     n: usize,
     controller: &'a [u32; POOL_ROWS],
@@ -100,14 +95,14 @@ pub fn unused_zero<'a>(
         start: 0,
         end: 0,
     };
+    let mut zeros = true;
     let mut k: usize = n;
     while k < POOL_ROWS {
-        if !same_row(zero, tables::pool_at(k, controller, its, start, end)) {
-            return false;
-        }
+        let same = same_row(zero, tables::pool_at(k, controller, its, start, end));
+        zeros = zeros & same;
         k += 1;
     }
-    true
+    zeros
 }
 
 // Whether a table in lent columns has its count within its size and zeros in its unused rows.

@@ -42,22 +42,13 @@ pub fn rows_meet(a: RangeRow, b: RangeRow) -> bool
 pub fn same_row(a: RangeRow, b: RangeRow) -> bool
     ensures { λ r. ⌜ r ≡ sameRow (rangeOf a) (rangeOf b) ⌝ }
 {
-    if a.controller != b.controller {
-        return false;
-    }
-    if a.its != b.its {
-        return false;
-    }
-    if a.device != b.device {
-        return false;
-    }
-    if a.start != b.start {
-        return false;
-    }
-    if a.end != b.end {
-        return false;
-    }
-    a.owner == b.owner
+    let controller = a.controller == b.controller;
+    let its = a.its == b.its;
+    let device = a.device == b.device;
+    let start = a.start == b.start;
+    let end = a.end == b.end;
+    let owner = a.owner == b.owner;
+    (controller & (its & device)) & (start & (end & owner))
 }
 
 // Whether a row keeps to its kind's limits, holds a number and has an owner.
@@ -109,7 +100,7 @@ pub fn first_overlap<'a>(
     Hit::Clear
 }
 
-// Whether each row from `n` on is zero.
+// Whether each row from `n` on is zero. No early end: so the compiler takes several rows at a time.
 pub fn unused_zero<'a>(
     n: usize,
     controller: &'a [u32; ROWS],
@@ -130,17 +121,17 @@ pub fn unused_zero<'a>(
         end: 0,
         owner: 0,
     };
+    let mut zeros = true;
     let mut k: usize = n;
     while k < ROWS {
-        if !same_row(
+        let same = same_row(
             zero,
             tables::range_at(k, controller, its, device, start, end, owner),
-        ) {
-            return false;
-        }
+        );
+        zeros = zeros & same;
         k += 1;
     }
-    true
+    zeros
 }
 
 // Whether a table in lent columns has its count within its size and zeros in its unused rows.

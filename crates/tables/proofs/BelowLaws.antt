@@ -70,6 +70,11 @@ module _ (q : ℕ → Bool) (n : ℕ) where
       or-right true e = refl
       or-right false e = e
 
+  -- one more row, whether or not it passes
+  pub from-next : (i : ℕ) → n ≤ i → allFrom q n (i + 1) ≡ allFrom q n i && q i
+  unfolding allBelow
+  from-next i m = rw (add-one, le-ltb i n m)
+
   pub from-stop : (i size : ℕ) → n ≤ i → q i ≡ false → i < size → allFrom q n size ≡ false
   from-stop i size m e l = all-stop (λ k. ltb k n || q k) i size (rw (le-ltb i n m) e) l
 

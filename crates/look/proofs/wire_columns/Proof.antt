@@ -6,7 +6,7 @@ use Rattle.look.proofs.wire_columns.Statement.{statement}
 use Rattle.look.proofs.wire_columns.Tie as tie
 
 place-requires : tie.Need-place-requires
-place-requires c κs = (c .before .before .pre (c .before .if1 .taken) .0, c .before .before .pre (c .before .if1 .taken) .1 .0, c .before .before .pre (c .before .if1 .taken) .1 .1)
+place-requires c κs = (c .before .before .before .before .before .pre (c .before .before .before .if1 .taken) .0, c .before .before .before .before .before .pre (c .before .before .before .if1 .taken) .1 .0, c .before .before .before .before .before .pre (c .before .before .before .if1 .taken) .1 .1)
 
 returns : tie.Need-returns
 returns c = search needs

@@ -1,25 +1,18 @@
--- Two rows are the same where each number is. Assumes nothing.
-use borrow.Author.Tests.{eq-eqb, ne-eqb}
-use native.Mathlib.Omega.{arith}
+-- Two rows are the same where each number is: the code's test is the definition's. Assumes nothing.
+use mathlib.Core.Path.{sym, ap}
+use mathlib.Core.Bool.{_&&_}
+use lib.Dec.{eqb}
+use Rattle.definition.specs.BaseLaws.{and-true}
 use Rattle.definition.specs.Tables.{sameDom, sameSpan}
 use Rattle.spans.proofs.pool.same_row.Statement.{statement}
 use Rattle.spans.proofs.pool.same_row.Tie as tie
 
+-- a pool row names no device
 returns : tie.Need-returns
 unfolding sameSpan sameDom
-returns c = let a = c .before .before .before .args in rw (ne-eqb (a .a .controller) (a .b .controller) (c .if1 .taken))
-
-returns-2 : tie.Need-returns-2
-unfolding sameSpan sameDom
-returns-2 c = let a = c .before .before .before .before .before .before .args in rw (eq-eqb (a .a .controller) (a .b .controller) (omega arith), ne-eqb (a .a .its) (a .b .its) (c .if2 .taken))
-
-returns-3 : tie.Need-returns-3
-unfolding sameSpan sameDom
-returns-3 c = let a = c .before .before .before .before .before .before .before .before .before .args in rw (eq-eqb (a .a .controller) (a .b .controller) (omega arith), eq-eqb (a .a .its) (a .b .its) (omega arith), ne-eqb (a .a .start) (a .b .start) (c .if3 .taken))
-
-returns-4 : tie.Need-returns-4
-unfolding sameSpan sameDom
-returns-4 c = let a = c .before .before .before .before .before .before .before .before .before .before .before .args in rw (eq-eqb (a .a .controller) (a .b .controller) (omega arith), eq-eqb (a .a .its) (a .b .its) (omega arith), eq-eqb (a .a .start) (a .b .start) (omega arith))
+returns c =
+    let a = c .before .before .before .before .before .before .before .before .args in
+    ap (λ i. (eqb (a .a .controller) (a .b .controller) && i) && (eqb (a .a .start) (a .b .start) && eqb (a .a .end) (a .b .end))) (sym (and-true (eqb (a .a .its) (a .b .its))))
 
 pub same-row-spec : {M : Type 1} → statement M
-same-row-spec = tie.close (tie.spec returns returns-2 returns-3 returns-4)
+same-row-spec = tie.close (tie.spec returns)

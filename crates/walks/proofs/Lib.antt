@@ -1,0 +1,6 @@
+pub mod Columns
+pub mod Frame
+pub mod Passing
+pub mod Prelude
+pub mod StateParts
+pub mod Straight

@@ -1,0 +1,1 @@
+// Steps of proofs by hand that several crates share: straight code over lent tables. No code.
