@@ -58,13 +58,7 @@ fn row_stops(exact: bool, r: PoolRow, x: PoolRow) -> bool
     if exact {
         return spans::pool::same_row(r, x);
     }
-    if r.controller != x.controller {
-        return false;
-    }
-    if r.its != x.its {
-        return false;
-    }
-    r.start < x.start
+    bases::starts_before(r.controller, r.its, r.start, x.controller, x.its, x.start)
 }
 
 // The first of `n` rows at which `r` stops.

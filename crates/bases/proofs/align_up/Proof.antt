@@ -1,10 +1,10 @@
 -- The next multiple, or `stop`, with no sum that wraps. Assumes nothing.
 use native.Mathlib.Omega.{arith}
 use native.Mathlib.Nat.{mod-lt}
-use Rattle.search.proofs.AlignLaws.{next-aligned, next-least}
+use Rattle.bases.proofs.AlignLaws.{next-aligned, next-least}
 use borrow.Author.Needs.{needs}
-use Rattle.search.proofs.align_up.Statement.{statement}
-use Rattle.search.proofs.align_up.Tie as tie
+use Rattle.bases.proofs.align_up.Statement.{statement}
+use Rattle.bases.proofs.align_up.Tie as tie
 
 returns : tie.Need-returns
 returns c = search needs

@@ -1,10 +1,9 @@
 -- The next multiple of a from v on, where v is none. Assumes nothing.
 use mathlib.Core.Path.{_≡_, _∙_}
-use mathlib.Core.Logic.{⊎-elim}
 use Prim.Native.Nat.{ℕ, _+_, _-_, _*_, _/_, _%_, _<_, _≤_}
+use native.Mathlib.Decide.{decLt}
 use native.Mathlib.Nat.{div-add-mod', mul-le-mul-right, mul-add-mod-self-right, mod-self, mod-lt, suc-mul}
 use native.Mathlib.Omega.{arith}
-use Rattle.search.proofs.CaseLaws.{lt-or-le}
 
 module _ (v a : ℕ) (pos : 0 < a) where
   -- v + (a - v % a) is one multiple past the last one at or below v
@@ -17,7 +16,7 @@ module _ (v a : ℕ) (pos : 0 < a) where
   -- no multiple stands between a v that is none and the next
   pub next-least : (0 < v % a) → (x : ℕ) → v ≤ x → x % a ≡ 0 → v + (a - v % a) ≤ x
   next-least o x h e =
-      ⊎-elim
-      (λ q. omega (arith, next-is, div-add-mod' x a, suc-mul (v / a) a, mul-le-mul-right a q))
-      (λ q. absurd (omega (arith, div-add-mod' x a, div-add-mod' v a, mul-le-mul-right a q)))
-      (lt-or-le (v / a) (x / a))
+      elim (decLt (v / a) (x / a)) [
+        | yes q ↦ omega (arith, next-is, div-add-mod' x a, suc-mul (v / a) a, mul-le-mul-right a q)
+        | no q ↦ let l : x / a ≤ v / a = omega arith in absurd (omega (arith, div-add-mod' x a, div-add-mod' v a, mul-le-mul-right a l))
+      ]
