@@ -1,4 +1,4 @@
-// Where a range may start, over plain numbers: no table and no loop.
+// Where a range may start, over plain numbers: no table and no loop. The order of pool rows after src/resources/pool/range.rs of axdevice 0.8.5, Apache-2.0, see NOTICE; changed.
 ghost use mathlib.Core.Path.{_≡_};
 ghost use mathlib.Core.Bool.{_&&_};
 ghost use Prim.Native.Nat.{_<_};

@@ -1,9 +1,8 @@
 -- The tests in their order. Assumes nothing.
 use borrow.Author.Tests.{eq-eqb, le-ltb, lt-ltb, ne-eqb}
 use Rattle.range.specs.Answers.{earlierOf}
-use Rattle.range.specs.Places.{before}
-use Rattle.range.proofs.earlier.Statement.{statement}
-use Rattle.range.proofs.earlier.Tie as tie
+use Rattle.answers.proofs.earlier.Statement.{statement}
+use Rattle.answers.proofs.earlier.Tie as tie
 
 returns : tie.Need-returns
 unfolding earlierOf

@@ -2,8 +2,8 @@
 use borrow.Author.Needs.{needs}
 use mathlib.Core.Path.{ap}
 use Rattle.tables.specs.Views.{stateView}
-use Rattle.pool.proofs.started.Statement.{statement}
-use Rattle.pool.proofs.started.Tie as tie
+use Rattle.answers.proofs.started.Statement.{statement}
+use Rattle.answers.proofs.started.Tie as tie
 
 answered-requires : tie.Need-answered-requires
 answered-requires c κs = search needs
