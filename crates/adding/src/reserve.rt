@@ -129,7 +129,7 @@ pub fn hold_pair(h: Holders, w: WireRow, r: RangeRow) -> Kept
     let y = range::reserve_range(hosts, r);
     let first = x.reply;
     let second = y.reply;
-    let reply = range::earlier(first, second);
+    let reply = answers::earlier(first, second);
     if reply.number != 0 {
         return Kept {
             held: h,

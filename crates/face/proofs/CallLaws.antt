@@ -2,7 +2,7 @@
 use mathlib.Core.Path.{_≡_, refl, sym, ap, ap₂, subst, _∙_}
 use mathlib.Core.Bool.{Bool, true, false}
 use mathlib.Core.List.{List, [], _∷_}
-use Prim.Native.Nat.{ℕ, zero, suc, _≤_, _<_, _-_}
+use Prim.Native.Nat.{ℕ, suc, _≤_, _<_, _-_}
 use native.Mathlib.Omega.{arith}
 use lib.ListN.{length, getD, drop, take}
 use borrow.Author.Tests.{le-leb, lt-leb, eq-eqb, ne-eqb}
@@ -11,31 +11,9 @@ use Rattle.definition.specs.Base.{malformed, short, refused, require, tell}
 use Rattle.definition.specs.Request.{Request}
 use Rattle.definition.specs.Calls.{State, Call, want, given, sound, saying, settle, serve}
 use Rattle.flat.specs.Flat.{requestAt}
-use Rattle.face.specs.Face.{number, addingIn, addingAt, callAt, sizeIn, callSize, judged, faceCall}
-
--- what stands past the end does not matter to what stands in the list
-pub any-default : {A : Type 0} (l : List A) (k : ℕ) (d d′ : A) → k < length l → getD l k d ≡ getD l k d′
-any-default [] k d d′ h = absurd (omega arith)
-any-default (x ∷ l) zero d d′ h = refl
-any-default (x ∷ l) (suc k) d d′ h = any-default l k d d′ (omega arith)
-
-pub past-end : {A : Type 0} (l : List A) (k : ℕ) (d : A) → length l ≤ k → d ≡ getD l k d
-past-end [] k d h = refl
-past-end (x ∷ l) zero d h = absurd (omega arith)
-past-end (x ∷ l) (suc k) d h = past-end l k d (omega arith)
-
-pub size-none : (first kind : ℕ) → (first ≡ 1 → ⊥) → (first ≡ 2 → ⊥) → (first ≡ 4 → ⊥) → 1 ≡ sizeIn first kind
-unfolding sizeIn
-size-none zero kind n₁ n₂ n₄ = refl
-size-none (suc zero) kind n₁ n₂ n₄ = absurd (n₁ refl)
-size-none (suc (suc zero)) kind n₁ n₂ n₄ = absurd (n₂ refl)
-size-none (suc (suc (suc zero))) kind n₁ n₂ n₄ = refl
-size-none (suc (suc (suc (suc zero)))) kind n₁ n₂ n₄ = absurd (n₄ refl)
-size-none (suc (suc (suc (suc (suc first))))) kind n₁ n₂ n₄ = refl
-
-pub size-asks : (kind : ℕ) → sizeIn 4 kind ≡ 13
-unfolding sizeIn
-size-asks kind = refl
+use Rattle.coding.specs.Coding.{addingIn, sizeIn}
+use Rattle.coding.proofs.SizeLaws.{size-asks}
+use Rattle.face.specs.Face.{number, addingAt, callAt, callSize, judged, faceCall}
 
 take-whole : (xs : List ℕ) → take (length xs) xs ≡ xs
 take-whole [] = refl

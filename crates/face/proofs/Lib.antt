@@ -1,4 +1,3 @@
-pub mod NarrowLaws
 pub mod CallLaws
 pub mod ReadLaws
 pub mod LentLaws

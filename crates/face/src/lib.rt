@@ -1,5 +1,7 @@
 // The calls as plain numbers, for callers outside: a list of numbers is read as a call, and the call is served on a state by value.
 use choose::Refusal;
+use coding::adding_of;
+use coding::call_size;
 use pool::Call;
 use tables::State;
 ghost use mathlib.Core.Path.{_≡_};
@@ -8,12 +10,9 @@ ghost use Rattle.definition.specs.Base.{malformed, short, refused, require};
 ghost use Rattle.definition.specs.Calls.{settle};
 ghost use Rattle.tables.specs.Views.{stateView};
 ghost use Rattle.pool.specs.Served.{callOf};
-ghost use Rattle.face.specs.Face.{addingIn, addingAt, sizeIn, faceCall};
+ghost use Rattle.face.specs.Face.{addingAt, faceCall};
 
-pub mod fields;
-pub mod holds;
 pub mod lent;
-pub mod pools;
 pub mod row;
 
 // ---- a list of numbers
@@ -26,50 +25,6 @@ pub fn number(numbers: &[u64], j: usize) -> u64
         return numbers[j];
     }
     0
-}
-
-// How many numbers a call needs.
-fn call_size(first: u64, kind: u64) -> usize
-    ensures { λ r. ⌜ r ≡ sizeIn first kind ⌝ }
-{
-    if first == 1 {
-        return pools::pool_size(kind);
-    }
-    if first == 2 {
-        return holds::hold_size(kind);
-    }
-    if first == 4 {
-        return 13;
-    }
-    1
-}
-
-// A call that adds or starts, by its first number.
-fn adding_of(
-    first: u64,
-    second: u64,
-    kind: u64,
-    a: u64,
-    b: u64,
-    c: u64,
-    d: u64,
-    e: u64,
-    f: u64,
-    g: u64,
-    h: u64,
-) -> Call
-    ensures { λ r. ⌜ callOf r ≡ addingIn first second kind a b c d e f g h ⌝ }
-{
-    if first == 1 {
-        return pools::used_of(second, kind, a, b, c, d, e, f, g, h);
-    }
-    if first == 2 {
-        return holds::hold_of(second, kind, a, b, c, d, e);
-    }
-    if first == 3 {
-        return Call::Start;
-    }
-    fields::bad()
 }
 
 // A call that adds or starts.

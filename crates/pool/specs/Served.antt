@@ -1,8 +1,6 @@
--- A call in the definition's words, and the state with another answer. Assumes nothing.
+-- A call in the definition's words. Assumes nothing.
 use Rattle.definition.specs.Request.{Use as DUse, automatic, fixed}
 use Rattle.definition.specs.Calls.{Call as DCall, pool, hold, start}
-use Rattle.tables.specs.declared.State.{State}
-use Rattle.range.specs.declared.Reply.{Reply}
 use Rattle.adding.specs.PoolCalls.{poolCall}
 use Rattle.adding.specs.HoldCalls.{holdCall}
 use Rattle.pool.specs.declared.Use.{Use}
@@ -18,18 +16,3 @@ abbrev pub callOf : Call → DCall
 callOf (Pool u p) = pool (useOf u) (poolCall p)
 callOf (Hold o h) = hold o (holdCall h)
 callOf Start = start
-
--- the tables as they were, and another answer beside them
-abbrev pub answeredOf : State → Reply → State
-answeredOf s a =
-    record {
-      auto = s .auto;
-      fixed = s .fixed;
-      held = s .held;
-      owners = s .owners;
-      number = a .number;
-      index = 0;
-      namespace = 0;
-      owner = a .owner;
-      detail = 0;
-    }

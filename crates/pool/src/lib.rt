@@ -1,16 +1,18 @@
 // Adding pools and reservations to the whole state, and start. After src/resources/pool/mod.rs of axdevice 0.8.5, Apache-2.0, see NOTICE; changed.
+use answers::answered;
+use answers::started;
 use range::Reply;
 use tables::State;
 ghost use mathlib.Core.Path.{_≡_};
 ghost use lib.Dec.{T};
 ghost use Rattle.definition.specs.Tables.{kinds};
 ghost use Rattle.definition.specs.Pools.{spans, heldRows, pairHold};
-ghost use Rattle.definition.specs.Calls.{given, starting, addAll, hold, start, serve};
+ghost use Rattle.definition.specs.Calls.{given, addAll, hold, start, serve};
 ghost use Rattle.tables.specs.Views.{stateView};
 ghost use Rattle.adding.specs.PoolCalls.{poolCall};
 ghost use Rattle.adding.specs.HoldCalls.{holdCall};
 ghost use Rattle.adding.specs.Whole.{heldAfter};
-ghost use Rattle.pool.specs.Served.{useOf, callOf, answeredOf};
+ghost use Rattle.pool.specs.Served.{useOf, callOf};
 pub use adding::Devices;
 pub use adding::Events;
 pub use adding::Hold;
@@ -33,35 +35,6 @@ pub enum Call {
     Pool(Use, PoolRange),
     Hold(u32, Hold),
     Start,
-}
-
-// The state with another answer beside its tables.
-fn answered(s: State, a: Reply) -> State
-    ensures { λ r. ⌜ r ≡ answeredOf s a ⌝ }
-{
-    let mut next = s;
-    next.number = a.number;
-    next.index = 0;
-    next.namespace = 0;
-    next.owner = a.owner;
-    next.detail = 0;
-    next
-}
-
-// The owner tables become copies of the reservations, whatever they held.
-fn started(s: State) -> State
-    ensures { λ r. ⌜ stateView r ≡ starting (stateView s) ⌝ }
-{
-    let held = s.held;
-    let mut next = s;
-    next.owners = held;
-    answered(
-        next,
-        Reply {
-            number: 0,
-            owner: 0,
-        },
-    )
 }
 
 // The ranges of one call added to the pools of a use.

@@ -14,7 +14,7 @@ ghost use Rattle.definition.specs.Tables.{poolLimit, rowLimit, top, Kind, sameS
 ghost use Rattle.tables.specs.Below.{first};
 ghost use Rattle.tables.specs.Views.{pool, ranges, spanOf, rangeOf, poolAt, poolView, rangesView};
 ghost use Rattle.range.specs.Places.{stops, placeOf, Opened};
-ghost use Rattle.range.specs.Answers.{Entered, Told, Held, earlierOf};
+ghost use Rattle.range.specs.Answers.{Entered, Told, Held};
 
 pub mod wired;
 
@@ -58,13 +58,7 @@ fn row_stops(exact: bool, r: PoolRow, x: PoolRow) -> bool
     if exact {
         return spans::pool::same_row(r, x);
     }
-    if r.controller != x.controller {
-        return false;
-    }
-    if r.its != x.its {
-        return false;
-    }
-    r.start < x.start
+    bases::starts_before(r.controller, r.its, r.start, x.controller, x.its, x.start)
 }
 
 // The first of `n` rows at which `r` stops.
@@ -236,20 +230,4 @@ pub fn reserve_range(t: Ranges, r: RangeRow) -> Reserved
         table: next,
         reply: reply,
     }
-}
-
-// Of two answers the one whose turn comes first. Turns come in the order of their numbers, and `a`'s comes first where both have one number.
-pub fn earlier(a: Reply, b: Reply) -> Reply
-    ensures { λ r. ⌜ r ≡ earlierOf a b ⌝ }
-{
-    if a.number == 0 {
-        return b;
-    }
-    if b.number == 0 {
-        return a;
-    }
-    if b.number < a.number {
-        return b;
-    }
-    a
 }

@@ -16,7 +16,8 @@ use Rattle.definition.specs.Request.{Need, rowAt, aligned, holds, free, lowest}
 use Rattle.definition.specs.SearchLaws.{lowest-says}
 use Rattle.tables.specs.Below.{listed}
 use Rattle.tables.proofs.ListedLaws.{pairs-out}
-use Rattle.search.specs.Steps.{Up, Bases, Free, Tried, Jumps}
+use Rattle.bases.specs.Bases.{Up}
+use Rattle.search.specs.Steps.{Bases, Free, Tried, Jumps}
 use Rattle.search.proofs.CaseLaws.{lt-or-le, not-both}
 use Rattle.tables.proofs.IndexLaws.{any-out, any-in}
 use Rattle.search.proofs.MeetLaws.{meets-says, says-meets, holds-says}

@@ -1,5 +1,4 @@
 pub mod CaseLaws
-pub mod AlignLaws
 pub mod OnesLaws
 pub mod MeetLaws
 pub mod CoreLaws

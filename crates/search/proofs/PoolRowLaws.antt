@@ -11,7 +11,8 @@ use Rattle.definition.specs.Tables.{poolLimit, dom, sameDom, poolDom, Span, use
 use Rattle.definition.specs.Request.{Need, holds}
 use Rattle.tables.specs.Views.{poolView}
 use Rattle.tables.specs.declared.Pool.{Pool}
-use Rattle.search.specs.Steps.{Below, Bases}
+use Rattle.bases.specs.Bases.{Below}
+use Rattle.search.specs.Steps.{Bases}
 use Rattle.search.proofs.MeetLaws.{holds-says, says-holds}
 use Rattle.tables.proofs.IndexLaws.{any-in, any-out}
 use Rattle.search.proofs.FoundLaws.{spanAt, pool-used}

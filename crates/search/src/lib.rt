@@ -1,4 +1,6 @@
 // The searches: they read columns through references, and change nothing.
+use bases::align_up;
+use bases::bases_below;
 use tables::Hit;
 use tables::POOL_ROWS;
 use tables::ROWS;
@@ -11,7 +13,7 @@ ghost use Rattle.definition.specs.Request.{oneBit, holds, allowed};
 ghost use Rattle.tables.specs.Below.{first};
 ghost use Rattle.tables.specs.Views.{pool, ranges, wires, spanOf, poolAt, rangeOf, rangeAt, wireOf, wireAt, poolView};
 ghost use Rattle.search.specs.Asks.{kindOf, needOf, inputNeed};
-ghost use Rattle.search.specs.Steps.{Up, Below, Bases, Steps};
+ghost use Rattle.search.specs.Steps.{Bases, Steps};
 ghost use Rattle.search.specs.Finds.{InOrder, Finds, FindsInput};
 
 // The kinds whose rows hold ranges: every kind but inputs.
@@ -144,36 +146,6 @@ pub fn first_on<'a>(
         i += 1;
     }
     Hit::Clear
-}
-
-// The least multiple of `alignment` from `value` on, or `stop` where that is not below `stop`. Nothing wraps.
-pub fn align_up(value: u64, alignment: u64, stop: u64) -> u64
-    requires { ⌜ 0 < alignment ⌝ }
-    ensures { λ r. ⌜ Up value alignment stop r ⌝ }
-{
-    if stop <= value {
-        return stop;
-    }
-    let over = value % alignment;
-    if over == 0 {
-        return value;
-    }
-    let step = alignment - over;
-    if step < stop - value {
-        return value + step;
-    }
-    stop
-}
-
-// The first base too high for a range of `size` that ends at `hi` or before: 0 where none fits.
-pub fn bases_below(hi: u64, size: u64) -> u64
-    requires { ⌜ 0 < size ⌝ }
-    ensures { λ r. ⌜ Below hi size r ⌝ }
-{
-    if hi < size {
-        return 0;
-    }
-    hi - size + 1
 }
 
 // The first base too high for pool row `k`: 0 where none fits, and where the row is of another domain.

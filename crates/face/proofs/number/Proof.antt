@@ -1,6 +1,6 @@
 -- In the list, or past its end. Assumes nothing.
 use borrow.Author.Needs.{needs}
-use Rattle.face.proofs.CallLaws.{past-end}
+use Rattle.coding.proofs.SizeLaws.{past-end}
 use native.Mathlib.Omega.{arith}
 use Rattle.face.proofs.number.Statement.{statement}
 use Rattle.face.proofs.number.Tie as tie
