@@ -80,15 +80,16 @@ mod doors {
     }
 }
 
-/// The first numbers of the rows that a request was granted.
+/// The first numbers of the rows that a request was granted: three of an MSI request, the base of any other.
 #[cfg(feature = "list")]
 #[repr(C)]
 #[derive(Default)]
 pub struct Bases {
     pub accepted: bool,
-    pub first: u64,
-    pub second: u64,
-    pub third: u64,
+    pub base: u64,
+    pub device: u32,
+    pub event: u32,
+    pub lpi: u32,
 }
 
 /// The tables of one kind, by the kind's number.

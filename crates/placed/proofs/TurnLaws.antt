@@ -17,10 +17,10 @@ use Rattle.tables.specs.Views.{stateView}
 use Rattle.tables.specs.declared.State.{State}
 use Rattle.request.specs.Asked.{requestOf}
 use Rattle.request.specs.declared.Request.{Request}
-use Rattle.resolve.specs.Outcomes.{basesIn, after}
-use Rattle.resolve.specs.declared.Bases.{Bases}
-use Rattle.steps.specs.Steps.{clear, Steady, indexed, indexFor, turned, Recorded}
-use Rattle.steps.proofs.StepLaws.{turned-skips}
+use Rattle.finding.specs.Outcome.{basesIn, after}
+use Rattle.finding.specs.declared.Bases.{Bases}
+use Rattle.steps.specs.Steps.{clear, Steady, indexed, indexFor, turned, writtenAt}
+use Rattle.steps.proofs.StepLaws.{written-is, turned-skips}
 use Rattle.steps.proofs.PlanLaws.{turned-in-place}
 use Rattle.placed.proofs.StateFields.{withIndex}
 
@@ -41,13 +41,13 @@ module _ (h : State) (r : Request) (i : ℕ) (ys : List ℕ) where
   Ready = (clear (stateView h) ≡ true) × (ltb i (length ys / recordSize) ≡ true)
 
   abbrev pub Answered : State → Bases → Type 0
-  Answered d e = (stateView d ≡ after (stateView h) answerTo) × (e ≡ basesIn answerTo)
+  Answered d e = (stateView d ≡ after (stateView h) answerTo) × (e ≡ basesIn (requestOf r .want) answerTo)
 
   abbrev pub Index : Bases → ℕ → Type 0
   Index e x = x ≡ indexFor e i
 
   abbrev pub Wrote : Bases → List ℕ → Type 0
-  Wrote e zs = Recorded i r e ys zs
+  Wrote e zs = zs ≡ writtenAt i r e ys
 
   abbrev pub Done : State → List ℕ → Type 0
   Done d zs = lent (stateView d) zs ≡ turned i (requestOf r) (stateView h) ys
@@ -62,4 +62,4 @@ module _ (h : State) (r : Request) (i : ℕ) (ys : List ℕ) where
 
   pub answered-in-place : Steady (stateView h) → Ready → (d : State) (e : Bases) (x : ℕ) (zs : List ℕ) → Answered d e → Index e x → Wrote e zs → Done (withIndex x d) zs
   answered-in-place steady (c, l) d e x zs (s, b) j w =
-      ap₂ lent (ap₂ (λ (n : ℕ) (u : C.State). saying (indexed n (u .said)) u) (j ∙ ap (λ (f : Bases). indexFor f i) b) s) (w answerTo b) ∙ turned-in-place i (requestOf r) (stateView h) ys c l (steady c)
+      ap₂ lent (ap₂ (λ (n : ℕ) (u : C.State). saying (indexed n (u .said)) u) (j ∙ ap (λ (f : Bases). indexFor f i) b) s) (w ∙ ap (λ (f : Bases). writtenAt i r f ys) b ∙ written-is i r answerTo ys) ∙ turned-in-place i (requestOf r) (stateView h) ys c l (steady c)

@@ -25,7 +25,7 @@ use Rattle.definition.specs.RunLaws.{run-accepted, run-refused, record-length}
 use Rattle.turns.specs.Turns.{putFrom}
 use Rattle.turns.proofs.TurnLaws.{put-append, put-nil}
 use Rattle.allocation.proofs.ServeLaws.{into-refused, into-granted}
-use Rattle.resolve.specs.Outcomes.{basesIn, after}
+use Rattle.finding.specs.Outcome.{basesIn, after}
 use Rattle.steps.specs.Steps.{clear, Steady, opened, indexed, numbered, answered, turned, turns, recorded, indexFor, settled, steps}
 use Rattle.steps.proofs.StepLaws.{not-clear, opened-unsound, opened-short, opened-clear, numbered-clear, numbered-refused, settled-clear, settled-refused, turned-skips, turned-answers}
 
@@ -102,13 +102,13 @@ module _ (i : ℕ) (r : Request) (t : State) (out : List ℕ) where
   room-of e = let l : i < length out / recordSize = ltb-true i (length out / recordSize) e in omega (arith, l)
 
   pub turned-in-place : clear t ≡ true → ltb i (length out / recordSize) ≡ true → T (sound kinds t)
-      → lent (saying (indexed (indexFor (basesIn answer) i) (after t answer .said)) (after t answer)) (recorded i r answer out) ≡ turned i r t out
+      → lent (saying (indexed (indexFor (basesIn (r .want) answer) i) (after t answer .said)) (after t answer)) (recorded i r answer out) ≡ turned i r t out
   turned-in-place c e h = go answer refl
     where
       snd : sound kinds t ≡ true
       snd = T-true (sound kinds t) h
 
-      go : (x : Answer (List Claim)) → answer ≡ x → lent (saying (indexed (indexFor (basesIn x) i) (after t x .said)) (after t x)) (recorded i r x out) ≡ turned i r t out
+      go : (x : Answer (List Claim)) → answer ≡ x → lent (saying (indexed (indexFor (basesIn (r .want) x) i) (after t x .said)) (after t x)) (recorded i r x out) ≡ turned i r t out
       go (accepted cs) q = sym (turned-accepted i r t out snd (quiet-of c) (room-of e) cs q)
       go (refused x) q = ap (λ (w : Said). lent (saying w t) out) (told-at i x) ∙ sym (turned-refused i r t out snd (quiet-of c) (room-of e) x q)
 

@@ -12,10 +12,9 @@ use Rattle.definition.specs.Calls.{State, sound, saying, settle}
 use Rattle.definition.specs.Pools.{Claim}
 use Rattle.definition.specs.Plan.{Lent, lent, allocateInto, grant, recordOf}
 use Rattle.turns.specs.Turns.{putFrom}
-use Rattle.request.specs.Asked.{requestOf}
 use Rattle.request.specs.declared.Request as R
-use Rattle.resolve.specs.Outcomes.{basesIn}
-use Rattle.resolve.specs.declared.Bases.{Bases}
+use Rattle.finding.specs.declared.Bases.{Bases}
+use Rattle.allocation.specs.Records.{listOf, recordIn}
 
 -- no request was refused so far
 abbrev pub clear : State → Bool
@@ -59,9 +58,9 @@ recorded i r (refused y) out = out
 abbrev pub indexFor : Bases → ℕ → ℕ
 indexFor b i = elim (b .accepted) [ true ↦ 0 | false ↦ i ]
 
--- the record of an accepted request in its place, and no other number changed
-abbrev pub Recorded : ℕ → R.Request → Bases → List ℕ → List ℕ → Type 0
-Recorded i r b out out′ = (a : Answer (List Claim)) → b ≡ basesIn a → out′ ≡ recorded i (requestOf r) a out
+-- the record of an accepted request in its place, and no other number changed: law `written-is` ties it to what the answer writes
+abbrev pub writtenAt : ℕ → R.Request → Bases → List ℕ → List ℕ
+writtenAt i r b out = elim (b .accepted) [ true ↦ putFrom (recordSize * i) (listOf (recordIn r b)) out | false ↦ out ]
 
 -- after the last: a refusal puts the tables back as they were at the start
 abbrev pub settled : State → State → State

@@ -149,7 +149,7 @@ module _ {M : Type 1} (𝓤 : URA M) (H : Heap 𝓤) (A : Atoms 𝓤) (W : Given
         -- [the result's 0; κ's token 1; _21 2; _20 4; _19 6; _18 8; _17 10; _16 12; _15 14; _14 16; _13 18; _12 20; _11 22; _10 24; _9 26; _8 28; _7 30; _6 32; _5 34; _4 36; _3 38; _2 40; _1 42; _0 44]
         land ! (from ! (stop !)) (init ! 44 refl (typed d v d-is)) $ returns ! (look ! 44 refl) $
         leave ! 44 refl refl $ leave ! 42 refl refl $ leave ! 40 refl refl $ leave ! 38 refl refl $ leave ! 36 refl refl $ leave ! 34 refl refl $ leave ! 32 refl refl $ leave ! 30 refl refl $ leave ! 28 refl refl $ leave ! 26 refl refl $ leave ! 24 refl refl $ leave ! 22 refl refl $ leave ! 20 refl refl $ leave ! 18 refl refl $ leave ! 16 refl refl $ leave ! 14 refl refl $ leave ! 12 refl refl $ leave ! 10 refl refl $ leave ! 8 refl refl $ leave ! 6 refl refl $ leave ! 4 refl refl $ leave ! 2 refl refl $ free0 ! $
-        move ! (1 ∷ []) $ by ! (exits d v (record { sized = ranges-full t _ t-is; at = e .at; chosen = e .chosen }))))))))))))))))))))))))))))))))))
+        move ! (1 ∷ []) $ by ! (exits d v (record { sized = ranges-full t _ t-is; at = e .at; idle = e .idle; chosen = e .chosen }))))))))))))))))))))))))))))))))))
 
 module _ {M : Type 1} (𝓤 : URA M) (H : Heap 𝓤) (A : Atoms 𝓤) (W : Given 𝓤 H A) (at-mem : Memory → SProp 𝓤) (run : Routine → Fun 𝓤) where
   f-walks : (C : Calls 𝓤 H) (Λ : Loops 𝓤 H) → FmC 𝓤 H (W .laws) C → Triple 𝓤 (C #g) (G 𝓤 H A at-mem run) → Walks 𝓤 H A f.ended stayed (WpFn 𝓤 H C Λ code.function) (f.clauses 𝓤 H A at-mem run)

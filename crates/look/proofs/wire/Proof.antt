@@ -149,7 +149,7 @@ module _ {M : Type 1} (𝓤 : URA M) (H : Heap 𝓤) (A : Atoms 𝓤) (W : Given
         -- [the result's 0; κ's token 1; _20 2; _19 4; _18 6; _17 8; _16 10; _15 12; _14 14; _13 16; _12 18; _11 20; _10 22; _9 24; _8 26; _7 28; _6 30; _5 32; _4 34; _3 36; _2 38; _1 40; _0 42]
         land ! (from ! (stop !)) (init ! 42 refl (typed d v d-is)) $ returns ! (look ! 42 refl) $
         leave ! 42 refl refl $ leave ! 40 refl refl $ leave ! 38 refl refl $ leave ! 36 refl refl $ leave ! 34 refl refl $ leave ! 32 refl refl $ leave ! 30 refl refl $ leave ! 28 refl refl $ leave ! 26 refl refl $ leave ! 24 refl refl $ leave ! 22 refl refl $ leave ! 20 refl refl $ leave ! 18 refl refl $ leave ! 16 refl refl $ leave ! 14 refl refl $ leave ! 12 refl refl $ leave ! 10 refl refl $ leave ! 8 refl refl $ leave ! 6 refl refl $ leave ! 4 refl refl $ leave ! 2 refl refl $ free0 ! $
-        move ! (1 ∷ []) $ by ! (exits d v (record { sized = wires-full t _ t-is; at = e .at; chosen = e .chosen })))))))))))))))))))))))))))))))))
+        move ! (1 ∷ []) $ by ! (exits d v (record { sized = wires-full t _ t-is; at = e .at; idle = e .idle; chosen = e .chosen })))))))))))))))))))))))))))))))))
 
 module _ {M : Type 1} (𝓤 : URA M) (H : Heap 𝓤) (A : Atoms 𝓤) (W : Given 𝓤 H A) (at-mem : Memory → SProp 𝓤) (run : Routine → Fun 𝓤) where
   f-walks : (C : Calls 𝓤 H) (Λ : Loops 𝓤 H) → FmC 𝓤 H (W .laws) C → Triple 𝓤 (C #g) (G 𝓤 H A at-mem run) → Walks 𝓤 H A f.ended stayed (WpFn 𝓤 H C Λ code.function) (f.clauses 𝓤 H A at-mem run)
