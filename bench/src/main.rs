@@ -69,7 +69,7 @@ fn single_requests(input: &Input) {
     #[cfg(feature = "list")]
     in_place(input);
     println!(
-        "| one request by value, {} | original | kind's core | ratio | kind's call, with its test | ratio | `resolve` | ratio |",
+        "| one request by value, {} | original | kind's core | ratio | kind's call, with its test | ratio | `allocation::resolve` | ratio |",
         input.name
     );
     println!("|---|---|---|---|---|---|---|---|");
@@ -146,7 +146,7 @@ fn run_of(input: &Input, length: usize) {
     };
     // SAFETY: the tables were found sound before each.
     let resolve = |state: &mut Box<State>| numbers.iter().for_each(|one| unsafe { ours::resolve(state, one) });
-    row("`resolve` one by one, the state by value", median(1, || state.clone(), resolve));
+    row("`allocation::resolve` one by one, the state by value", median(1, || state.clone(), resolve));
     let kinds = || (1..=5).map(|kind| OfKind::of(&state, kind)).collect::<Vec<_>>();
     let call = |kinds: &mut Vec<OfKind>| {
         for one in &numbers {
@@ -201,7 +201,7 @@ fn stacks(input: &Input) {
             // SAFETY: the tables were found sound.
             taken_by(|| unsafe { ours::resolve(&mut copy, numbers) })
         };
-        row(&format!("`resolve`, {name}"), deepest(&resolve));
+        row(&format!("`allocation::resolve`, {name}"), deepest(&resolve));
         let allocate = |numbers: &ours::Flat| {
             let mut copy = state.clone();
             taken_by(|| ours::allocate(&mut copy, numbers))
