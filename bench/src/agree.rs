@@ -93,26 +93,26 @@ fn same(input: &Input, call: &str, got: &crate::tables::Lent, expected: &crate::
 #[cfg(feature = "plan")]
 pub fn check_plan(input: &Input, requests: &[Request]) {
     let (state, expected) = planned(input, requests);
-    let (mut bare, mut whole) = (lent(&state), lent(&state));
+    let mut whole = lent(&state);
     let numbers: Vec<ours::Flat> = requests.iter().map(flat).collect();
-    // SAFETY: the tables of a judge that has just started are sound.
-    unsafe { ours::run(&mut bare, &numbers) };
     ours::plan(&mut whole, &numbers);
-    same(input, "run", &bare, &expected);
-    same(input, "plan", &whole, &expected);
+    same(input, "plan::numbers::plan", &whole, &expected);
 }
 
 /// The same requests as a list of structs, through the three doors; the part handed back is all records.
 #[cfg(feature = "list")]
 pub fn check_list(input: &Input, requests: &[Request]) {
     let (state, expected) = planned(input, requests);
-    let (mut left, mut each, mut handed) = (lent(&state), lent(&state), lent(&state));
+    let (mut left, mut each, mut flatly, mut handed) = (lent(&state), lent(&state), lent(&state), lent(&state));
+    let numbers: Vec<ours::Flat> = requests.iter().map(flat).collect();
     let list: Vec<_> = requests.iter().map(crate::list::Request::of).collect();
     ours::list_in(&mut left, &list);
     ours::placed_in(&mut each, &list);
+    ours::numbers_in(&mut flatly, &numbers);
     let filled = ours::list_part(&mut handed, &list);
     same(input, "listed::plan_in", &left, &expected);
-    same(input, "placed::plan_in", &each, &expected);
+    same(input, "plan::list::plan_in", &each, &expected);
+    same(input, "plan::numbers::plan_in", &flatly, &expected);
     same(input, "listed::plan", &handed, &expected);
     assert_eq!(filled, requests.len() * RECORD, "{}: the filled part", input.name);
 }

@@ -11,6 +11,14 @@ pub enum Choice {
     Fixed(u64),
 }
 
+/// A DeviceID, an EventID or an LPI.
+#[repr(u8)]
+#[derive(Clone, Copy)]
+pub enum Id {
+    Auto,
+    Fixed(u32),
+}
+
 #[repr(u8)]
 #[derive(Clone, Copy)]
 pub enum Want {
@@ -18,7 +26,7 @@ pub enum Want {
     Pio { size: u64, alignment: u64, choice: Choice },
     WiredIrq { controller: u32, trigger: u32, sharing: u32, choice: Choice },
     HostIrq { choice: Choice },
-    Msi { controller: u32, its: u32, count: u32, device: Choice, event: Choice, lpi: Choice },
+    Msi { controller: u32, its: u32, count: u32, device: Id, event: Id, lpi: Id },
 }
 
 #[repr(C)]
@@ -41,7 +49,7 @@ impl Request {
             }
             Need::Host { irq } => Want::HostIrq { choice: choice(irq) },
             Need::Msi { controller, its, count, device, event, lpi } => {
-                Want::Msi { controller, its, count, device: choice(device), event: choice(event), lpi: choice(lpi) }
+                Want::Msi { controller, its, count, device: id(device), event: id(event), lpi: id(lpi) }
             }
         };
         Request { requester: request.requester, slot: request.slot, want }
@@ -52,5 +60,12 @@ fn choice<T: Into<u64>>(asked: calls::Choice<T>) -> Choice {
     match asked {
         calls::Choice::Auto => Choice::Auto,
         calls::Choice::Fixed(number) => Choice::Fixed(number.into()),
+    }
+}
+
+fn id<T: Into<u32>>(asked: calls::Choice<T>) -> Id {
+    match asked {
+        calls::Choice::Auto => Id::Auto,
+        calls::Choice::Fixed(number) => Id::Fixed(number.into()),
     }
 }

@@ -69,7 +69,7 @@ fn single_requests(input: &Input) {
     #[cfg(feature = "list")]
     in_place(input);
     println!(
-        "| one request by value, {} | original | kind's core | ratio | kind's call, with its test | ratio | `resolve` | ratio |",
+        "| one request by value, {} | original | kind's core | ratio | kind's call, with its test | ratio | `allocation::resolve` | ratio |",
         input.name
     );
     println!("|---|---|---|---|---|---|---|---|");
@@ -146,7 +146,7 @@ fn run_of(input: &Input, length: usize) {
     };
     // SAFETY: the tables were found sound before each.
     let resolve = |state: &mut Box<State>| numbers.iter().for_each(|one| unsafe { ours::resolve(state, one) });
-    row("`resolve` one by one, the state by value", median(1, || state.clone(), resolve));
+    row("`allocation::resolve` one by one, the state by value", median(1, || state.clone(), resolve));
     let kinds = || (1..=5).map(|kind| OfKind::of(&state, kind)).collect::<Vec<_>>();
     let call = |kinds: &mut Vec<OfKind>| {
         for one in &numbers {
@@ -159,9 +159,7 @@ fn run_of(input: &Input, length: usize) {
     #[cfg(feature = "plan")]
     {
         let make = || agree::lent(&state);
-        // SAFETY: the tables were found sound.
-        row("`run`, one plan", median(1, make, |lent| unsafe { ours::run(lent, &numbers) }));
-        row("`plan`, the test and one plan", median(1, make, |lent| ours::plan(lent, &numbers)));
+        row("`plan::numbers::plan`, by value", median(1, make, |lent| ours::plan(lent, &numbers)));
     }
     #[cfg(feature = "list")]
     {
@@ -171,8 +169,9 @@ fn run_of(input: &Input, length: usize) {
         let each =
             |state: &mut Box<State>| list.iter().filter(|one| unsafe { ours::resolve_in(state, one) }.accepted).count();
         row("`inplace::resolve` one by one", median(1, || state.clone(), each));
+        row("`plan::numbers::plan_in`, in place", median(1, make, |lent| ours::numbers_in(lent, &numbers)));
         row("`listed::plan_in`, over a list of structs", median(1, make, |lent| ours::list_in(lent, &list)));
-        row("`placed::plan_in`, each request in place", median(1, make, |lent| ours::placed_in(lent, &list)));
+        row("`plan::list::plan_in`, in place", median(1, make, |lent| ours::placed_in(lent, &list)));
         row("`listed::plan`, its filled part handed back", median(1, make, |lent| ours::list_part(lent, &list)));
     }
 }
@@ -201,7 +200,7 @@ fn stacks(input: &Input) {
             // SAFETY: the tables were found sound.
             taken_by(|| unsafe { ours::resolve(&mut copy, numbers) })
         };
-        row(&format!("`resolve`, {name}"), deepest(&resolve));
+        row(&format!("`allocation::resolve`, {name}"), deepest(&resolve));
         let allocate = |numbers: &ours::Flat| {
             let mut copy = state.clone();
             taken_by(|| ours::allocate(&mut copy, numbers))
@@ -232,16 +231,16 @@ fn stacks(input: &Input) {
     #[cfg(feature = "plan")]
     {
         let numbers: Vec<ours::Flat> = run(RUN).iter().map(flat).collect();
-        let (mut bare, mut whole) = (agree::lent(&state), agree::lent(&state));
-        // SAFETY: the tables were found sound.
-        row("`run`, one plan", taken_by(|| unsafe { ours::run(&mut bare, &numbers) }));
-        row("`plan`, the test and one plan", taken_by(|| ours::plan(&mut whole, &numbers)));
+        let mut whole = agree::lent(&state);
+        row("`plan::numbers::plan`, by value", taken_by(|| ours::plan(&mut whole, &numbers)));
     }
     #[cfg(feature = "list")]
     {
         let list: Vec<_> = run(RUN).iter().map(list::Request::of).collect();
         let (mut left, mut each, mut handed) = (agree::lent(&state), agree::lent(&state), agree::lent(&state));
-        row("`placed::plan_in`", taken_by(|| ours::placed_in(&mut each, &list)));
+        let (mut flatly, numbers): (_, Vec<ours::Flat>) = (agree::lent(&state), run(RUN).iter().map(flat).collect());
+        row("`plan::numbers::plan_in`", taken_by(|| ours::numbers_in(&mut flatly, &numbers)));
+        row("`plan::list::plan_in`", taken_by(|| ours::placed_in(&mut each, &list)));
         row("`listed::plan_in`", taken_by(|| ours::list_in(&mut left, &list)));
         let part = || {
             std::hint::black_box(ours::list_part(&mut handed, &list));

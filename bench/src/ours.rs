@@ -28,8 +28,6 @@ mod symbols {
         pub fn timed_wire_core(tables: *mut Core<Wires>, request: *const u64, n: usize);
         pub fn timed_msi_core(tables: *mut MsiCore, request: *const u64, n: usize);
         #[cfg(feature = "plan")]
-        pub fn timed_run(lent: *mut Lent, requests: *const u64, n: usize);
-        #[cfg(feature = "plan")]
         pub fn timed_plan(lent: *mut Lent, requests: *const u64, n: usize);
         pub fn timed_find(
             pool_controller: *const [u32; POOL_ROWS],
@@ -65,7 +63,9 @@ mod doors {
     extern "C" {
         #[link_name = "listed::plan_in"]
         pub fn plan_in(state: *mut State, requests: *const Slice<Request>, results: *const Slice<u64>);
-        #[link_name = "placed::plan_in"]
+        #[link_name = "plan::numbers::plan_in"]
+        pub fn numbers_in(state: *mut State, requests: *const Slice<u64>, results: *const Slice<u64>);
+        #[link_name = "plan::list::plan_in"]
         pub fn placed_in(state: *mut State, requests: *const Slice<Request>, results: *const Slice<u64>);
         #[link_name = "listed::plan"]
         pub fn plan(
@@ -80,15 +80,16 @@ mod doors {
     }
 }
 
-/// The first numbers of the rows that a request was granted.
+/// The first numbers of the rows that a request was granted: three of an MSI request, the base of any other.
 #[cfg(feature = "list")]
 #[repr(C)]
 #[derive(Default)]
 pub struct Bases {
     pub accepted: bool,
-    pub first: u64,
-    pub second: u64,
-    pub third: u64,
+    pub base: u64,
+    pub device: u32,
+    pub event: u32,
+    pub lpi: u32,
 }
 
 /// The tables of one kind, by the kind's number.
@@ -236,17 +237,7 @@ pub unsafe fn find(state: &State, size: u64, alignment: u64) -> u64 {
     )
 }
 
-/// A plan on tables that are known to be sound.
-///
-/// # Safety
-/// The tables are sound: `judge` says 0.
-#[cfg(feature = "plan")]
-pub unsafe fn run(lent: &mut Lent, requests: &[Flat]) {
-    let list = requests.as_flattened();
-    symbols::timed_run(lent, list.as_ptr(), list.len())
-}
-
-/// A plan over handed-in tables: the test, then the plan.
+/// A plan over plain numbers, on a state by value.
 #[cfg(feature = "plan")]
 pub fn plan(lent: &mut Lent, requests: &[Flat]) {
     let list = requests.as_flattened();
@@ -271,7 +262,17 @@ pub fn list_in(lent: &mut Lent, requests: &[Request]) {
     unsafe { doors::plan_in(&mut lent.state, &list, &results) }
 }
 
-/// The same, each request answered in place.
+/// A plan over plain numbers, where the state stands.
+#[cfg(feature = "list")]
+pub fn numbers_in(lent: &mut Lent, requests: &[Flat]) {
+    let numbers = requests.as_flattened();
+    let list = Slice { first: numbers.as_ptr().cast_mut(), n: numbers.len() };
+    let results = Slice { first: lent.results.as_mut_ptr(), n: lent.results.len() };
+    // SAFETY: as in `list_in`.
+    unsafe { doors::numbers_in(&mut lent.state, &list, &results) }
+}
+
+/// The same over a list of requests.
 #[cfg(feature = "list")]
 pub fn placed_in(lent: &mut Lent, requests: &[Request]) {
     let (list, results) = slices(&mut lent.results, requests);

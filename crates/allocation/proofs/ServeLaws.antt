@@ -1,19 +1,18 @@
 -- The tables' test before the answer, as the definition's calls have it. Assumes nothing.
-use mathlib.Core.Path.{_≡_, refl, _∙_, ap, ap₂}
-use mathlib.Core.Bool.{true, false}
+use mathlib.Core.Path.{_≡_, refl, sym, _∙_, ap, ap₂}
+use mathlib.Core.Bool.{true, false, true≢false}
 use mathlib.Core.List.{List}
 use Prim.Native.Nat.{ℕ, _<_, _≤_}
-use native.Mathlib.Omega.{arith}
 use lib.ListN.{length}
 use borrow.Author.Tests.{lt-leb, le-leb}
 use Rattle.definition.specs.Tables.{recordSize, Kind}
 use Rattle.definition.specs.Base.{Refusal, malformed, short, tell, Answer, accepted, refused, require}
 use Rattle.definition.specs.Pools.{Claim}
-use Rattle.definition.specs.Request.{Request, resolve}
+use Rattle.definition.specs.Request.{Want, Request, resolve}
 use Rattle.definition.specs.Calls.{State, poolsOf, ownersOf, sound, saying, granting, want, serve}
 use Rattle.definition.specs.Plan.{grant, recordOf, written, lent, allocateInto}
-use Rattle.resolve.specs.Outcomes.{basesIn, after}
-use Rattle.resolve.specs.declared.Bases.{Bases}
+use Rattle.finding.specs.Outcome.{firstsIn, basesIn, after}
+use Rattle.finding.specs.declared.Bases.{Bases}
 
 module _ (ks : List Kind) (r : Request) (v : State) where
   pub serve-unsound : sound ks v ≡ false → saying (tell 0 malformed) v ≡ serve ks (want r) v
@@ -44,22 +43,22 @@ module _ (ks : List Kind) (r : Request) (v : State) where
 
 -- ---- which way an answer went, by the numbers kept of it
 
-pub was-accepted : (a : Answer (List Claim)) (b : Bases) → b ≡ basesIn a → b .accepted ≡ true → (cs : List Claim) × (a ≡ accepted cs) × (b ≡ basesIn (accepted cs))
-was-accepted (accepted cs) b e h = (cs, refl, e)
-was-accepted (refused y) b e h = absurd (let z : _≡_ {A = ℕ} 0 1 = cc (ap (λ (x : Bases). x .accepted) e) in omega arith)
+pub was-accepted : (w : Want) (a : Answer (List Claim)) (b : Bases) → b ≡ basesIn w a → b .accepted ≡ true → (cs : List Claim) × (a ≡ accepted cs) × (b ≡ firstsIn w cs)
+was-accepted w (accepted cs) b e h = (cs, refl, e)
+was-accepted w (refused y) b e h = absurd (true≢false (sym h ∙ ap (λ (x : Bases). x .accepted) e))
 
-pub was-refused : (a : Answer (List Claim)) (b : Bases) → b ≡ basesIn a → b .accepted ≡ false → (y : Refusal) × (a ≡ refused y)
-was-refused (accepted cs) b e h = absurd (let z : _≡_ {A = ℕ} 0 1 = cc (ap (λ (x : Bases). x .accepted) e) in omega arith)
-was-refused (refused y) b e h = (y, refl)
+pub was-refused : (w : Want) (a : Answer (List Claim)) (b : Bases) → b ≡ basesIn w a → b .accepted ≡ false → (y : Refusal) × (a ≡ refused y)
+was-refused w (accepted cs) b e h = absurd (true≢false (sym (ap (λ (x : Bases). x .accepted) e) ∙ h))
+was-refused w (refused y) b e h = (y, refl)
 
 module _ (ks : List Kind) (r : Request) (v t : State) (out : List ℕ) (b : Bases) (s : sound ks v ≡ true) (l : recordSize ≤ length out)
-    (is : t ≡ after v (resolve (poolsOf v) (ownersOf v) r)) (at : b ≡ basesIn (resolve (poolsOf v) (ownersOf v) r)) where
+    (is : t ≡ after v (resolve (poolsOf v) (ownersOf v) r)) (at : b ≡ basesIn (r .want) (resolve (poolsOf v) (ownersOf v) r)) where
   pub into-kept : b .accepted ≡ false → lent t out ≡ allocateInto ks r v out
   into-kept h =
-      let (y, e) = was-refused (resolve (poolsOf v) (ownersOf v) r) b at h in
+      let (y, e) = was-refused (r .want) (resolve (poolsOf v) (ownersOf v) r) b at h in
       ap (λ x. lent x out) (is ∙ ap (after v) e) ∙ into-refused ks r v out s l y e
 
-  pub into-written : (xs out′ : List ℕ) → b .accepted ≡ true → ((cs : List Claim) → b ≡ basesIn (accepted cs) → xs ≡ recordOf (grant r cs)) → out′ ≡ written xs out → lent t out′ ≡ allocateInto ks r v out
+  pub into-written : (xs out′ : List ℕ) → b .accepted ≡ true → ((cs : List Claim) → b ≡ firstsIn (r .want) cs → xs ≡ recordOf (grant r cs)) → out′ ≡ written xs out → lent t out′ ≡ allocateInto ks r v out
   into-written xs out′ h f w =
-      let (cs, e, z) = was-accepted (resolve (poolsOf v) (ownersOf v) r) b at h in
+      let (cs, e, z) = was-accepted (r .want) (resolve (poolsOf v) (ownersOf v) r) b at h in
       ap₂ lent (is ∙ ap (after v) e) (w ∙ ap (λ x. written x out) (f cs z)) ∙ into-granted ks r v out s l cs e

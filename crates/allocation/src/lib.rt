@@ -1,18 +1,31 @@
-// One request: the tables handed in are tested, then the request is answered. Nothing is written before all of it stands.
+// One request over the whole state by value: the tables handed in are tested, then the request is answered as in place. Nothing is written before all of it stands.
 use choose::Refusal;
+use finding::Bases;
+use finding::Finding;
+use finding::value;
 use request::Request;
 use request::Want;
-use resolve::Bases;
+use tables::Holders;
 use tables::State;
 ghost use mathlib.Core.Path.{_≡_};
 ghost use Prim.Native.Nat.{_≤_};
+ghost use lib.Dec.{T};
 ghost use lib.ListN.{length};
 ghost use Rattle.definition.specs.Tables.{recordSize, kinds};
-ghost use Rattle.definition.specs.Calls.{want, serve};
+ghost use Rattle.definition.specs.Base.{tell};
+ghost use Rattle.definition.specs.Calls.{sound, saying, want, serve};
 ghost use Rattle.definition.specs.Plan.{written, lent, allocateInto};
 ghost use Rattle.tables.specs.Views.{stateView};
+ghost use Rattle.choose.specs.Told.{refusalOf};
 ghost use Rattle.request.specs.Asked.{requestOf};
-ghost use Rattle.allocation.specs.Records.{listOf, Makes};
+ghost use Rattle.finding.specs.Kept.{AllFree, Finds, keptHolders, kept};
+ghost use Rattle.allocation.specs.Records.{listOf, recordIn, Answers};
+
+// The state afterwards, and the first numbers of the rows granted.
+pub struct Outcome {
+    pub state: State,
+    pub bases: Bases,
+}
 
 // The nine numbers of a result.
 pub struct Record {
@@ -27,28 +40,120 @@ pub struct Record {
     pub f: u64,
 }
 
+// The numbers of a refusal beside tables that stay as they were.
+pub fn refuse(s: State, y: Refusal) -> State
+    ensures { λ t. ⌜ stateView t ≡ saying (tell 0 (refusalOf y)) (stateView s) ⌝ }
+{
+    let said = request::numbers(y);
+    let mut t = s;
+    t.number = said.number;
+    t.index = 0;
+    t.namespace = said.namespace;
+    t.owner = said.owner;
+    t.detail = said.detail;
+    t
+}
+
+// What the request is granted, and where its rows go: the tables are asked as in place.
+pub fn find(s: State, r: Request) -> Finding
+    requires { ⌜ T (sound kinds (stateView s)) ⌝ }
+    ensures { λ f. ⌜ Finds s (requestOf r) f ⌝ }
+{
+    let q = finding::queried(r);
+    let a = finding::ask(q, 1);
+    let mmio = value::see_range(s.auto.mmio, s.fixed.mmio, s.owners.mmio, a);
+    let a = finding::ask(q, 2);
+    let pio = value::see_range(s.auto.pio, s.fixed.pio, s.owners.pio, a);
+    let a = finding::ask_wire(q);
+    let input = value::see_wire(s.auto.input, s.fixed.input, s.owners.input, a);
+    let a = finding::ask(q, 4);
+    let host = value::see_range(s.auto.host, s.fixed.host, s.owners.host, a);
+    let a = finding::ask_device(q);
+    let device = value::see_range(s.auto.device, s.fixed.device, s.owners.device, a);
+    let a = finding::ask_event(q, device);
+    let event = value::see_range(s.auto.event, s.fixed.event, s.owners.event, a);
+    let a = finding::ask_lpi(q, event);
+    let lpi = value::see_range(s.auto.lpi, s.fixed.lpi, s.owners.lpi, a);
+    finding::verdict(q, mmio, pio, input, host, device, event, lpi)
+}
+
+// The owner tables with what was found: a row at the end of each table that it names.
+pub fn rows_kept(h: Holders, f: Finding) -> Holders
+    requires { ⌜ AllFree f h ⌝ }
+    ensures { λ r. ⌜ r ≡ keptHolders f h ⌝ }
+{
+    let p = finding::put(f, 1);
+    let mmio = value::put_range(h.mmio, p);
+    let p = finding::put(f, 2);
+    let pio = value::put_range(h.pio, p);
+    let p = finding::put_wire(f);
+    let input = value::put_wire(h.input, p);
+    let p = finding::put(f, 4);
+    let host = value::put_range(h.host, p);
+    let p = finding::put(f, 5);
+    let device = value::put_range(h.device, p);
+    let p = finding::put_event(f);
+    let event = value::put_range(h.event, p);
+    let p = finding::put_lpi(f);
+    let lpi = value::put_range(h.lpi, p);
+    Holders {
+        mmio,
+        pio,
+        input,
+        host,
+        device,
+        event,
+        lpi,
+    }
+}
+
+// What was found, stored: the rows, and the five numbers.
+pub fn keep(s: State, f: Finding) -> State
+    requires { ⌜ AllFree f (s .owners) ⌝ }
+    ensures { λ t. ⌜ t ≡ kept f s ⌝ }
+{
+    let owners = rows_kept(s.owners, f);
+    let mut t = s;
+    t.owners = owners;
+    t.number = f.said.number;
+    t.index = 0;
+    t.namespace = f.said.namespace;
+    t.owner = f.said.owner;
+    t.detail = f.said.detail;
+    t
+}
+
+// One request on sound tables: 2, then 6, 7 or 8, then 9.
+pub fn resolve(s: State, r: Request) -> Outcome
+    requires { ⌜ T (sound kinds (stateView s)) ⌝ }
+    ensures { λ o. ⌜ Answers s (requestOf r) o ⌝ }
+{
+    let f = find(s, r);
+    let state = keep(s, f);
+    let bases = f.bases;
+    Outcome { state, bases }
+}
+
 // One request of any kind over the whole set of tables.
 pub fn allocate(s: State, r: Request) -> State
     ensures { λ t. ⌜ stateView t ≡ serve kinds (want (requestOf r)) (stateView s) ⌝ }
 {
     if sound::sound(s) {
-        let o = resolve::resolve(s, r);
+        let o = resolve(s, r);
         let t = o.state;
         return t;
     }
-    let o = resolve::refuse(s, Refusal::Malformed);
-    let t = o.state;
-    t
+    refuse(s, Refusal::Malformed)
 }
 
 // The record of an accepted request, from the first numbers of its rows.
 pub fn record_of(r: Request, bases: Bases) -> Record
-    ensures { λ n. ⌜ Makes r bases n ⌝ }
+    ensures { λ n. ⌜ n ≡ recordIn r bases ⌝ }
 {
     let q = r.requester as u64;
     let slot = r.slot as u64;
     let want = r.want;
-    let x = bases.first;
+    let x = bases.base;
     match want {
         Want::Mmio { size, .. } => line(1, q, slot, x, size, 0, 0, 0, 0),
         Want::Pio { size, .. } => line(2, q, slot, x, size, 0, 0, 0, 0),
@@ -80,9 +185,9 @@ pub fn record_of(r: Request, bases: Bases) -> Record
             slot,
             controller as u64,
             its as u64,
-            x,
-            bases.second,
-            bases.third,
+            bases.device.0 as u64,
+            bases.event.0 as u64,
+            bases.lpi.0 as u64,
             count as u64,
         ),
     }
@@ -136,7 +241,7 @@ pub fn allocate_into(s: State, r: Request, out: &mut [u64]) -> State
 {
     if sound::sound(s) {
         if 9 <= out.len() {
-            let o = resolve::resolve(s, r);
+            let o = resolve(s, r);
             let t = o.state;
             let bases = o.bases;
             if bases.accepted {
@@ -146,11 +251,7 @@ pub fn allocate_into(s: State, r: Request, out: &mut [u64]) -> State
             }
             return t;
         }
-        let o = resolve::refuse(s, Refusal::Short);
-        let t = o.state;
-        return t;
+        return refuse(s, Refusal::Short);
     }
-    let o = resolve::refuse(s, Refusal::Malformed);
-    let t = o.state;
-    t
+    refuse(s, Refusal::Malformed)
 }

@@ -16,14 +16,14 @@ use Rattle.tables.specs.Views.{rangesView}
 use Rattle.tables.specs.declared.Ranges.{Ranges}
 use Rattle.sound.proofs.KindLaws.{set-ranges}
 use Rattle.choose.specs.Told.{refusalOf}
-use Rattle.msi.specs.Msi.{Ready, msiRows, toldMsi, msiWant}
+use Rattle.msi.specs.Msi.{msiRows, toldMsi, msiWant}
 use Rattle.msi.specs.declared.Msi.{Msi}
 use Rattle.msi.specs.declared.MsiChosen.{MsiChosen}
 use Rattle.msi.specs.declared.MsiChosen.the-variants.{Stands, Refused}
-use Rattle.grant.specs.Grants.{claimsGot}
-use Rattle.resolve.specs.Outcomes.{after}
-use Rattle.resolve.proofs.AnswerLaws.{msi-is}
-use Rattle.resolve.proofs.ReadyLaws.{ready}
+use Rattle.finding.specs.Outcome.{after}
+use Rattle.msi.proofs.ListLaws.{msi-is}
+use Rattle.calls.specs.Grants.{Ready, claimsGot}
+use Rattle.calls.proofs.ReadyLaws.{ready}
 use Rattle.calls.specs.declared.RangeTables.{RangeTables}
 use Rattle.calls.specs.declared.MsiTables.{MsiTables}
 use Rattle.calls.specs.declared.MsiAnswer.{MsiAnswer}

@@ -27,9 +27,9 @@ use Rattle.choose.specs.Told.{choiceOf, told, chosenIn}
 use Rattle.choose.specs.Wired.{wireAsked}
 use Rattle.choose.specs.declared.Choice.{Choice}
 use Rattle.choose.specs.declared.wired.Wire.{Wire}
-use Rattle.resolve.specs.Outcomes.{after}
-use Rattle.resolve.proofs.AnswerLaws.{claimOf}
-use Rattle.resolve.proofs.ReadyLaws.{pool-order}
+use Rattle.finding.specs.Outcome.{after}
+use Rattle.finding.proofs.AnswerLaws.{claimOf}
+use Rattle.finding.proofs.ReadyLaws.{pool-order}
 use Rattle.calls.specs.declared.RangeTables.{RangeTables}
 use Rattle.calls.specs.declared.RangeAnswer.{RangeAnswer}
 use Rattle.calls.specs.declared.WireTables.{WireTables}

@@ -21,7 +21,7 @@ use Rattle.choose.specs.declared.Choice.{Choice}
 use Rattle.choose.specs.declared.Chosen.{Chosen}
 use Rattle.choose.specs.declared.Chosen.the-variants.{Stands, Refused}
 use Rattle.choose.specs.declared.wired.Wire.{Wire}
-use Rattle.grant.specs.Grants.{rowGot}
+use Rattle.calls.specs.Grants.{rowGot}
 use Rattle.calls.specs.declared.RangeTables.{RangeTables}
 use Rattle.calls.specs.declared.RangeAnswer.{RangeAnswer}
 use Rattle.calls.specs.declared.WireTables.{WireTables}

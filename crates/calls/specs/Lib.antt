@@ -1,2 +1,3 @@
+pub mod Grants
 pub mod Kinds
 pub mod Msis

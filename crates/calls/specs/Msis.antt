@@ -18,7 +18,7 @@ use Rattle.msi.specs.Msi.{part, toldMsi, msiIn}
 use Rattle.msi.specs.declared.Msi.{Msi}
 use Rattle.msi.specs.declared.MsiChosen.{MsiChosen}
 use Rattle.msi.specs.declared.MsiChosen.the-variants.{Stands, Refused}
-use Rattle.grant.specs.Grants.{claimsGot}
+use Rattle.calls.specs.Grants.{claimsGot}
 use Rattle.calls.specs.declared.RangeTables.{RangeTables}
 use Rattle.calls.specs.declared.MsiTables.{MsiTables}
 use Rattle.calls.specs.declared.MsiAnswer.{MsiAnswer}

@@ -2,6 +2,9 @@
 use choose::Choice;
 use choose::Chosen;
 use choose::Refusal;
+use choose::ids::DeviceChoice;
+use choose::ids::EventChoice;
+use choose::ids::LpiChoice;
 use choose::wired::Wire;
 use msi::Msi;
 use msi::MsiChosen;
@@ -20,9 +23,12 @@ ghost use Rattle.definition.specs.Request.{memory, ports, wire, irq};
 ghost use Rattle.spans.specs.Tests.{limitsOf};
 ghost use Rattle.search.specs.Asks.{kindOf};
 ghost use Rattle.choose.specs.Told.{choiceOf};
+ghost use Rattle.choose.specs.Ids.{deviceChoice, eventChoice, lpiChoice};
 ghost use Rattle.calls.specs.Kinds.{Sensible, RangeServed, WireServed, ServesRange, ServesWire};
 ghost use Rattle.calls.specs.Msis.{setMsi, keeping, SomeEvents, MsiServed, ServesMsi};
 ghost use Rattle.definition.specs.Request as R;
+
+pub mod rows;
 
 #[repr(C)]
 pub struct RangeTables {
@@ -66,7 +72,7 @@ pub fn range_answer(
     let held = t.held;
     if sound::ranges_set(l, auto, fixed, held, t.owners) {
         if good {
-            let got = grant::grant_range(t.owners, auto, fixed, need, choice);
+            let got = rows::grant_range(t.owners, auto, fixed, need, choice);
             let owners = got.owners;
             let chosen = got.chosen;
             let tables = RangeTables {
@@ -96,7 +102,7 @@ pub fn wire_answer(t: WireTables, good: bool, ask: Wire, choice: Choice) -> Wire
     let held = t.held;
     if sound::wires_set(auto, fixed, held, t.owners) {
         if good {
-            let got = grant::grant_wire(t.owners, auto, fixed, ask, choice);
+            let got = rows::grant_wire(t.owners, auto, fixed, ask, choice);
             let owners = got.owners;
             let chosen = got.chosen;
             let tables = WireTables {
@@ -291,7 +297,7 @@ pub fn msi_answer(t: MsiTables, good: bool, ask: Msi) -> MsiAnswer
 {
     if msi_set(t) {
         if good {
-            let got = grant::grant_msi(
+            let got = rows::grant_msi(
                 t.device.owners,
                 t.event.owners,
                 t.lpi.owners,
@@ -329,11 +335,11 @@ pub fn allocate_msi(
     controller: u32,
     its: u32,
     count: u32,
-    device: Choice,
-    event: Choice,
-    lpi: Choice,
+    device: DeviceChoice,
+    event: EventChoice,
+    lpi: LpiChoice,
 ) -> MsiAnswer
-    ensures { λ r. ⌜ ServesMsi t requester slot (R.msi controller its count (choiceOf device) (choiceOf event) (choiceOf lpi)) r ⌝ }
+    ensures { λ r. ⌜ ServesMsi t requester slot (R.msi controller its count (deviceChoice device) (eventChoice event) (lpiChoice lpi)) r ⌝ }
 {
     let request = Request {
         requester,

@@ -5,6 +5,7 @@ ghost use Rattle.definition.specs.Tables.{nature};
 ghost use Rattle.search.specs.Asks.{kindOf};
 ghost use Rattle.choose.specs.Told.{DetailIs};
 
+pub mod ids;
 pub mod range;
 pub mod wired;
 

@@ -15,7 +15,7 @@ ghost use Rattle.definition.specs.Tables.{poolLimit, rowLimit, used};
 ghost use Rattle.tables.specs.Views.{pool, ranges, poolView, rangesView};
 ghost use Rattle.search.specs.Asks.{needOf};
 ghost use Rattle.search.specs.Finds.{InOrder};
-ghost use Rattle.choose.specs.Told.{choiceOf, told, AutomaticIs, FixedIs, placeIn, chosenIn};
+ghost use Rattle.choose.specs.Told.{choiceOf, told, AutomaticIs, FixedIs, placeIn};
 
 // The least free base: 7 where there is none.
 pub fn automatic<'a>(
@@ -116,62 +116,5 @@ pub fn place<'a>(
     match choice {
         Choice::Auto => automatic(pc, pi, ps, pe, pn, oc, oi, od, os, oe, on, need),
         Choice::Fixed(b) => fixed(fc, fi, fs, fe, nf, oc, oi, od, os, oe, ow, on, need, b),
-    }
-}
-
-// The row that a need is granted at the end of its table: 7; or 6, then 8; then 9 where no row is free.
-pub fn choose<'a>(
-    pc: &'a [u32; POOL_ROWS],
-    pi: &'a [u32; POOL_ROWS],
-    ps: &'a [u64; POOL_ROWS],
-    pe: &'a [u64; POOL_ROWS],
-    pn: usize,
-    fc: &'a [u32; POOL_ROWS],
-    fi: &'a [u32; POOL_ROWS],
-    fs: &'a [u64; POOL_ROWS],
-    fe: &'a [u64; POOL_ROWS],
-    nf: usize,
-    oc: &'a [u32; ROWS],
-    oi: &'a [u32; ROWS],
-    od: &'a [u32; ROWS],
-    os: &'a [u64; ROWS],
-    oe: &'a [u64; ROWS],
-    ow: &'a [u32; ROWS],
-    on: usize,
-    need: Need,
-    choice: Choice,
-) -> Chosen
-    requires { ⌜ (InOrder (pool pn (now pc) (now pi) (now ps) (now pe))) × (nf ≤ poolLimit) × (on ≤ rowLimit) × (0 < need .size) × (0 < need .alignment) ⌝ }
-    ensures { λ r. ⌜ told (needOf need) r ≡ chosenIn (used (poolView (pool pn (now (pc .entry)) (now (pi .entry)) (now (ps .entry)) (now (pe .entry))))) (used (poolView (pool nf (now (fc .entry)) (now (fi .entry)) (now (fs .entry)) (now (fe .entry))))) (used (rangesView (ranges on (now (oc .entry)) (now (oi .entry)) (now (od .entry)) (now (os .entry)) (now (oe .entry)) (now (ow .entry))))) (needOf need) (choiceOf choice) ⌝ }
-{
-    let got = place(
-        pc,
-        pi,
-        ps,
-        pe,
-        pn,
-        fc,
-        fi,
-        fs,
-        fe,
-        nf,
-        oc,
-        oi,
-        od,
-        os,
-        oe,
-        ow,
-        on,
-        need,
-        choice,
-    );
-    match got {
-        Chosen::Refused(y) => Chosen::Refused(y),
-        Chosen::Stands(b, e) => {
-            if on < ROWS {
-                return Chosen::Stands(b, e);
-            }
-            Chosen::Refused(Refusal::Full)
-        }
     }
 }

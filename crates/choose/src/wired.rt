@@ -12,7 +12,7 @@ ghost use Prim.Native.Nat.{_≤_, _<_};
 ghost use Rattle.definition.specs.Tables.{poolLimit, rowLimit, used};
 ghost use Rattle.tables.specs.Views.{pool, wires, wireOf, poolView, wiresView};
 ghost use Rattle.search.specs.Finds.{InOrder};
-ghost use Rattle.choose.specs.Told.{choiceOf, told, placeIn, chosenIn};
+ghost use Rattle.choose.specs.Told.{choiceOf, told, placeIn};
 ghost use Rattle.choose.specs.Wired.{wireAsked, Judges, AutomaticInput, FixedInput};
 
 // What a request asks of a controller's inputs.
@@ -137,60 +137,5 @@ pub fn place<'a>(
     match choice {
         Choice::Auto => automatic(pc, pi, ps, pe, pn, oc, ox, on, wire),
         Choice::Fixed(b) => fixed(fc, fi, fs, fe, nf, oc, ox, ot, oh, ow, on, wire, b),
-    }
-}
-
-// The row that a request is granted at the end of the table: 7; or 6, then 8; then 9 where no row is free.
-pub fn choose<'a>(
-    pc: &'a [u32; POOL_ROWS],
-    pi: &'a [u32; POOL_ROWS],
-    ps: &'a [u64; POOL_ROWS],
-    pe: &'a [u64; POOL_ROWS],
-    pn: usize,
-    fc: &'a [u32; POOL_ROWS],
-    fi: &'a [u32; POOL_ROWS],
-    fs: &'a [u64; POOL_ROWS],
-    fe: &'a [u64; POOL_ROWS],
-    nf: usize,
-    oc: &'a [u32; ROWS],
-    ox: &'a [u64; ROWS],
-    ot: &'a [u32; ROWS],
-    oh: &'a [u32; ROWS],
-    ow: &'a [u32; ROWS],
-    on: usize,
-    wire: Wire,
-    choice: Choice,
-) -> Chosen
-    requires { ⌜ (InOrder (pool pn (now pc) (now pi) (now ps) (now pe))) × (nf ≤ poolLimit) × (on ≤ rowLimit) ⌝ }
-    ensures { λ r. ⌜ told (wireAsked wire) r ≡ chosenIn (used (poolView (pool pn (now (pc .entry)) (now (pi .entry)) (now (ps .entry)) (now (pe .entry))))) (used (poolView (pool nf (now (fc .entry)) (now (fi .entry)) (now (fs .entry)) (now (fe .entry))))) (used (wiresView (wires on (now (oc .entry)) (now (ox .entry)) (now (ot .entry)) (now (oh .entry)) (now (ow .entry))))) (wireAsked wire) (choiceOf choice) ⌝ }
-{
-    let got = place(
-        pc,
-        pi,
-        ps,
-        pe,
-        pn,
-        fc,
-        fi,
-        fs,
-        fe,
-        nf,
-        oc,
-        ox,
-        ot,
-        oh,
-        ow,
-        on,
-        wire,
-        choice,
-    );
-    match got {
-        Chosen::Refused(y) => Chosen::Refused(y),
-        Chosen::Stands(b, e) => {
-            if on < ROWS {
-                return Chosen::Stands(b, e);
-            }
-            Chosen::Refused(Refusal::Full)
-        }
     }
 }

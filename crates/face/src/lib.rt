@@ -52,13 +52,9 @@ pub fn too_short(s: State, judged: bool) -> State
     ensures { λ t. ⌜ stateView t ≡ settle (stateView s) (require judged malformed (refused short)) ⌝ }
 {
     if judged {
-        let o = resolve::refuse(s, Refusal::Short);
-        let t = o.state;
-        return t;
+        return allocation::refuse(s, Refusal::Short);
     }
-    let o = resolve::refuse(s, Refusal::Malformed);
-    let t = o.state;
-    t
+    allocation::refuse(s, Refusal::Malformed)
 }
 
 // A call that adds or starts, or one request, from its numbers: 1, 11, 2 and the rest.

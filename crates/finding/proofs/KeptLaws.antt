@@ -1,14 +1,12 @@
 -- What is stored is what the definition's answer adds: a refusal, a row of each kind, three rows. Assumes nothing.
 use mathlib.Core.Path.{_≡_, refl, sym, _∙_, ap}
-use mathlib.Core.Bool.{Bool, true, false}
+use mathlib.Core.Bool.{false}
 use mathlib.Core.List.{List, [], _∷_}
 use Prim.Native.Nat.{ℕ, _+_, _<_}
 use native.Mathlib.Numerals.{add-one}
 use native.Mathlib.Omega.{arith}
-use lib.Dec.{ltb}
 use lib.ListN.{length}
-use borrow.Author.Tests.{ltb-true}
-use Rattle.definition.specs.Base.{full, accepted, refused, require}
+use Rattle.definition.specs.Base.{accepted, refused}
 use Rattle.definition.specs.Tables.{rowLimit, dom, Kind, mmio, pio, input, host, device, event, lpi, Span, Row}
 use Rattle.definition.specs.Pools.{at-kind, Claim, rowsOf}
 use Rattle.definition.specs.Request as R
@@ -22,25 +20,29 @@ use Rattle.tables.specs.declared.Ranges.{Ranges}
 use Rattle.tables.specs.declared.RangeRow.{RangeRow}
 use Rattle.tables.proofs.PushLaws.{push-range-view, push-wire-view}
 use Rattle.search.specs.declared.Need.{Need}
-use Rattle.choose.specs.Told.{refusalOf, told, placeIn, roomed, chosenIn}
+use Rattle.choose.specs.Told.{refusalOf, told, chosenIn}
 use Rattle.choose.specs.Wired.{wireAsked}
 use Rattle.choose.specs.declared.Refusal.{Refusal}
-use Rattle.choose.specs.declared.Refusal.the-variants.{Full}
 use Rattle.choose.specs.declared.Chosen.{Chosen}
 use Rattle.choose.specs.declared.Chosen.the-variants.{Stands, Refused}
 use Rattle.choose.specs.declared.wired.Wire.{Wire}
-use Rattle.grant.proofs.RoomLaws.{stands-end}
 use Rattle.request.specs.Asked.{saidOf}
-use Rattle.resolve.specs.Outcomes.{some, basesIn, after}
-use Rattle.resolve.proofs.AnswerLaws.{claimOf}
-use Rattle.resolve.proofs.OwnerLaws.{mmio-grown, pio-grown, input-grown, host-grown, msi-grown}
+use Rattle.msi.specs.Msi.{msiRows}
+use Rattle.msi.specs.Msi as MsiSpec
+use Rattle.msi.specs.declared.Msi.{Msi}
+use Rattle.tables.specs.declared.DeviceId.{DeviceId}
+use Rattle.tables.specs.declared.EventId.{EventId}
+use Rattle.tables.specs.declared.Lpi.{Lpi}
 use Rattle.store.specs.Store.{Free}
-use Rattle.finding.specs.Query.{deviceNeed, eventNeed, lpiNeed, narrowed}
-use Rattle.finding.specs.Finding.{refusal, rowFor, wireFor, ifRoom, given, rangeGranted, wireGranted, msiGranted}
+use Rattle.finding.specs.Outcome.{someBase, someMsi, firstsIn, basesIn, after}
+use Rattle.finding.specs.Finding.{refusal, rowFor, wireFor, given, rangeGranted, wireGranted, msiGranted}
 use Rattle.finding.specs.Finding as Said
 use Rattle.finding.specs.Kept.{keptHolders, AllFree, answer, Finds}
 use Rattle.finding.specs.declared.Finding.{Finding}
 use Rattle.finding.proofs.QueryLaws.{refusal-told}
+use Rattle.finding.proofs.RoomLaws.{stands-room, stands-end}
+use Rattle.finding.proofs.AnswerLaws.{claimOf}
+use Rattle.finding.proofs.OwnerLaws.{mmio-grown, pio-grown, input-grown, host-grown, msi-grown}
 
 none : (n : ℕ) → Free n false
 none n e = let z : _≡_ {A = ℕ} 0 1 = cc in absurd (omega arith)
@@ -55,63 +57,58 @@ module _ (s : State) (q : R.Request) where
       record {
         free = record { mmio = none _; pio = none _; input = none _; host = none _; device = none _; event = none _; lpi = none _ };
         state = ap (λ w. saying w (stateView s)) (refusal-told y) ∙ ap (after (stateView s)) e;
-        bases = ap basesIn e;
+        bases = ap (basesIn (q .want)) e;
       }
 
   granted-finds : (cs : List Claim) (f : Finding) → accepted cs ≡ answer s q → AllFree f (s .owners)
-      → f .said ≡ Said.saying 0 0 0 0 → f .bases ≡ some (baseAt 0 cs) (baseAt 1 cs) (baseAt 2 cs)
+      → f .said ≡ Said.saying 0 0 0 0 → f .bases ≡ firstsIn (q .want) cs
       → ((j : Kind) → holdersView (keptHolders f (s .owners)) j ≡ pushAll (holdersView (s .owners) j) (rowsOf j cs)) → Finds s q f
   granted-finds cs f e a w b g =
       record {
         free = a;
         state = (λ i. state (poolsView (s .auto) (s .fixed)) (holdersView (s .held)) (λ j. g j i) (saidOf (w i))) ∙ ap (after (stateView s)) e;
-        bases = b ∙ ap basesIn e;
+        bases = b ∙ ap (basesIn (q .want)) e;
       }
 
   -- one table's answer, whichever it is
   pub given-finds :
-      (k : Kind) (n : R.Need) (ps fs : List Span) (rs : List Row) (c : R.Choice) (x : Chosen) (at : ℕ) (f : ℕ → ℕ → Finding)
-      → answer s q ≡ claimOf k (chosenIn ps fs rs n c) → told n x ≡ placeIn ps fs rs n c → length rs ≡ at
-      → ((b e : ℕ) → at < rowLimit → e ≡ b + n .size → claimOf k (told n (Stands b e)) ≡ answer s q → Finds s q (f b e))
-      → Finds s q (given f at x)
-  unfolding roomed require
-  given-finds k n ps fs rs c (Refused y) at f a t l g = refused-finds y (sym (a ∙ ap (λ z. claimOf k (roomed rs z)) (sym t)))
-  given-finds k n ps fs rs c (Stands b e) at f a t l g = go (ltb at rowLimit) refl
-    where
-      is : (u : Bool) → ltb at rowLimit ≡ u → chosenIn ps fs rs n c ≡ require u full (told n (Stands b e))
-      is u h = ap (roomed rs) (sym t) ∙ ap (λ m. require (ltb m rowLimit) full (told n (Stands b e))) l ∙ ap (λ v. require v full (told n (Stands b e))) h
+      (k : Kind) (n : R.Need) (ps fs : List Span) (rs : List Row) (c : R.Choice) (x : Chosen) (f : ℕ → ℕ → Finding)
+      → answer s q ≡ claimOf k (chosenIn ps fs rs n c) → told n x ≡ chosenIn ps fs rs n c
+      → ((b e : ℕ) → length rs < rowLimit → e ≡ b + n .size → claimOf k (told n (Stands b e)) ≡ answer s q → Finds s q (f b e))
+      → Finds s q (given f x)
+  given-finds k n ps fs rs c (Refused y) f a t g = refused-finds y (sym (a ∙ ap (claimOf k) (sym t)))
+  given-finds k n ps fs rs c (Stands b e) f a t g = g b e (stands-room rs _ _ t) (stands-end ps fs rs n c _ t) (sym (a ∙ ap (claimOf k) (sym t)))
 
-      go : (u : Bool) → ltb at rowLimit ≡ u → Finds s q (ifRoom u (f b e))
-      go false h = refused-finds Full (sym (a ∙ ap (claimOf k) (is false h)))
-      go true h = g b e (ltb-true at rowLimit h) (stands-end ps fs rs n c _ (sym (is true h))) (sym (a ∙ ap (claimOf k) (is true h)))
-
-  module _ (z : SizedHolders (s .owners)) where
+  -- a request of one range
+  module _ (z : SizedHolders (s .owners)) (one : (cs : List Claim) → someBase (baseAt 0 cs) ≡ firstsIn (q .want) cs) where
     pub mmio-finds : (n : Need) (b e : ℕ) → s .owners .mmio .n < rowLimit → accepted (at-kind mmio (rangeOf (rowFor n b e)) ∷ []) ≡ answer s q → Finds s q (rangeGranted 1 n b e)
     mmio-finds n b e l a =
-        granted-finds _ (rangeGranted 1 n b e) a (record { mmio = λ _. l; pio = none _; input = none _; host = none _; device = none _; event = none _; lpi = none _ }) refl refl
+        granted-finds _ (rangeGranted 1 n b e) a (record { mmio = λ _. l; pio = none _; input = none _; host = none _; device = none _; event = none _; lpi = none _ }) refl (one _)
         (mmio-grown (s .owners) _ _ (pushed (s .owners .mmio) (rowFor n b e) (z .mmio) l))
 
     pub pio-finds : (n : Need) (b e : ℕ) → s .owners .pio .n < rowLimit → accepted (at-kind pio (rangeOf (rowFor n b e)) ∷ []) ≡ answer s q → Finds s q (rangeGranted 2 n b e)
     pio-finds n b e l a =
-        granted-finds _ (rangeGranted 2 n b e) a (record { mmio = none _; pio = λ _. l; input = none _; host = none _; device = none _; event = none _; lpi = none _ }) refl refl
+        granted-finds _ (rangeGranted 2 n b e) a (record { mmio = none _; pio = λ _. l; input = none _; host = none _; device = none _; event = none _; lpi = none _ }) refl (one _)
         (pio-grown (s .owners) _ _ (pushed (s .owners .pio) (rowFor n b e) (z .pio) l))
 
     pub host-finds : (n : Need) (b e : ℕ) → s .owners .host .n < rowLimit → accepted (at-kind host (rangeOf (rowFor n b e)) ∷ []) ≡ answer s q → Finds s q (rangeGranted 4 n b e)
     host-finds n b e l a =
-        granted-finds _ (rangeGranted 4 n b e) a (record { mmio = none _; pio = none _; input = none _; host = λ _. l; device = none _; event = none _; lpi = none _ }) refl refl
+        granted-finds _ (rangeGranted 4 n b e) a (record { mmio = none _; pio = none _; input = none _; host = λ _. l; device = none _; event = none _; lpi = none _ }) refl (one _)
         (host-grown (s .owners) _ _ (pushed (s .owners .host) (rowFor n b e) (z .host) l))
 
     pub input-finds : (w : Wire) (b e : ℕ) → s .owners .input .n < rowLimit → e ≡ b + 1 → claimOf input (told (wireAsked w) (Stands b e)) ≡ answer s q → Finds s q (wireGranted w b e)
     input-finds w b e l h a =
         granted-finds (at-kind input (wireOf (wireFor w b)) ∷ []) (wireGranted w b e) (ap (λ x. claimOf input (told (wireAsked w) (Stands b x))) (sym (h ∙ add-one b)) ∙ a)
-        (record { mmio = none _; pio = none _; input = λ _. l; host = none _; device = none _; event = none _; lpi = none _ }) refl refl
+        (record { mmio = none _; pio = none _; input = λ _. l; host = none _; device = none _; event = none _; lpi = none _ }) refl (one _)
         (input-grown (s .owners) _ _ (push-wire-view (s .owners .input) (w .controller) b (w .trigger) (w .sharing) (w .requester) (z .input) l))
 
-    pub msi-finds :
-        (n : Need) (b be e ee l le : ℕ) → s .owners .device .n < rowLimit → s .owners .event .n < rowLimit → s .owners .lpi .n < rowLimit
-        → accepted (at-kind device (rangeOf (rowFor (deviceNeed n) b be)) ∷ at-kind event (rangeOf (rowFor (eventNeed n (narrowed b)) e ee)) ∷ at-kind lpi (rangeOf (rowFor (lpiNeed n) l le)) ∷ []) ≡ answer s q
-        → Finds s q (msiGranted n b be e ee l le)
-    msi-finds n b be e ee l le p u v a =
-        granted-finds _ (msiGranted n b be e ee l le) a (record { mmio = none _; pio = none _; input = none _; host = none _; device = λ _. p; event = λ _. u; lpi = λ _. v }) refl refl
-        (msi-grown (s .owners) _ _ _ _ _ _ (pushed (s .owners .device) (rowFor (deviceNeed n) b be) (z .device) p)
-        (pushed (s .owners .event) (rowFor (eventNeed n (narrowed b)) e ee) (z .event) u) (pushed (s .owners .lpi) (rowFor (lpiNeed n) l le) (z .lpi) v))
+  -- a device, its events and LPIs
+  module _ (z : SizedHolders (s .owners))
+      (three : (cs : List Claim) → someMsi (record { 0 = baseAt 0 cs }) (record { 0 = baseAt 1 cs }) (record { 0 = baseAt 2 cs }) ≡ firstsIn (q .want) cs) where
+    pub msi-finds : (m : Msi) (d : DeviceId) (e : EventId) (l : Lpi) → s .owners .device .n < rowLimit → s .owners .event .n < rowLimit → s .owners .lpi .n < rowLimit
+        → accepted (msiRows m d e l) ≡ answer s q → Finds s q (msiGranted m d e l)
+    unfolding R.rowAt
+    msi-finds m d e l p u v a =
+        granted-finds (msiRows m d e l) (msiGranted m d e l) a (record { mmio = none _; pio = none _; input = none _; host = none _; device = λ _. p; event = λ _. u; lpi = λ _. v }) refl (three (msiRows m d e l))
+        (msi-grown (s .owners) _ _ _ _ _ _ (pushed (s .owners .device) (MsiSpec.rowsOf m d e l .device) (z .device) p)
+        (pushed (s .owners .event) (MsiSpec.rowsOf m d e l .event) (z .event) u) (pushed (s .owners .lpi) (MsiSpec.rowsOf m d e l .lpi) (z .lpi) v))

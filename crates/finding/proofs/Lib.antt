@@ -1,4 +1,9 @@
+pub mod SizedLaws
 pub mod QueryLaws
+pub mod ReadyLaws
+pub mod RoomLaws
+pub mod AnswerLaws
+pub mod OwnerLaws
 pub mod AskLaws
 pub mod KeptLaws
 pub mod MsiLaws

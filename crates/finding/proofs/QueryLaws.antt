@@ -1,8 +1,6 @@
--- A query of a good request and of a bad one; a refusal's numbers; two tests. Assumes nothing.
+-- A query of a good request and of a bad one; a refusal's numbers. Assumes nothing.
 use mathlib.Core.Path.{_≡_, refl, _∙_, ap}
-use mathlib.Core.Bool.{Bool, true, false, _&&_}
-use Prim.Native.Nat.{ℕ}
-use native.Mathlib.Omega.{arith}
+use mathlib.Core.Bool.{true, false}
 use Rattle.definition.specs.Base.{tell}
 use Rattle.definition.specs.Base as F
 use Rattle.definition.specs.Request.{goodRequest}
@@ -47,9 +45,3 @@ back-told Short = refl
 -- .. and no other numbers are
 pub numbers-are : (y : Refusal) (d : Said) → saidOf d ≡ tell 0 (refusalOf y) → d ≡ numbersOf y
 numbers-are y d e = ap back e ∙ back-told y
-
--- ---- two tests
-
-pub both : (a b : Bool) → (a && b) ≡ true → (a ≡ true) × (b ≡ true)
-both true b e = (refl, e)
-both false b e = let z : _≡_ {A = ℕ} 0 1 = cc in absurd (omega arith)

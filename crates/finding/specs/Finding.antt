@@ -1,5 +1,5 @@
 -- What comes of the tables' answers: the rows to store, and what is answered. Assumes nothing.
-use mathlib.Core.Bool.{Bool, true, false, _&&_}
+use mathlib.Core.Bool.{Bool, true, false}
 use Prim.Native.Nat.{ℕ}
 use lib.Dec.{eqb, ltb}
 use Rattle.definition.specs.Tables.{rowLimit}
@@ -9,15 +9,21 @@ use Rattle.choose.specs.declared.Refusal.the-variants.{Malformed, BadInput, Fix
 use Rattle.choose.specs.declared.Chosen.{Chosen}
 use Rattle.choose.specs.declared.Chosen.the-variants.{Stands, Refused}
 use Rattle.choose.specs.declared.wired.Wire.{Wire}
+use Rattle.tables.specs.declared.DeviceId.{DeviceId}
+use Rattle.tables.specs.declared.EventId.{EventId}
+use Rattle.tables.specs.declared.Lpi.{Lpi}
 use Rattle.tables.specs.declared.RangeRow.{RangeRow}
 use Rattle.tables.specs.declared.WireRow.{WireRow}
 use Rattle.request.specs.declared.Said.{Said}
-use Rattle.resolve.specs.Outcomes.{some, noBases}
-use Rattle.resolve.specs.declared.Bases.{Bases}
+use Rattle.msi.specs.Msi.{deviceIn, eventIn, lpiIn, chained, rowsOf}
+use Rattle.msi.specs.declared.Msi.{Msi}
+use Rattle.msi.specs.declared.MsiChosen.{MsiChosen}
+use Rattle.msi.specs.declared.MsiChosen.the-variants as M
 use Rattle.look.specs.declared.Seen.{Seen}
 use Rattle.store.specs.declared.Put.{Put}
 use Rattle.store.specs.declared.WirePut.{WirePut}
-use Rattle.finding.specs.Query.{deviceNeed, eventNeed, lpiNeed, narrowed}
+use Rattle.finding.specs.Outcome.{noBases, someBase, someMsi}
+use Rattle.finding.specs.declared.Bases.{Bases}
 use Rattle.finding.specs.declared.Query.{Query}
 use Rattle.finding.specs.declared.Finding.{Finding}
 
@@ -52,44 +58,41 @@ rowFor n b e = record { controller = n .controller; its = n .its; device = n .de
 abbrev pub wireFor : Wire → ℕ → WireRow
 wireFor w b = record { controller = w .controller; input = b; trigger = w .trigger; sharing = w .sharing; owner = w .requester }
 
--- what is granted, if there is room for it
-abbrev pub ifRoom : Bool → Finding → Finding
-ifRoom true f = f
-ifRoom false f = refusal Full
+-- what stands, if the table has a free row for it
+abbrev pub orFull : Bool → ℕ → ℕ → Chosen
+orFull true b e = Stands b e
+orFull false b e = Refused Full
+
+abbrev pub standing : ℕ → Chosen → Chosen
+standing at (Stands b e) = orFull (ltb at rowLimit) b e
+standing at (Refused y) = Refused y
 
 -- one table's answer: f of what stands
-abbrev pub given : (ℕ → ℕ → Finding) → ℕ → Chosen → Finding
-given f at (Stands b e) = ifRoom (ltb at rowLimit) (f b e)
-given f at (Refused y) = refusal y
+abbrev pub given : (ℕ → ℕ → Finding) → Chosen → Finding
+given f (Stands b e) = f b e
+given f (Refused y) = refusal y
 
 abbrev pub rangeGranted : ℕ → Need → ℕ → ℕ → Finding
-rangeGranted k n b e = finding k (rowFor n b e) noRow noRow noWireRow (some b 0 0) (saying 0 0 0 0)
+rangeGranted k n b e = finding k (rowFor n b e) noRow noRow noWireRow (someBase b) (saying 0 0 0 0)
 
 abbrev pub rangeVerdict : Query → Seen → Finding
-rangeVerdict q x = given (rangeGranted (q .kind) (q .need)) (x .at) (x .chosen)
+rangeVerdict q x = given (rangeGranted (q .kind) (q .need)) (standing (x .at) (x .chosen))
 
 abbrev pub wireGranted : Wire → ℕ → ℕ → Finding
-wireGranted w b e = finding 3 noRow noRow noRow (wireFor w b) (some b 0 0) (saying 0 0 0 0)
+wireGranted w b e = finding 3 noRow noRow noRow (wireFor w b) (someBase b) (saying 0 0 0 0)
 
 abbrev pub wireVerdict : Query → Seen → Finding
-wireVerdict q x = given (wireGranted (q .wire)) (x .at) (x .chosen)
+wireVerdict q x = given (wireGranted (q .wire)) (standing (x .at) (x .chosen))
 
-abbrev pub msiGranted : Need → ℕ → ℕ → ℕ → ℕ → ℕ → ℕ → Finding
-msiGranted n b be e ee l le =
-    finding 5 (rowFor (deviceNeed n) b be) (rowFor (eventNeed n (narrowed b)) e ee) (rowFor (lpiNeed n) l le) noWireRow (some b e l) (saying 0 0 0 0)
+abbrev pub msiGranted : Msi → DeviceId → EventId → Lpi → Finding
+msiGranted m d e l = finding 5 (rowsOf m d e l .device) (rowsOf m d e l .event) (rowsOf m d e l .lpi) noWireRow (someMsi d e l) (saying 0 0 0 0)
 
--- each refusal in its turn, and room last
-abbrev pub msiFrom : Need → Bool → Chosen → Chosen → Chosen → Finding
-msiFrom n room (Refused y) e l = refusal y
-msiFrom n room (Stands b be) (Refused y) l = refusal y
-msiFrom n room (Stands b be) (Stands e ee) (Refused y) = refusal y
-msiFrom n room (Stands b be) (Stands e ee) (Stands l le) = ifRoom room (msiGranted n b be e ee l le)
-
-abbrev pub allRoom : ℕ → ℕ → ℕ → Bool
-allRoom d e l = ltb d rowLimit && (ltb e rowLimit && ltb l rowLimit)
+abbrev pub msiGiven : Msi → MsiChosen → Finding
+msiGiven m (M.Stands d e l) = msiGranted m d e l
+msiGiven m (M.Refused y) = refusal y
 
 abbrev pub msiVerdict : Query → Seen → Seen → Seen → Finding
-msiVerdict q d e l = msiFrom (q .need) (allRoom (d .at) (e .at) (l .at)) (d .chosen) (e .chosen) (l .chosen)
+msiVerdict q d e l = msiGiven (q .msi) (chained (deviceIn (d .chosen)) (eventIn (e .chosen)) (lpiIn (l .chosen)) (d .at) (e .at) (l .at))
 
 abbrev pub either : Bool → Finding → Finding → Finding
 either true a b = a

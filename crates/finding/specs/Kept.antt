@@ -9,8 +9,8 @@ use Rattle.tables.specs.Views.{stateView}
 use Rattle.tables.specs.Whole.{holders}
 use Rattle.tables.specs.declared.Holders.{Holders}
 use Rattle.tables.specs.declared.State.{State}
-use Rattle.resolve.specs.Outcomes.{basesIn, after}
 use Rattle.store.specs.Store.{Free, putRange, putWire}
+use Rattle.finding.specs.Outcome.{basesIn, after}
 use Rattle.finding.specs.Finding.{putOf, wirePutOf, eventPutOf, lpiPutOf}
 use Rattle.finding.specs.declared.Finding.{Finding}
 
@@ -50,4 +50,4 @@ answer s r = R.resolve (poolsOf (stateView s)) (ownersOf (stateView s)) r
 pub record Finds (s : State) (r : R.Request) (f : Finding) : Type 0 where
   pub free : AllFree f (s .owners)
   pub state : stateView (kept f s) ≡ after (stateView s) (answer s r)
-  pub bases : f .bases ≡ basesIn (answer s r)
+  pub bases : f .bases ≡ basesIn (r .want) (answer s r)

@@ -1,3 +1,4 @@
+pub mod Outcome
 pub mod Query
 pub mod Finding
 pub mod Kept

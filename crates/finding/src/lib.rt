@@ -1,28 +1,47 @@
-// One request over seven tables: what each table is asked, and what comes of the answers. Nothing is read or stored here.
+// One request over seven tables: what each table is asked, and what comes of the answers. Nothing is read or stored here, but for `value`.
 use choose::Choice;
 use choose::Chosen;
 use choose::Refusal;
+use choose::ids;
+use choose::ids::DeviceChoice;
+use choose::ids::EventChoice;
+use choose::ids::LpiChoice;
 use choose::wired::Wire;
 use look::Ask;
 use look::Seen;
 use look::WireAsk;
+use msi::DeviceChosen;
+use msi::EventChosen;
+use msi::Msi;
+use msi::MsiChosen;
 use request::Request;
 use request::Said;
 use request::Want;
-use resolve::Bases;
 use search::Kind;
 use search::Need;
 use store::Put;
 use store::WirePut;
+use tables::DeviceId;
+use tables::EventId;
+use tables::Lpi;
 use tables::ROWS;
 use tables::RangeRow;
 use tables::WireRow;
 ghost use mathlib.Core.Path.{_≡_};
-ghost use Rattle.resolve.specs.Outcomes.{some};
-ghost use Rattle.finding.specs.Query.{needing, noNeed, noWire, senseless, rangeQuery, wireQuery, msiQuery, queryOf, ask, askOf, wireAskOf, deviceAskOf, eventAskOf, lpiAskOf, narrowed};
-ghost use Rattle.finding.specs.Finding.{noRow, noWireRow, saying, finding, refusal, rowFor, rangeVerdict, wireVerdict, allRoom, msiGranted, msiVerdict, verdictOf, putOf, wirePutOf, eventPutOf, lpiPutOf};
+ghost use Rattle.finding.specs.Outcome.{noBases, someBase, someMsi};
+ghost use Rattle.finding.specs.Query.{needing, noNeed, noWire, noMsi, senseless, rangeQuery, wireQuery, msiQuery, queryOf, askOf, wireAskOf, deviceAsk, eventAsk, lpiAsk, deviceAskOf, eventAskOf, lpiAskOf};
+ghost use Rattle.finding.specs.Finding.{noRow, noWireRow, saying, finding, refusal, rowFor, standing, rangeVerdict, wireVerdict, msiGranted, msiVerdict, verdictOf, putOf, wirePutOf, eventPutOf, lpiPutOf};
 
-const TOP_32: u64 = 4294967295;
+pub mod value;
+
+// The first numbers of the rows that an accepted request was granted: a record is made of them. An MSI request has the three, any other the base.
+pub struct Bases {
+    pub accepted: bool,
+    pub base: u64,
+    pub device: DeviceId,
+    pub event: EventId,
+    pub lpi: Lpi,
+}
 
 // A request as plain numbers: its kind as 01 numbers it, 0 where it makes no sense; what it needs, and its choices.
 pub struct Query {
@@ -30,8 +49,7 @@ pub struct Query {
     pub need: Need,
     pub wire: Wire,
     pub choice: Choice,
-    pub event: Choice,
-    pub lpi: Choice,
+    pub msi: Msi,
 }
 
 // What is to be stored: the rows of the kind's tables, none where the kind is 0; and what is answered.
@@ -104,61 +122,35 @@ pub fn ask_wire(q: Query) -> WireAsk
     WireAsk { go, wire, choice }
 }
 
-// The table of devices: one number, exclusive.
+// The table of devices.
 pub fn ask_device(q: Query) -> Ask
     ensures { λ a. ⌜ a ≡ deviceAskOf q ⌝ }
 {
     let go = q.kind == 5;
-    let n = q.need;
-    let need = needing(Kind::Device, n.controller, n.its, 0, 1, 1, n.requester);
-    let choice = q.choice;
-    Ask { go, need, choice }
+    let m = q.msi;
+    device_ask(go, m)
 }
 
 // The events of the device that stands.
 pub fn ask_event(q: Query, device: Seen) -> Ask
     ensures { λ a. ⌜ a ≡ eventAskOf q device ⌝ }
 {
-    let n = q.need;
-    let choice = q.event;
+    let go = q.kind == 5;
+    let m = q.msi;
     let chosen = device.chosen;
-    match chosen {
-        Chosen::Stands(b, _) => {
-            let go = q.kind == 5;
-            let d = narrow(b);
-            let need = needing(Kind::Event, n.controller, n.its, d, n.size, 1, n.requester);
-            Ask { go, need, choice }
-        }
-        Chosen::Refused(_) => {
-            let need = needing(Kind::Event, n.controller, n.its, 0, n.size, 1, n.requester);
-            Ask {
-                go: false,
-                need,
-                choice,
-            }
-        }
-    }
+    let first = msi::device(chosen);
+    event_ask(go, m, first)
 }
 
-// LPIs, once the events stand: as many as there are events.
+// LPIs, once the events stand.
 pub fn ask_lpi(q: Query, event: Seen) -> Ask
     ensures { λ a. ⌜ a ≡ lpiAskOf q event ⌝ }
 {
-    let n = q.need;
-    let need = needing(Kind::Lpi, n.controller, 0, 0, n.size, 1, n.requester);
-    let choice = q.lpi;
+    let go = q.kind == 5;
+    let m = q.msi;
     let chosen = event.chosen;
-    match chosen {
-        Chosen::Stands(_, _) => {
-            let go = q.kind == 5;
-            Ask { go, need, choice }
-        }
-        Chosen::Refused(_) => Ask {
-            go: false,
-            need,
-            choice,
-        },
-    }
+    let second = msi::event(chosen);
+    lpi_ask(go, m, second)
 }
 
 // What comes of the tables' answers, by the request's kind.
@@ -228,6 +220,54 @@ pub fn put_lpi(f: Finding) -> Put
     Put { go, row }
 }
 
+// ---- what an MSI request asks: nothing behind a refusal
+
+pub fn device_ask(go: bool, m: Msi) -> Ask
+    ensures { λ a. ⌜ a ≡ deviceAsk go m ⌝ }
+{
+    let need = msi::device_need(m);
+    let wanted = m.device;
+    let choice = ids::of_device(wanted);
+    Ask { go, need, choice }
+}
+
+pub fn event_ask(go: bool, m: Msi, first: DeviceChosen) -> Ask
+    ensures { λ a. ⌜ a ≡ eventAsk go m first ⌝ }
+{
+    let wanted = m.event;
+    let choice = ids::of_event(wanted);
+    match first {
+        DeviceChosen::Stands(device) => {
+            let need = msi::event_need(m, device);
+            Ask { go, need, choice }
+        }
+        DeviceChosen::Refused(_) => {
+            let need = msi::event_need(m, DeviceId(0));
+            Ask {
+                go: false,
+                need,
+                choice,
+            }
+        }
+    }
+}
+
+pub fn lpi_ask(go: bool, m: Msi, second: EventChosen) -> Ask
+    ensures { λ a. ⌜ a ≡ lpiAsk go m second ⌝ }
+{
+    let need = msi::lpi_need(m);
+    let wanted = m.lpi;
+    let choice = ids::of_lpi(wanted);
+    match second {
+        EventChosen::Stands(_) => Ask { go, need, choice },
+        EventChosen::Refused(_) => Ask {
+            go: false,
+            need,
+            choice,
+        },
+    }
+}
+
 // ---- the parts of a query
 
 pub fn needing(
@@ -269,19 +309,33 @@ pub fn no_wire() -> Wire
     }
 }
 
+pub fn no_msi() -> Msi
+    ensures { λ m. ⌜ m ≡ noMsi ⌝ }
+{
+    Msi {
+        controller: 0,
+        its: 0,
+        count: 0,
+        requester: 0,
+        device: DeviceChoice::Auto,
+        event: EventChoice::Auto,
+        lpi: LpiChoice::Auto,
+    }
+}
+
 // What makes no sense asks nothing.
 pub fn nothing() -> Query
     ensures { λ q. ⌜ q ≡ senseless ⌝ }
 {
     let need = no_need();
     let wire = no_wire();
+    let msi = no_msi();
     Query {
         kind: 0,
         need,
         wire,
         choice: Choice::Auto,
-        event: Choice::Auto,
-        lpi: Choice::Auto,
+        msi,
     }
 }
 
@@ -298,13 +352,13 @@ pub fn of_range(
 {
     let need = needing(kind, 0, 0, 0, size, alignment, requester);
     let wire = no_wire();
+    let msi = no_msi();
     Query {
         kind: number,
         need,
         wire,
         choice,
-        event: Choice::Auto,
-        lpi: Choice::Auto,
+        msi,
     }
 }
 
@@ -319,49 +373,46 @@ pub fn of_wire(controller: u32, trigger: u32, sharing: u32, requester: u32, choi
         sharing,
         requester,
     };
+    let msi = no_msi();
     Query {
         kind: 3,
         need,
         wire,
         choice,
-        event: Choice::Auto,
-        lpi: Choice::Auto,
+        msi,
     }
 }
 
-// A device, its events and LPIs: the size is the count of events.
+// A device, its events and LPIs.
 pub fn of_msi(
     controller: u32,
     its: u32,
     count: u32,
     requester: u32,
-    device: Choice,
-    event: Choice,
-    lpi: Choice,
+    device: DeviceChoice,
+    event: EventChoice,
+    lpi: LpiChoice,
 ) -> Query
-    ensures { λ q. ⌜ q ≡ msiQuery controller its count requester device event lpi ⌝ }
+    ensures { λ q. ⌜ q ≡ msiQuery (record { controller = controller; its = its; count = count; requester = requester; device = device; event = event; lpi = lpi }) ⌝ }
 {
-    let size = count as u64;
-    let need = needing(Kind::Device, controller, its, 0, size, 1, requester);
+    let need = no_need();
     let wire = no_wire();
+    let msi = Msi {
+        controller,
+        its,
+        count,
+        requester,
+        device,
+        event,
+        lpi,
+    };
     Query {
         kind: 5,
         need,
         wire,
-        choice: device,
-        event,
-        lpi,
+        choice: Choice::Auto,
+        msi,
     }
-}
-
-// A number as one of 32 bits: on sound tables it is one.
-pub fn narrow(b: u64) -> u32
-    ensures { λ d. ⌜ d ≡ narrowed b ⌝ }
-{
-    if b <= TOP_32 {
-        return b as u32;
-    }
-    0
 }
 
 // ---- the parts of a finding
@@ -405,17 +456,48 @@ pub fn no_wire_row() -> WireRow
     }
 }
 
+pub fn no_bases() -> Bases
+    ensures { λ b. ⌜ b ≡ noBases ⌝ }
+{
+    Bases {
+        accepted: false,
+        base: 0,
+        device: DeviceId(0),
+        event: EventId(0),
+        lpi: Lpi(0),
+    }
+}
+
+pub fn one_base(base: u64) -> Bases
+    ensures { λ b. ⌜ b ≡ someBase base ⌝ }
+{
+    Bases {
+        accepted: true,
+        base,
+        device: DeviceId(0),
+        event: EventId(0),
+        lpi: Lpi(0),
+    }
+}
+
+pub fn three_bases(device: DeviceId, event: EventId, lpi: Lpi) -> Bases
+    ensures { λ b. ⌜ b ≡ someMsi device event lpi ⌝ }
+{
+    Bases {
+        accepted: true,
+        base: 0,
+        device,
+        event,
+        lpi,
+    }
+}
+
 // No row, and the numbers of a refusal.
 pub fn refused(y: Refusal) -> Finding
     ensures { λ f. ⌜ f ≡ refusal y ⌝ }
 {
     let said = request::numbers(y);
-    let bases = Bases {
-        accepted: false,
-        first: 0,
-        second: 0,
-        third: 0,
-    };
+    let bases = no_bases();
     let none = no_row();
     let wire = no_wire_row();
     Finding {
@@ -436,18 +518,10 @@ pub fn granted(
     second: RangeRow,
     third: RangeRow,
     wire: WireRow,
-    a: u64,
-    b: u64,
-    c: u64,
+    bases: Bases,
 ) -> Finding
-    ensures { λ f. ⌜ f ≡ finding kind first second third wire (some a b c) (saying 0 0 0 0) ⌝ }
+    ensures { λ f. ⌜ f ≡ finding kind first second third wire bases (saying 0 0 0 0) ⌝ }
 {
-    let bases = Bases {
-        accepted: true,
-        first: a,
-        second: b,
-        third: c,
-    };
     let said = Said {
         number: 0,
         namespace: 0,
@@ -465,20 +539,33 @@ pub fn granted(
     }
 }
 
-// Full comes last: 6, 7 or 8 stand in what was seen.
+// What one table gives if it has a free row. Full comes last: 6, 7 or 8 stand in what was seen.
+pub fn standing(seen: Seen) -> Chosen
+    ensures { λ c. ⌜ c ≡ standing (seen .at) (seen .chosen) ⌝ }
+{
+    let chosen = seen.chosen;
+    match chosen {
+        Chosen::Refused(y) => Chosen::Refused(y),
+        Chosen::Stands(b, e) => {
+            if seen.at < ROWS {
+                return Chosen::Stands(b, e);
+            }
+            Chosen::Refused(Refusal::Full)
+        }
+    }
+}
+
 pub fn range_verdict(q: Query, seen: Seen) -> Finding
     ensures { λ f. ⌜ f ≡ rangeVerdict q seen ⌝ }
 {
     let need = q.need;
-    let chosen = seen.chosen;
+    let chosen = standing(seen);
     match chosen {
         Chosen::Refused(y) => refused(y),
         Chosen::Stands(b, e) => {
-            if seen.at < ROWS {
-                let first = row(need, b, e);
-                return granted(q.kind, first, no_row(), no_row(), no_wire_row(), b, 0, 0);
-            }
-            refused(Refusal::Full)
+            let first = row(need, b, e);
+            let bases = one_base(b);
+            granted(q.kind, first, no_row(), no_row(), no_wire_row(), bases)
         }
     }
 }
@@ -487,86 +574,49 @@ pub fn wire_verdict(q: Query, seen: Seen) -> Finding
     ensures { λ f. ⌜ f ≡ wireVerdict q seen ⌝ }
 {
     let w = q.wire;
-    let chosen = seen.chosen;
+    let chosen = standing(seen);
     match chosen {
         Chosen::Refused(y) => refused(y),
         Chosen::Stands(b, _) => {
-            if seen.at < ROWS {
-                let wire = WireRow {
-                    controller: w.controller,
-                    input: b,
-                    trigger: w.trigger,
-                    sharing: w.sharing,
-                    owner: w.requester,
-                };
-                return granted(3, no_row(), no_row(), no_row(), wire, b, 0, 0);
-            }
-            refused(Refusal::Full)
+            let wire = WireRow {
+                controller: w.controller,
+                input: b,
+                trigger: w.trigger,
+                sharing: w.sharing,
+                owner: w.requester,
+            };
+            let bases = one_base(b);
+            granted(3, no_row(), no_row(), no_row(), wire, bases)
         }
     }
 }
 
-// Whether each of three tables has a row free.
-pub fn three_free(d: usize, e: usize, l: usize) -> bool
-    ensures { λ r. ⌜ r ≡ allRoom d e l ⌝ }
-{
-    if d < ROWS {
-        if e < ROWS {
-            return l < ROWS;
-        }
-        return false;
-    }
-    false
-}
-
-// The refusal of the device, then of its events, then of the LPIs; then Full.
+// The chain of three, with its rows.
 pub fn msi_verdict(q: Query, device: Seen, event: Seen, lpi: Seen) -> Finding
     ensures { λ f. ⌜ f ≡ msiVerdict q device event lpi ⌝ }
 {
-    let n = q.need;
+    let m = q.msi;
     let d = device.chosen;
-    match d {
-        Chosen::Refused(y) => refused(y),
-        Chosen::Stands(b, be) => {
-            let e = event.chosen;
-            match e {
-                Chosen::Refused(y) => refused(y),
-                Chosen::Stands(x, xe) => {
-                    let l = lpi.chosen;
-                    match l {
-                        Chosen::Refused(y) => refused(y),
-                        Chosen::Stands(z, ze) => {
-                            if three_free(device.at, event.at, lpi.at) {
-                                return three(n, b, be, x, xe, z, ze);
-                            }
-                            refused(Refusal::Full)
-                        }
-                    }
-                }
-            }
-        }
+    let first = msi::device(d);
+    let e = event.chosen;
+    let second = msi::event(e);
+    let l = lpi.chosen;
+    let third = msi::lpi(l);
+    let chosen = msi::chain(first, second, third, device.at, event.at, lpi.at);
+    match chosen {
+        MsiChosen::Refused(y) => refused(y),
+        MsiChosen::Stands(x, y, z) => three(m, x, y, z),
     }
 }
 
 // The rows of a device, its events and LPIs.
-pub fn three(n: Need, b: u64, be: u64, x: u64, xe: u64, z: u64, ze: u64) -> Finding
-    ensures { λ f. ⌜ f ≡ msiGranted n b be x xe z ze ⌝ }
+pub fn three(m: Msi, device: DeviceId, event: EventId, lpi: Lpi) -> Finding
+    ensures { λ f. ⌜ f ≡ msiGranted m device event lpi ⌝ }
 {
-    let d = narrow(b);
-    let first = row(
-        needing(Kind::Device, n.controller, n.its, 0, 1, 1, n.requester),
-        b,
-        be,
-    );
-    let second = row(
-        needing(Kind::Event, n.controller, n.its, d, n.size, 1, n.requester),
-        x,
-        xe,
-    );
-    let third = row(
-        needing(Kind::Lpi, n.controller, 0, 0, n.size, 1, n.requester),
-        z,
-        ze,
-    );
-    granted(5, first, second, third, no_wire_row(), b, x, z)
+    let rows = msi::rows(m, device, event, lpi);
+    let first = rows.device;
+    let second = rows.event;
+    let third = rows.lpi;
+    let bases = three_bases(device, event, lpi);
+    granted(5, first, second, third, no_wire_row(), bases)
 }

@@ -6,8 +6,7 @@ use native.Mathlib.Omega.{arith}
 use lib.Dec.{T, leb, leb→le}
 use Rattle.definition.specs.BaseLaws.{and-l, and-r}
 use Rattle.definition.specs.Request.{at}
-use Rattle.flat.specs.Flat.{choiceAt, allFit, unknown, input, formAt, readable}
-use Rattle.flat.specs.Reading.{Reads}
+use Rattle.flat.specs.Flat.{choiceAt, named, allFit, unknown, input, messages, formAt, readable}
 
 pub all-fit-says : (a b c : ℕ) → T (allFit a b c) → (a ≤ 4294967295) × (b ≤ 4294967295) × (c ≤ 4294967295)
 all-fit-says a b c t =
@@ -25,34 +24,59 @@ form-past (suc (suc (suc (suc zero)))) l = absurd (omega arith)
 form-past (suc (suc (suc (suc (suc zero))))) l = absurd (omega arith)
 form-past (suc (suc (suc (suc (suc (suc k)))))) l = refl
 
-pub readable-past : (k a b c x y z : ℕ) → 5 < k → false ≡ readable (formAt k) a b c x y z
-unfolding readable
-readable-past k a b c x y z l = rw (form-past k l)
+module _ (a b c x n y m z l : ℕ) where
+  pub readable-past : (k : ℕ) → 5 < k → false ≡ readable (formAt k) a b c x n y m z l
+  unfolding readable
+  readable-past k h = rw (form-past k h)
 
--- 1, 2 and 4 have one choice and no narrow number
-pub readable-plain : (k a b c x y z : ℕ) → 0 < k → k ≤ 5 → (k ≡ 3 → ⊥) → (k ≡ 5 → ⊥) → leb x 1 ≡ readable (formAt k) a b c x y z
-unfolding readable
-readable-plain zero a b c x y z l h n₃ n₅ = absurd (omega arith)
-readable-plain (suc zero) a b c x y z l h n₃ n₅ = refl
-readable-plain (suc (suc zero)) a b c x y z l h n₃ n₅ = refl
-readable-plain (suc (suc (suc zero))) a b c x y z l h n₃ n₅ = absurd (n₃ refl)
-readable-plain (suc (suc (suc (suc zero)))) a b c x y z l h n₃ n₅ = refl
-readable-plain (suc (suc (suc (suc (suc zero))))) a b c x y z l h n₃ n₅ = absurd (n₅ refl)
-readable-plain (suc (suc (suc (suc (suc (suc k)))))) a b c x y z l h n₃ n₅ = absurd (omega arith)
+  -- 1, 2 and 4 have one choice and no narrow number
+  pub readable-plain : (k : ℕ) → 0 < k → k ≤ 5 → (k ≡ 3 → ⊥) → (k ≡ 5 → ⊥) → leb x 1 ≡ readable (formAt k) a b c x n y m z l
+  unfolding readable
+  readable-plain zero g h n₃ n₅ = absurd (omega arith)
+  readable-plain (suc zero) g h n₃ n₅ = refl
+  readable-plain (suc (suc zero)) g h n₃ n₅ = refl
+  readable-plain (suc (suc (suc zero))) g h n₃ n₅ = absurd (n₃ refl)
+  readable-plain (suc (suc (suc (suc zero)))) g h n₃ n₅ = refl
+  readable-plain (suc (suc (suc (suc (suc zero))))) g h n₃ n₅ = absurd (n₅ refl)
+  readable-plain (suc (suc (suc (suc (suc (suc k)))))) g h n₃ n₅ = absurd (omega arith)
 
-pub reads-input : (k a b c : ℕ) → k ≡ 3 → Reads (formAt k) a b c → T (allFit a b c)
-unfolding readable
-reads-input k a b c e (x, y, z, t) = let u : T (readable input a b c x y z) = rw e at t in and-l (allFit a b c) (leb x 1) u
+  pub reads-input : (k : ℕ) → k ≡ 3 → T (readable (formAt k) a b c x n y m z l) → T (allFit a b c)
+  unfolding readable
+  reads-input k e t = let u : T (readable input a b c x n y m z l) = rw e at t in and-l (allFit a b c) (leb x 1) u
 
-pub reads-messages : (k a b c : ℕ) → (k ≡ 1 → ⊥) → (k ≡ 2 → ⊥) → (k ≡ 3 → ⊥) → (k ≡ 4 → ⊥) → Reads (formAt k) a b c → (k ≡ 5) × T (allFit a b c)
-unfolding readable
-reads-messages zero a b c n₁ n₂ n₃ n₄ (x, y, z, t) = absurd t
-reads-messages (suc zero) a b c n₁ n₂ n₃ n₄ r = absurd (n₁ refl)
-reads-messages (suc (suc zero)) a b c n₁ n₂ n₃ n₄ r = absurd (n₂ refl)
-reads-messages (suc (suc (suc zero))) a b c n₁ n₂ n₃ n₄ r = absurd (n₃ refl)
-reads-messages (suc (suc (suc (suc zero)))) a b c n₁ n₂ n₃ n₄ r = absurd (n₄ refl)
-reads-messages (suc (suc (suc (suc (suc zero))))) a b c n₁ n₂ n₃ n₄ (x, y, z, t) = (refl, and-l (allFit a b c) (leb x 1 && (leb y 1 && leb z 1)) t)
-reads-messages (suc (suc (suc (suc (suc (suc k)))))) a b c n₁ n₂ n₃ n₄ (x, y, z, t) = absurd t
+  -- what can be read and is none of the others is a host IRQ
+  pub reads-host : (k : ℕ) → (k ≡ 1 → ⊥) → (k ≡ 2 → ⊥) → (k ≡ 3 → ⊥) → (k ≡ 5 → ⊥) → T (readable (formAt k) a b c x n y m z l) → k ≡ 4
+  unfolding readable
+  reads-host zero n₁ n₂ n₃ n₅ t = absurd t
+  reads-host (suc zero) n₁ n₂ n₃ n₅ t = absurd (n₁ refl)
+  reads-host (suc (suc zero)) n₁ n₂ n₃ n₅ t = absurd (n₂ refl)
+  reads-host (suc (suc (suc zero))) n₁ n₂ n₃ n₅ t = absurd (n₃ refl)
+  reads-host (suc (suc (suc (suc zero)))) n₁ n₂ n₃ n₅ t = refl
+  reads-host (suc (suc (suc (suc (suc zero))))) n₁ n₂ n₃ n₅ t = absurd (n₅ refl)
+  reads-host (suc (suc (suc (suc (suc (suc k)))))) n₁ n₂ n₃ n₅ t = absurd t
+
+  pub reads-messages : T (readable messages a b c x n y m z l) → T (allFit a b c) × T (named x n) × T (named y m) × T (named z l)
+  unfolding readable
+  reads-messages t =
+      let u : T (named x n && (named y m && named z l)) = and-r (allFit a b c) _ t in
+      let v : T (named y m && named z l) = and-r (named x n) _ u in
+      (and-l (allFit a b c) _ t, and-l (named x n) _ u, and-l (named y m) _ v, and-r (named y m) _ v)
+
+-- a number that is asked for has 32 bits
+pub named-fits : (code n : ℕ) → (code ≡ 0 → ⊥) → T (named code n) → n ≤ 4294967295
+named-fits zero n f t = absurd (f refl)
+named-fits (suc zero) n f t = leb→le n 4294967295 t
+named-fits (suc (suc code)) n f t = absurd t
+
+pub named-one : (code n : ℕ) → (code ≡ 0 → ⊥) → code ≤ 1 → leb n 4294967295 ≡ named code n
+named-one zero n f h = absurd (f refl)
+named-one (suc zero) n f h = refl
+named-one (suc (suc code)) n f h = absurd (omega arith)
+
+pub named-past : (code n : ℕ) → 1 < code → false ≡ named code n
+named-past zero n h = absurd (omega arith)
+named-past (suc zero) n h = absurd (omega arith)
+named-past (suc (suc code)) n h = refl
 
 pub other-code : (code n : ℕ) → (code ≡ 0 → ⊥) → at n ≡ choiceAt code n
 other-code zero n f = absurd (f refl)

@@ -41,14 +41,20 @@ forms = unknown ∷ mmio ∷ pio ∷ input ∷ host ∷ messages ∷ []
 abbrev pub formAt : ℕ → Form
 formAt kind = getD forms kind unknown
 
--- the kind is known, and what it uses of a b c and of the three codes can be read: what it does not use is not looked at
-unfoldable pub readable : Form → ℕ → ℕ → ℕ → ℕ → ℕ → ℕ → Bool
-readable unknown a b c x y z = false
-readable mmio a b c x y z = known x
-readable pio a b c x y z = known x
-readable input a b c x y z = allFit a b c && known x
-readable host a b c x y z = known x
-readable messages a b c x y z = allFit a b c && (known x && (known y && known z))
+-- of a DeviceID, an EventID or an LPI the number asked for has a field of 32 bits too; where none is asked for it is not looked at
+abbrev pub named : ℕ → ℕ → Bool
+named zero n = true
+named (suc zero) n = fits n
+named (suc (suc code)) n = false
+
+-- the kind is known, and what it uses of a b c and of the three choices can be read: what it does not use is not looked at
+unfoldable pub readable : Form → ℕ → ℕ → ℕ → ℕ → ℕ → ℕ → ℕ → ℕ → ℕ → Bool
+readable unknown a b c x n y m z l = false
+readable mmio a b c x n y m z l = known x
+readable pio a b c x n y m z l = known x
+readable input a b c x n y m z l = allFit a b c && known x
+readable host a b c x n y m z l = known x
+readable messages a b c x n y m z l = allFit a b c && (named x n && (named y m && named z l))
 
 -- MMIO and PIO: a size, b alignment; an input: a controller, b trigger, c sharing; MSI: a controller, b ITS, c count, and its three choices device, event, LPI
 unfoldable pub wantAt : Form → ℕ → ℕ → ℕ → Choice → Choice → Choice → Want
@@ -69,7 +75,7 @@ orBad false r = bad
 
 unfoldable pub requestIn : (kind requester slot a b c x n y m z l : ℕ) → Request
 requestIn kind requester slot a b c x n y m z l =
-    orBad (fits requester && (fits slot && readable (formAt kind) a b c x y z))
+    orBad (fits requester && (fits slot && readable (formAt kind) a b c x n y m z l))
     record { requester = requester; slot = slot; want = wantAt (formAt kind) a b c (choiceAt x n) (choiceAt y m) (choiceAt z l) }
 
 -- ---- a list of them

@@ -1,16 +1,22 @@
 // Requests as plain numbers, twelve a request: how one of them is read.
 use choose::Choice;
+use choose::ids::DeviceChoice;
+use choose::ids::EventChoice;
+use choose::ids::LpiChoice;
 use request::Request;
 use request::Want;
+use tables::DeviceId;
+use tables::EventId;
+use tables::Lpi;
 ghost use mathlib.Core.Path.{_≡_};
 ghost use Prim.Native.Nat.{_+_, _*_, _≤_};
 ghost use lib.Dec.{T};
 ghost use lib.ListN.{length};
 ghost use Rattle.definition.specs.Request.{wire, msi};
 ghost use Rattle.choose.specs.Told.{choiceOf};
+ghost use Rattle.choose.specs.Ids.{deviceChoice, eventChoice, lpiChoice};
 ghost use Rattle.request.specs.Asked.{wantOf, requestOf};
-ghost use Rattle.flat.specs.Flat.{requestSize, choiceAt, allFit, input, messages, formAt, readable, wantAt, bad, requestIn, requestAt};
-ghost use Rattle.flat.specs.Reading.{Reads};
+ghost use Rattle.flat.specs.Flat.{requestSize, choiceAt, named, allFit, input, messages, formAt, readable, wantAt, bad, requestIn, requestAt};
 
 // The numbers of one request.
 pub const REQUEST: usize = 12;
@@ -42,7 +48,7 @@ pub fn all_fit(a: u64, b: u64, c: u64) -> bool
 
 // Whether the numbers of an input can be read.
 pub fn wired_reads(a: u64, b: u64, c: u64, x: u64) -> bool
-    ensures { λ r. ⌜ r ≡ readable input a b c x 0 0 ⌝ }
+    ensures { λ r. ⌜ r ≡ readable input a b c x 0 0 0 0 0 ⌝ }
 {
     if !all_fit(a, b, c) {
         return false;
@@ -50,25 +56,49 @@ pub fn wired_reads(a: u64, b: u64, c: u64, x: u64) -> bool
     x <= 1
 }
 
-// .. those of an MSI request.
-pub fn messages_read(a: u64, b: u64, c: u64, x: u64, y: u64, z: u64) -> bool
-    ensures { λ r. ⌜ r ≡ readable messages a b c x y z ⌝ }
+// Whether a DeviceID, an EventID or an LPI can be read: a number that is asked for has 32 bits.
+pub fn number_reads(code: u64, n: u64) -> bool
+    ensures { λ r. ⌜ r ≡ named code n ⌝ }
+{
+    if code == 0 {
+        return true;
+    }
+    if 1 < code {
+        return false;
+    }
+    n <= TOP_32
+}
+
+// .. the numbers of an MSI request.
+pub fn messages_read(a: u64, b: u64, c: u64, x: u64, n: u64, y: u64, m: u64, z: u64, l: u64) -> bool
+    ensures { λ r. ⌜ r ≡ readable messages a b c x n y m z l ⌝ }
 {
     if !all_fit(a, b, c) {
         return false;
     }
-    if 1 < x {
+    if !number_reads(x, n) {
         return false;
     }
-    if 1 < y {
+    if !number_reads(y, m) {
         return false;
     }
-    z <= 1
+    number_reads(z, l)
 }
 
 // The kind is one of five, and what it uses of the numbers can be read.
-pub fn readable(kind: u64, a: u64, b: u64, c: u64, x: u64, y: u64, z: u64) -> bool
-    ensures { λ r. ⌜ r ≡ readable (formAt kind) a b c x y z ⌝ }
+pub fn readable(
+    kind: u64,
+    a: u64,
+    b: u64,
+    c: u64,
+    x: u64,
+    n: u64,
+    y: u64,
+    m: u64,
+    z: u64,
+    l: u64,
+) -> bool
+    ensures { λ r. ⌜ r ≡ readable (formAt kind) a b c x n y m z l ⌝ }
 {
     if kind == 0 {
         return false;
@@ -80,7 +110,7 @@ pub fn readable(kind: u64, a: u64, b: u64, c: u64, x: u64, y: u64, z: u64) -> bo
         return wired_reads(a, b, c, x);
     }
     if kind == 5 {
-        return messages_read(a, b, c, x, y, z);
+        return messages_read(a, b, c, x, n, y, m, z, l);
     }
     x <= 1
 }
@@ -98,11 +128,47 @@ pub fn wired(a: u64, b: u64, c: u64, choice: Choice) -> Want
     }
 }
 
-// What is asked of an MSI domain.
-pub fn messages(a: u64, b: u64, c: u64, device: Choice, event: Choice, lpi: Choice) -> Want
-    requires { ⌜ T (allFit a b c) ⌝ }
-    ensures { λ r. ⌜ wantOf r ≡ msi a b c (choiceOf device) (choiceOf event) (choiceOf lpi) ⌝ }
+// The device asked for, or any.
+pub fn device_of(code: u64, n: u64) -> DeviceChoice
+    requires { ⌜ T (named code n) ⌝ }
+    ensures { λ r. ⌜ deviceChoice r ≡ choiceAt code n ⌝ }
 {
+    if code == 0 {
+        return DeviceChoice::Auto;
+    }
+    DeviceChoice::Fixed(DeviceId(n as u32))
+}
+
+// The first event asked for, or any.
+pub fn event_of(code: u64, n: u64) -> EventChoice
+    requires { ⌜ T (named code n) ⌝ }
+    ensures { λ r. ⌜ eventChoice r ≡ choiceAt code n ⌝ }
+{
+    if code == 0 {
+        return EventChoice::Auto;
+    }
+    EventChoice::Fixed(EventId(n as u32))
+}
+
+// The first LPI asked for, or any.
+pub fn lpi_of(code: u64, n: u64) -> LpiChoice
+    requires { ⌜ T (named code n) ⌝ }
+    ensures { λ r. ⌜ lpiChoice r ≡ choiceAt code n ⌝ }
+{
+    if code == 0 {
+        return LpiChoice::Auto;
+    }
+    LpiChoice::Fixed(Lpi(n as u32))
+}
+
+// What is asked of an MSI domain.
+pub fn messages(a: u64, b: u64, c: u64, x: u64, n: u64, y: u64, m: u64, z: u64, l: u64) -> Want
+    requires { ⌜ T (readable messages a b c x n y m z l) ⌝ }
+    ensures { λ r. ⌜ wantOf r ≡ msi a b c (choiceAt x n) (choiceAt y m) (choiceAt z l) ⌝ }
+{
+    let device = device_of(x, n);
+    let event = event_of(y, m);
+    let lpi = lpi_of(z, l);
     Want::Msi {
         controller: a as u32,
         its: b as u32,
@@ -119,34 +185,38 @@ pub fn want_of(
     a: u64,
     b: u64,
     c: u64,
-    device: Choice,
-    event: Choice,
-    lpi: Choice,
+    x: u64,
+    n: u64,
+    y: u64,
+    m: u64,
+    z: u64,
+    l: u64,
 ) -> Want
-    requires { ⌜ Reads (formAt kind) a b c ⌝ }
-    ensures { λ r. ⌜ wantOf r ≡ wantAt (formAt kind) a b c (choiceOf device) (choiceOf event) (choiceOf lpi) ⌝ }
+    requires { ⌜ T (readable (formAt kind) a b c x n y m z l) ⌝ }
+    ensures { λ r. ⌜ wantOf r ≡ wantAt (formAt kind) a b c (choiceAt x n) (choiceAt y m) (choiceAt z l) ⌝ }
 {
+    if kind == 5 {
+        return messages(a, b, c, x, n, y, m, z, l);
+    }
+    let choice = choice_of(x, n);
     if kind == 1 {
         return Want::Mmio {
             size: a,
             alignment: b,
-            choice: device,
+            choice,
         };
     }
     if kind == 2 {
         return Want::Pio {
             size: a,
             alignment: b,
-            choice: device,
+            choice,
         };
     }
     if kind == 3 {
-        return wired(a, b, c, device);
+        return wired(a, b, c, choice);
     }
-    if kind == 4 {
-        return Want::HostIrq { choice: device };
-    }
-    messages(a, b, c, device, event, lpi)
+    Want::HostIrq { choice }
 }
 
 // What cannot be read: a request of requester 0 is bad input.
@@ -185,13 +255,10 @@ pub fn request_of(
     if TOP_32 < slot {
         return bad();
     }
-    if !readable(kind, a, b, c, x, y, z) {
+    if !readable(kind, a, b, c, x, n, y, m, z, l) {
         return bad();
     }
-    let device = choice_of(x, n);
-    let event = choice_of(y, m);
-    let lpi = choice_of(z, l);
-    let want = want_of(kind, a, b, c, device, event, lpi);
+    let want = want_of(kind, a, b, c, x, n, y, m, z, l);
     Request {
         requester: requester as u32,
         slot: slot as u32,

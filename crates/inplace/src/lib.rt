@@ -1,7 +1,7 @@
 // One request on a lent state, in place: no table is copied. All but `allocate` take the tables to be sound.
+use finding::Bases;
 use finding::Finding;
 use request::Request;
-use resolve::Bases;
 use tables::State;
 ghost use mathlib.Core.Path.{_≡_};
 ghost use lib.Dec.{T};
@@ -9,7 +9,7 @@ ghost use Rattle.definition.specs.Tables.{kinds};
 ghost use Rattle.definition.specs.Calls.{sound, want, serve};
 ghost use Rattle.tables.specs.Views.{stateView};
 ghost use Rattle.request.specs.Asked.{requestOf};
-ghost use Rattle.resolve.specs.Outcomes.{basesIn, after};
+ghost use Rattle.finding.specs.Outcome.{basesIn, after};
 ghost use Rattle.finding.specs.Kept.{AllFree, Finds, kept, answer};
 
 // What the request is granted, and where its rows go.
@@ -80,7 +80,7 @@ pub fn keep(s: &mut State, f: Finding)
 // One request: the state afterwards is the definition's, and the first numbers of the rows are answered.
 pub fn resolve(s: &mut State, r: Request) -> Bases
     requires { ⌜ T (sound kinds (stateView (now s))) ⌝ }
-    ensures { λ b. ⌜ (stateView (now (s .exit)) ≡ after (stateView (now (s .entry))) (answer (now (s .entry)) (requestOf r))) × (b ≡ basesIn (answer (now (s .entry)) (requestOf r))) ⌝ }
+    ensures { λ b. ⌜ (stateView (now (s .exit)) ≡ after (stateView (now (s .entry))) (answer (now (s .entry)) (requestOf r))) × (b ≡ basesIn (requestOf r .want) (answer (now (s .entry)) (requestOf r))) ⌝ }
 {
     let f = find(s, r);
     keep(s, f);

@@ -39,7 +39,7 @@ use borrow.Rule.Array.Share.{room-take}
 use Rattle.lending.proofs.Loan.{Front, Behind, front-out, front-back}
 use Rattle.door.proofs.Walk.{rowOf}
 use Rattle.door.proofs.Again.{LentAgain, lends-again, comes-back}
-use Rattle.placed.proofs.Lies.{lies-in, lies-out}
+use Rattle.lent.proofs.Lies.{lies-in, lies-out}
 
 abbrev pub lendCode : Name → ℕ → Ty → Ty → Ty → Ty → Fn
 lendCode g N π ρ τ σ = record {

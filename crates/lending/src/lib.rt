@@ -29,7 +29,7 @@ pub fn place(s: State, list: [Request; MOST], n: usize, results: &mut [u64]) -> 
     ensures { λ t. ⌜ lent (stateView t) (now (results .exit)) ≡ plan (map requestOf (take n list)) (stateView s) (now (results .entry)) ⌝ }
 {
     let mut t = s;
-    placed::plan_in(&mut t, &list[..n], results);
+    plan::list::plan_in(&mut t, &list[..n], results);
     t
 }
 

@@ -21,7 +21,7 @@ pub map-length : (ys : List Request) → length (map requestOf ys) ≡ length ys
 map-length [] = refl
 map-length (y ∷ ys) = ap suc (map-length ys)
 
-map-at : (ys : List Request) (i : ℕ) → getD (map requestOf ys) i (requestOf nobody) ≡ requestOf (getD ys i nobody)
+pub map-at : (ys : List Request) (i : ℕ) → getD (map requestOf ys) i (requestOf nobody) ≡ requestOf (getD ys i nobody)
 map-at [] zero = refl
 map-at [] (suc i) = refl
 map-at (y ∷ ys) zero = refl

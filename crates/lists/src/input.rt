@@ -1,5 +1,8 @@
 // The tables and the requests of the cases.
 use choose::Choice;
+use choose::ids::DeviceChoice;
+use choose::ids::EventChoice;
+use choose::ids::LpiChoice;
 use pool::Call;
 use pool::Devices;
 use pool::Events;
@@ -116,6 +119,28 @@ pub fn chosen(turn: u32, n: u64) -> Choice {
     Choice::Fixed(n)
 }
 
+// A device, its events and LPIs, all from one number on.
+pub fn msi(turn: u32, n: u32) -> Want {
+    if turn / 5 % 2 == 0 {
+        return Want::Msi {
+            controller: 1,
+            its: 2,
+            count: 4,
+            device: DeviceChoice::Auto,
+            event: EventChoice::Auto,
+            lpi: LpiChoice::Auto,
+        };
+    }
+    Want::Msi {
+        controller: 1,
+        its: 2,
+        count: 4,
+        device: DeviceChoice::Fixed(DeviceId(n)),
+        event: EventChoice::Fixed(EventId(n)),
+        lpi: LpiChoice::Fixed(Lpi(n)),
+    }
+}
+
 pub fn want(turn: u32) -> Want {
     let t = turn as u64;
     let kind = turn % 5;
@@ -146,15 +171,7 @@ pub fn want(turn: u32) -> Want {
             choice: chosen(turn, 4096 + t),
         };
     }
-    let id = chosen(turn, 4096 + 4 * t);
-    Want::Msi {
-        controller: 1,
-        its: 2,
-        count: 4,
-        device: id,
-        event: id,
-        lpi: id,
-    }
+    msi(turn, 4096 + 4 * (turn % 256))
 }
 
 pub fn request(turn: u32) -> Request {

@@ -1,4 +1,4 @@
-// Runs the doors of the plans over a lent list of requests: listed::plan_in, placed::plan_in and listed::plan. One line for each case: `passed` where the answer, the records, every number behind them and the owner tables are as expected.
+// Runs the doors of the plans over a lent list of requests: listed::plan_in, plan::list::plan_in and listed::plan. One line for each case: `passed` where the answer, the records, every number behind them and the owner tables are as expected.
 mod expected;
 mod input;
 

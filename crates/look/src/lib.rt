@@ -11,7 +11,7 @@ use tables::Ranges;
 use tables::Wires;
 ghost use mathlib.Core.Path.{_≡_};
 ghost use Rattle.tables.specs.Views.{pool, ranges, wires};
-ghost use Rattle.look.specs.Look.{Asks, Tells, Sees, WireAsks, TellsWire, SeesWire};
+ghost use Rattle.look.specs.Look.{unasked, Asks, Tells, Sees, WireAsks, TellsWire, SeesWire};
 
 // What a table of ranges is asked: nothing, or a range.
 pub struct Ask {
@@ -35,7 +35,7 @@ pub struct Seen {
 
 // A table that was asked nothing.
 pub fn unasked(at: usize) -> Seen
-    ensures { λ r. ⌜ r .at ≡ at ⌝ }
+    ensures { λ r. ⌜ r ≡ unasked at ⌝ }
 {
     Seen {
         chosen: Chosen::Refused(Refusal::Full),

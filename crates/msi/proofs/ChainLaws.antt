@@ -13,7 +13,9 @@ use Rattle.definition.specs.Request as R
 use Rattle.tables.specs.declared.DeviceId.{DeviceId}
 use Rattle.tables.specs.declared.EventId.{EventId}
 use Rattle.tables.specs.declared.Lpi.{Lpi}
-use Rattle.choose.specs.Told.{choiceOf, placeIn}
+use Rattle.search.specs.Asks.{needOf}
+use Rattle.choose.specs.Told.{placeIn}
+use Rattle.choose.specs.Ids.{deviceChoice, eventChoice, lpiChoice}
 use Rattle.msi.specs.declared.Msi.{Msi}
 use Rattle.msi.specs.Msi.{Part, placePart, deviceNeed, eventNeed, lpiNeed, msiRows, toldMsi, pickRoom, withRoom, msiPools, msiHolders, msiIn}
 
@@ -37,26 +39,26 @@ module _ (d e l : Part) (m : Msi) where
   abbrev S : Holders
   S = msiHolders d e l
 
-  device-refused : (y : F.Refusal) → place P S (deviceNeed m) (choiceOf (m .device)) ≡ refused y → refused y ≡ msiIn d e l m
+  device-refused : (y : F.Refusal) → place P S (needOf (deviceNeed m)) (deviceChoice (m .device)) ≡ refused y → refused y ≡ msiIn d e l m
   unfolding claims
   device-refused y h = rw h
 
-  pub no-device : (y : F.Refusal) → refused y ≡ placePart d (deviceNeed m) (choiceOf (m .device)) → refused y ≡ msiIn d e l m
-  no-device y h = device-refused y (place-in P S (deviceNeed m) (choiceOf (m .device)) ∙ sym h)
+  pub no-device : (y : F.Refusal) → refused y ≡ placePart d (needOf (deviceNeed m)) (deviceChoice (m .device)) → refused y ≡ msiIn d e l m
+  no-device y h = device-refused y (place-in P S (needOf (deviceNeed m)) (deviceChoice (m .device)) ∙ sym h)
 
-  module _ (x : DeviceId) (h : accepted (rowAt (deviceNeed m) (x .0)) ≡ placePart d (deviceNeed m) (choiceOf (m .device))) where
-    pub no-event : (y : F.Refusal) → refused y ≡ placePart e (eventNeed m x) (choiceOf (m .event)) → refused y ≡ msiIn d e l m
+  module _ (x : DeviceId) (h : accepted (rowAt (needOf (deviceNeed m)) (x .0)) ≡ placePart d (needOf (deviceNeed m)) (deviceChoice (m .device))) where
+    pub no-event : (y : F.Refusal) → refused y ≡ placePart e (needOf (eventNeed m x)) (eventChoice (m .event)) → refused y ≡ msiIn d e l m
     unfolding claims rowAt
-    no-event y k = rw (place-in P S (deviceNeed m) (choiceOf (m .device)), ← h, place-in P S (eventNeed m x) (choiceOf (m .event)), ← k)
+    no-event y k = rw (place-in P S (needOf (deviceNeed m)) (deviceChoice (m .device)), ← h, place-in P S (needOf (eventNeed m x)) (eventChoice (m .event)), ← k)
 
-    module _ (z : EventId) (k : accepted (rowAt (eventNeed m x) (z .0)) ≡ placePart e (eventNeed m x) (choiceOf (m .event))) where
-      pub no-lpi : (y : F.Refusal) → refused y ≡ placePart l (lpiNeed m) (choiceOf (m .lpi)) → refused y ≡ msiIn d e l m
+    module _ (z : EventId) (k : accepted (rowAt (needOf (eventNeed m x)) (z .0)) ≡ placePart e (needOf (eventNeed m x)) (eventChoice (m .event))) where
+      pub no-lpi : (y : F.Refusal) → refused y ≡ placePart l (needOf (lpiNeed m)) (lpiChoice (m .lpi)) → refused y ≡ msiIn d e l m
       unfolding claims rowAt
-      no-lpi y g = rw (place-in P S (deviceNeed m) (choiceOf (m .device)), ← h, place-in P S (eventNeed m x) (choiceOf (m .event)), ← k, place-in P S (lpiNeed m) (choiceOf (m .lpi)), ← g)
+      no-lpi y g = rw (place-in P S (needOf (deviceNeed m)) (deviceChoice (m .device)), ← h, place-in P S (needOf (eventNeed m x)) (eventChoice (m .event)), ← k, place-in P S (needOf (lpiNeed m)) (lpiChoice (m .lpi)), ← g)
 
-      pub all-three : (v : Lpi) (dn en ln : ℕ) → accepted (rowAt (lpiNeed m) (v .0)) ≡ placePart l (lpiNeed m) (choiceOf (m .lpi))
-          → length (d .rows) ≡ dn → length (e .rows) ≡ en → length (l .rows) ≡ ln → toldMsi m (withRoom dn en ln x z v) ≡ msiIn d e l m
+      pub all-three : (v : Lpi) (dn en ln : ℕ) → accepted (rowAt (needOf (lpiNeed m)) (v .0)) ≡ placePart l (needOf (lpiNeed m)) (lpiChoice (m .lpi))
+          → length (d .rows) ≡ dn → length (e .rows) ≡ en → length (l .rows) ≡ ln → toldMsi m (withRoom x z v dn en ln) ≡ msiIn d e l m
       unfolding claims rowAt room allOf
       all-three v dn en ln g a b c =
-          rw (place-in P S (deviceNeed m) (choiceOf (m .device)), ← h, place-in P S (eventNeed m x) (choiceOf (m .event)), ← k, place-in P S (lpiNeed m) (choiceOf (m .lpi)), ← g, a, b, c)
+          rw (place-in P S (needOf (deviceNeed m)) (deviceChoice (m .device)), ← h, place-in P S (needOf (eventNeed m x)) (eventChoice (m .event)), ← k, place-in P S (needOf (lpiNeed m)) (lpiChoice (m .lpi)), ← g, a, b, c)
           (room-is m x z v (ltb dn rowLimit) (ltb en rowLimit) (ltb ln rowLimit))

@@ -1,2 +1,5 @@
 pub mod SelectLaws
 pub mod ChainLaws
+pub mod DecideLaws
+pub mod ListLaws
+pub mod RoomLaws

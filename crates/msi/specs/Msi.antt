@@ -1,23 +1,28 @@
--- What is promised of an MSI request, over the lists of its three kinds. Assumes nothing.
+-- What an MSI request asks of its three tables, what comes of their answers, and the definition's answer over the lists of the three kinds. Assumes nothing.
 use mathlib.Core.Bool.{Bool, true, false, _&&_}
 use mathlib.Core.List.{List, [], _∷_}
-use Prim.Native.Nat.{ℕ, _≤_}
-use lib.Dec.{T, ltb}
-use Rattle.definition.specs.Base.{allOf, full, Answer, accepted, refused, require, _then_}
-use Rattle.definition.specs.Tables.{poolLimit, rowLimit, dom, mmio, pio, input, host, device, event, lpi, Span, Row, used, goodSpan}
-use Rattle.definition.specs.Tables as D
+use Prim.Native.Nat.{ℕ, _+_, _^_}
+use lib.Dec.{ltb}
+use Rattle.definition.specs.Base.{full, Answer, accepted, refused, require, _then_}
+use Rattle.definition.specs.Tables.{rowLimit, mmio, pio, input, host, device, event, lpi, Span, Row, used}
 use Rattle.definition.specs.Pools.{at-kind, Holders, Claim, room}
-use Rattle.definition.specs.Request.{Need, need, rowAt, automatic, fixed, Pools, claims}
+use Rattle.definition.specs.Request.{rowAt, automatic, fixed, Pools, claims}
 use Rattle.definition.specs.Request as R
 use Rattle.tables.specs.Views.{poolView, rangesView}
 use Rattle.tables.specs.declared.Pool.{Pool}
 use Rattle.tables.specs.declared.Ranges.{Ranges}
+use Rattle.tables.specs.declared.RangeRow.{RangeRow}
 use Rattle.tables.specs.declared.DeviceId.{DeviceId}
 use Rattle.tables.specs.declared.EventId.{EventId}
 use Rattle.tables.specs.declared.Lpi.{Lpi}
-use Rattle.search.specs.Finds.{InOrder}
-use Rattle.choose.specs.Told.{choiceOf, refusalOf, placeIn}
+use Rattle.search.specs.Asks.{needOf}
+use Rattle.search.specs.declared.Kind.the-variants as K
+use Rattle.search.specs.declared.Need.{Need}
+use Rattle.choose.specs.Told.{refusalOf, placeIn}
+use Rattle.choose.specs.Ids.{deviceChoice, eventChoice, lpiChoice}
 use Rattle.choose.specs.declared.Refusal.the-variants.{Full}
+use Rattle.choose.specs.declared.Chosen.{Chosen}
+use Rattle.choose.specs.declared.Chosen.the-variants as C
 use Rattle.msi.specs.declared.Msi.{Msi}
 use Rattle.msi.specs.declared.DeviceChosen.{DeviceChosen}
 use Rattle.msi.specs.declared.DeviceChosen.the-variants as D′
@@ -27,22 +32,77 @@ use Rattle.msi.specs.declared.LpiChosen.{LpiChosen}
 use Rattle.msi.specs.declared.LpiChosen.the-variants as L′
 use Rattle.msi.specs.declared.MsiChosen.{MsiChosen}
 use Rattle.msi.specs.declared.MsiChosen.the-variants.{Stands, Refused}
+use Rattle.msi.specs.declared.MsiRows.{MsiRows}
 
--- what the choice asks of the tables of a kind, and soundness gives
-pub record Ready (k : D.Kind) (auto : Pool) (nf on : ℕ) : Type 0 where
-  pub order : InOrder auto
-  pub goods : T (allOf (goodSpan k) (used (poolView auto)))
-  pub fixed : nf ≤ poolLimit
-  pub rows : on ≤ rowLimit
+-- ---- what each table is asked
 
-abbrev pub ReadyDevice : Pool → ℕ → ℕ → Type 0
-ReadyDevice = Ready device
+abbrev pub deviceNeed : Msi → Need
+deviceNeed m = record { kind = K.Device; controller = m .controller; its = m .its; device = 0; size = 1; alignment = 1; requester = m .requester }
 
-abbrev pub ReadyEvent : Pool → ℕ → ℕ → Type 0
-ReadyEvent = Ready event
+abbrev pub eventNeed : Msi → DeviceId → Need
+eventNeed m d = record { kind = K.Event; controller = m .controller; its = m .its; device = d .0; size = m .count; alignment = 1; requester = m .requester }
 
-abbrev pub ReadyLpi : Pool → ℕ → ℕ → Type 0
-ReadyLpi = Ready lpi
+abbrev pub lpiNeed : Msi → Need
+lpiNeed m = record { kind = K.Lpi; controller = m .controller; its = 0; device = 0; size = m .count; alignment = 1; requester = m .requester }
+
+-- ---- what a table's answer means
+
+abbrev pub ifFits : Bool → ℕ → ℕ
+ifFits true b = b
+ifFits false b = 0
+
+-- a number as one of 32 bits: what sound tables give is one, law `stays`
+abbrev pub narrowed : ℕ → ℕ
+narrowed b = ifFits (ltb b (2 ^ 32)) b
+
+abbrev pub deviceIn : Chosen → DeviceChosen
+deviceIn (C.Stands b e) = D′.Stands (record { 0 = narrowed b })
+deviceIn (C.Refused y) = D′.Refused y
+
+abbrev pub eventIn : Chosen → EventChosen
+eventIn (C.Stands b e) = E′.Stands (record { 0 = narrowed b })
+eventIn (C.Refused y) = E′.Refused y
+
+abbrev pub lpiIn : Chosen → LpiChosen
+lpiIn (C.Stands b e) = L′.Stands (record { 0 = narrowed b })
+lpiIn (C.Refused y) = L′.Refused y
+
+-- ---- what comes of all three
+
+-- each of the three tables has a free row
+abbrev pub allRoom : ℕ → ℕ → ℕ → Bool
+allRoom dn en ln = ltb dn rowLimit && (ltb en rowLimit && ltb ln rowLimit)
+
+abbrev pub pickRoom : Bool → DeviceId → EventId → Lpi → MsiChosen
+pickRoom true d e l = Stands d e l
+pickRoom false d e l = Refused Full
+
+abbrev pub withRoom : DeviceId → EventId → Lpi → ℕ → ℕ → ℕ → MsiChosen
+withRoom d e l dn en ln = pickRoom (allRoom dn en ln) d e l
+
+-- each refusal in its turn, and room last
+abbrev pub chained : DeviceChosen → EventChosen → LpiChosen → ℕ → ℕ → ℕ → MsiChosen
+chained (D′.Refused y) e l dn en ln = Refused y
+chained (D′.Stands d) (E′.Refused y) l dn en ln = Refused y
+chained (D′.Stands d) (E′.Stands e) (L′.Refused y) dn en ln = Refused y
+chained (D′.Stands d) (E′.Stands e) (L′.Stands l) dn en ln = withRoom d e l dn en ln
+
+-- the row of a need from a number on
+abbrev pub rowFrom : Need → ℕ → RangeRow
+rowFrom n b = record { controller = n .controller; its = n .its; device = n .device; start = b; end = b + n .size; owner = n .requester }
+
+abbrev pub rowsOf : Msi → DeviceId → EventId → Lpi → MsiRows
+rowsOf m d e l = record { device = rowFrom (deviceNeed m) (d .0); event = rowFrom (eventNeed m d) (e .0); lpi = rowFrom (lpiNeed m) (l .0) }
+
+-- ---- the same in the definition's terms
+
+abbrev pub msiRows : Msi → DeviceId → EventId → Lpi → List Claim
+msiRows m d e l =
+    at-kind device (rowAt (needOf (deviceNeed m)) (d .0)) ∷ at-kind event (rowAt (needOf (eventNeed m d)) (e .0)) ∷ at-kind lpi (rowAt (needOf (lpiNeed m)) (l .0)) ∷ []
+
+abbrev pub toldMsi : Msi → MsiChosen → Answer (List Claim)
+toldMsi m (Stands d e l) = accepted (msiRows m d e l)
+toldMsi m (Refused y) = refused (refusalOf y)
 
 -- the used rows of one kind's tables
 pub record Part : Type 0 where
@@ -53,49 +113,8 @@ pub record Part : Type 0 where
 abbrev pub part : Pool → Pool → Ranges → Part
 part a f t = record { auto = used (poolView a); fixed = used (poolView f); rows = used (rangesView t) }
 
-abbrev pub placePart : Part → Need → R.Choice → Answer Row
+abbrev pub placePart : Part → R.Need → R.Choice → Answer Row
 placePart p n c = placeIn (p .auto) (p .fixed) (p .rows) n c
-
--- ---- the three needs
-
-abbrev pub deviceNeed : Msi → Need
-deviceNeed m = need device (dom (m .controller) (m .its) 0) 1 1 (m .requester)
-
-abbrev pub eventNeed : Msi → DeviceId → Need
-eventNeed m d = need event (dom (m .controller) (m .its) (d .0)) (m .count) 1 (m .requester)
-
-abbrev pub lpiNeed : Msi → Need
-lpiNeed m = need lpi (dom (m .controller) 0 0) (m .count) 1 (m .requester)
-
-abbrev pub toldDevice : Msi → DeviceChosen → Answer Row
-toldDevice m (D′.Stands d) = accepted (rowAt (deviceNeed m) (d .0))
-toldDevice m (D′.Refused y) = refused (refusalOf y)
-
-abbrev pub toldEvent : Msi → DeviceId → EventChosen → Answer Row
-toldEvent m d (E′.Stands e) = accepted (rowAt (eventNeed m d) (e .0))
-toldEvent m d (E′.Refused y) = refused (refusalOf y)
-
-abbrev pub toldLpi : Msi → LpiChosen → Answer Row
-toldLpi m (L′.Stands l) = accepted (rowAt (lpiNeed m) (l .0))
-toldLpi m (L′.Refused y) = refused (refusalOf y)
-
--- ---- the whole request
-
-abbrev pub msiRows : Msi → DeviceId → EventId → Lpi → List Claim
-msiRows m d e l =
-    at-kind device (rowAt (deviceNeed m) (d .0)) ∷ at-kind event (rowAt (eventNeed m d) (e .0)) ∷ at-kind lpi (rowAt (lpiNeed m) (l .0)) ∷ []
-
-abbrev pub toldMsi : Msi → MsiChosen → Answer (List Claim)
-toldMsi m (Stands d e l) = accepted (msiRows m d e l)
-toldMsi m (Refused y) = refused (refusalOf y)
-
--- each of the three tables has a free row
-abbrev pub pickRoom : Bool → DeviceId → EventId → Lpi → MsiChosen
-pickRoom true d e l = Stands d e l
-pickRoom false d e l = Refused Full
-
-abbrev pub withRoom : ℕ → ℕ → ℕ → DeviceId → EventId → Lpi → MsiChosen
-withRoom dn en ln d e l = pickRoom (ltb dn rowLimit && (ltb en rowLimit && ltb ln rowLimit)) d e l
 
 abbrev pub msiPools : Part → Part → Part → Pools
 msiPools d e l automatic mmio = []
@@ -123,9 +142,9 @@ msiHolders d e l event = e .rows
 msiHolders d e l lpi = l .rows
 
 abbrev pub msiWant : Msi → R.Want
-msiWant m = R.msi (m .controller) (m .its) (m .count) (choiceOf (m .device)) (choiceOf (m .event)) (choiceOf (m .lpi))
+msiWant m = R.msi (m .controller) (m .its) (m .count) (deviceChoice (m .device)) (eventChoice (m .event)) (lpiChoice (m .lpi))
 
--- the definition's `claims` and its room test, which read the lists of the three kinds and no others: law `msi-in`
+-- the definition's `claims` and its room test, which read the lists of the three kinds and no others: law `msi-is`
 abbrev pub msiIn : Part → Part → Part → Msi → Answer (List Claim)
 msiIn d e l m =
     claims (msiPools d e l) (msiHolders d e l) (m .requester) (msiWant m)

@@ -5,22 +5,25 @@ use mathlib.Core.List.{List, [], _∷_, _++_, map}
 use Prim.Native.Nat.{ℕ, zero, suc, _+_, _*_, _/_, _≤_, _<_, min}
 use native.Mathlib.Omega.{arith}
 use lib.Dec.{T}
+use borrow.Author.Tests.{le-leb}
 use lib.ListN.{length, getD, set, drop, length-set, length-append, length-map, List·getD-append}
 use lib.Seq.{getD-set-same, getD-set-other, getD-append-add}
 use Rattle.definition.specs.BaseLaws.{and-r, T-true}
-use Rattle.definition.specs.Tables.{recordSize}
-use Rattle.definition.specs.Base.{Answer, accepted, refused, badInput, full, require, _then_}
-use Rattle.definition.specs.Pools.{Holders, Claim, _⊕_, room}
-use Rattle.definition.specs.Request.{Choice, Want, memory, ports, wire, irq, msi, Request, goodRequest, Pools, claims, resolve}
+use Rattle.definition.specs.Tables.{top, recordSize, Kind, kinds}
+use Rattle.definition.specs.Pools.{Claim}
+use Rattle.definition.specs.Request.{Choice, Want, memory, ports, wire, irq, msi, Request, goodRequest}
 use Rattle.definition.specs.Calls.{State, poolsOf, ownersOf}
-use Rattle.definition.specs.Plan.{Grant, grant, done, run, planRun, baseAt, recordOf, records, written, pinChoice, pinWant, pinned}
-use Rattle.definition.specs.RunLaws.{run-accepted, run-refused, not-done, after-done, record-length, records-length}
-use Rattle.definition.specs.RequestLaws.{require-accepted}
+use Rattle.definition.specs.Plan.{Grant, grant, done, planRun, baseAt, recordOf, records, written, pinChoice, pinWant, pinned}
+use Rattle.definition.specs.RunLaws.{record-length, records-length}
+use Rattle.definition.specs.ResolveLaws.{Ground}
+use Rattle.definition.specs.RowLaws.{every-kind}
+use Rattle.definition.specs.StateLaws.{sound-ground, sound-for}
 use Rattle.definition.specs.PlanLaws.{plan-says, plan-requests}
-use Rattle.flat.specs.Flat.{requestSize, known, choiceAt, fits, allFit, Form, unknown, mmio, pio, input, host, messages, formAt, readable, wantAt, orBad, requestIn, numberAt, requestAt, requestsFrom, requestsOf}
+use Rattle.flat.specs.Flat.{requestSize, known, choiceAt, fits, named, allFit, Form, unknown, mmio, pio, input, host, messages, formAt, readable, wantAt, orBad, requestIn, numberAt, requestAt, requestsFrom, requestsOf}
 use Rattle.flat.proofs.FlatLaws.{request-reads, requests-read, requests-length}
 use Rattle.pin.specs.Pin.{ifAuto, pinChoiceAt, pinForm, grantedAt, pinOne, pinFrom, pinnedNumbers}
 use Rattle.pin.proofs.PinLaws.{pin-choice-length, one-length}
+use Rattle.pin.proofs.NarrowLaws.{Narrow, Good, AllGood, run-good}
 
 -- ---- the numbers of a list with one choice pinned
 
@@ -65,18 +68,33 @@ known-pinned : (code : ℕ) → known (pinCode code) ≡ known code
 known-pinned zero = refl
 known-pinned (suc code) = refl
 
-readable-one : (f : Form) (a b c x y z : ℕ) → readable f a b c (pinCode x) y z ≡ readable f a b c x y z
-unfolding readable
-readable-one unknown a b c x y z = refl
-readable-one mmio a b c x y z = known-pinned x
-readable-one pio a b c x y z = known-pinned x
-readable-one input a b c x y z = ap (λ (t : Bool). allFit a b c && t) (known-pinned x)
-readable-one host a b c x y z = known-pinned x
-readable-one messages a b c x y z = ap (λ (t : Bool). allFit a b c && (t && (known y && known z))) (known-pinned x)
+-- a form with one choice; MSI has three
+abbrev Single : Form → Type 0
+Single unknown = Unit {0}
+Single mmio = Unit {0}
+Single pio = Unit {0}
+Single input = Unit {0}
+Single host = Unit {0}
+Single messages = ⊥
 
-readable-three : (a b c x y z : ℕ) → readable messages a b c (pinCode x) (pinCode y) (pinCode z) ≡ readable messages a b c x y z
+readable-one : (f : Form) (a b c x n n′ y m z l : ℕ) → Single f → readable f a b c (pinCode x) n′ y m z l ≡ readable f a b c x n y m z l
 unfolding readable
-readable-three a b c x y z = λ t. allFit a b c && (known-pinned x t && (known-pinned y t && known-pinned z t))
+readable-one unknown a b c x n n′ y m z l s = refl
+readable-one mmio a b c x n n′ y m z l s = known-pinned x
+readable-one pio a b c x n n′ y m z l s = known-pinned x
+readable-one input a b c x n n′ y m z l s = ap (λ (t : Bool). allFit a b c && t) (known-pinned x)
+readable-one host a b c x n n′ y m z l s = known-pinned x
+readable-one messages a b c x n n′ y m z l s = absurd s
+
+-- a number that was granted has 32 bits, so the pinned choice can be read where the choice could
+named-pinned : (code n g : ℕ) → g ≤ top 32 → named (pinCode code) (pinNumber code n g) ≡ named code n
+named-pinned zero n g h = le-leb g (top 32) h
+named-pinned (suc code) n g h = refl
+
+readable-three : (a b c x n y m z l g h k : ℕ) → g ≤ top 32 → h ≤ top 32 → k ≤ top 32
+    → readable messages a b c (pinCode x) (pinNumber x n g) (pinCode y) (pinNumber y m h) (pinCode z) (pinNumber z l k) ≡ readable messages a b c x n y m z l
+unfolding readable
+readable-three a b c x n y m z l g h k lg lh lk = λ t. allFit a b c && (named-pinned x n g lg t && (named-pinned y m h lh t && named-pinned z l k lk t))
 
 -- ---- the numbers of one request, with one or three choices pinned
 
@@ -157,28 +175,29 @@ abbrev asks : ℕ → ℕ → Want → Request
 asks q s w = record { requester = q; slot = s; want = w }
 
 module _ (q s a b c x n y m z l : ℕ) (cs : List Claim) where
-  abbrev reads : Form → ℕ → ℕ → ℕ → Bool
-  reads f x′ y′ z′ = fits q && (fits s && readable f a b c x′ y′ z′)
+  abbrev reads : Form → ℕ → ℕ → ℕ → ℕ → ℕ → ℕ → Bool
+  reads f x′ n′ y′ m′ z′ l′ = fits q && (fits s && readable f a b c x′ n′ y′ m′ z′ l′)
 
   abbrev formed : Form → ℕ → ℕ → ℕ → ℕ → ℕ → ℕ → Request
-  formed f x′ n′ y′ m′ z′ l′ = orBad (reads f x′ y′ z′) (asks q s (wantAt f a b c (choiceAt x′ n′) (choiceAt y′ m′) (choiceAt z′ l′)))
+  formed f x′ n′ y′ m′ z′ l′ = orBad (reads f x′ n′ y′ m′ z′ l′) (asks q s (wantAt f a b c (choiceAt x′ n′) (choiceAt y′ m′) (choiceAt z′ l′)))
 
   abbrev wanted : Form → Want
   wanted f = wantAt f a b c (choiceAt x n) (choiceAt y m) (choiceAt z l)
 
-  form-one : (f : Form) (g : ℕ) → T (reads f x y z) → wantAt f a b c (pinChoice (choiceAt x n) g) (choiceAt y m) (choiceAt z l) ≡ pinWant (wanted f) cs
+  form-one : (f : Form) (g : ℕ) → Single f → T (reads f x n y m z l) → wantAt f a b c (pinChoice (choiceAt x n) g) (choiceAt y m) (choiceAt z l) ≡ pinWant (wanted f) cs
       → formed f (pinCode x) (pinNumber x n g) y m z l ≡ pinned (grant (asks q s (wanted f)) cs)
   unfolding pinned
-  form-one f g t w =
-      let e : reads f (pinCode x) y z ≡ true = ap (λ (v : Bool). fits q && (fits s && v)) (readable-one f a b c x y z) ∙ T-true (reads f x y z) t in
+  form-one f g one t w =
+      let e : reads f (pinCode x) (pinNumber x n g) y m z l ≡ true = ap (λ (v : Bool). fits q && (fits s && v)) (readable-one f a b c x n (pinNumber x n g) y m z l one) ∙ T-true (reads f x n y m z l) t in
       let p : Request = asks q s (wantAt f a b c (choiceAt (pinCode x) (pinNumber x n g)) (choiceAt y m) (choiceAt z l)) in
       ap (λ (v : Bool). orBad v p) e ∙ ap (λ (d : Choice). asks q s (wantAt f a b c d (choiceAt y m) (choiceAt z l))) (choice-pinned x n g) ∙ ap (asks q s) w
 
-  form-three : (g h k : ℕ) → T (reads messages x y z) → g ≡ baseAt 0 cs → h ≡ baseAt 1 cs → k ≡ baseAt 2 cs
+  form-three : (g h k : ℕ) → g ≤ top 32 → h ≤ top 32 → k ≤ top 32 → T (reads messages x n y m z l) → g ≡ baseAt 0 cs → h ≡ baseAt 1 cs → k ≡ baseAt 2 cs
       → formed messages (pinCode x) (pinNumber x n g) (pinCode y) (pinNumber y m h) (pinCode z) (pinNumber z l k) ≡ pinned (grant (asks q s (wanted messages)) cs)
   unfolding pinned wantAt pinWant
-  form-three g h k t eg eh ek =
-      let e : reads messages (pinCode x) (pinCode y) (pinCode z) ≡ true = ap (λ (v : Bool). fits q && (fits s && v)) (readable-three a b c x y z) ∙ T-true (reads messages x y z) t in
+  form-three g h k lg lh lk t eg eh ek =
+      let e : reads messages (pinCode x) (pinNumber x n g) (pinCode y) (pinNumber y m h) (pinCode z) (pinNumber z l k) ≡ true =
+      ap (λ (v : Bool). fits q && (fits s && v)) (readable-three a b c x n y m z l g h k lg lh lk) ∙ T-true (reads messages x n y m z l) t in
       let p : Request = asks q s (msi a b c (choiceAt (pinCode x) (pinNumber x n g)) (choiceAt (pinCode y) (pinNumber y m h)) (choiceAt (pinCode z) (pinNumber z l k))) in
       ap (λ (v : Bool). orBad v p) e ∙ (λ t. asks q s (msi a b c (choice-pinned x n g t) (choice-pinned y m h t) (choice-pinned z l k t)))
       ∙ (λ t. asks q s (msi a b c (pinChoice (choiceAt x n) (eg t)) (pinChoice (choiceAt y m) (eh t)) (pinChoice (choiceAt z l) (ek t))))
@@ -191,31 +210,31 @@ module _ (i : ℕ) (rq : List ℕ) (G : ℕ → ℕ) (cs : List Claim) (long : r
   asked f = asks (N 1) (N 2) (wantAt f (N 3) (N 4) (N 5) (choiceAt (N 6) (N 7)) (choiceAt (N 8) (N 9)) (choiceAt (N 10) (N 11)))
 
   abbrev can-read : Form → Bool
-  can-read f = fits (N 1) && (fits (N 2) && readable f (N 3) (N 4) (N 5) (N 6) (N 8) (N 10))
+  can-read f = fits (N 1) && (fits (N 2) && readable f (N 3) (N 4) (N 5) (N 6) (N 7) (N 8) (N 9) (N 10) (N 11))
 
-  one-formed : (f : Form) (g : ℕ) → formAt (N 0) ≡ f → T (can-read f)
+  one-formed : (f : Form) (g : ℕ) → Single f → formAt (N 0) ≡ f → T (can-read f)
       → wantAt f (N 3) (N 4) (N 5) (pinChoice (choiceAt (N 6) (N 7)) g) (choiceAt (N 8) (N 9)) (choiceAt (N 10) (N 11)) ≡ pinWant (asked f .want) cs
       → requestAt (pinChoiceAt (requestSize * i + 6) g rq) i ≡ pinned (grant (asked f) cs)
   unfolding requestIn
-  one-formed f g e t w =
+  one-formed f g one e t w =
       one-choice i g rq long
       ∙ ap (λ (F : Form). formed (N 1) (N 2) (N 3) (N 4) (N 5) (N 6) (N 7) (N 8) (N 9) (N 10) (N 11) cs F (pinCode (N 6)) (pinNumber (N 6) (N 7) g) (N 8) (N 9) (N 10) (N 11)) e
-      ∙ form-one (N 1) (N 2) (N 3) (N 4) (N 5) (N 6) (N 7) (N 8) (N 9) (N 10) (N 11) cs f g t w
+      ∙ form-one (N 1) (N 2) (N 3) (N 4) (N 5) (N 6) (N 7) (N 8) (N 9) (N 10) (N 11) cs f g one t w
 
-  by-form : (f : Form) → formAt (N 0) ≡ f → T (can-read f) → ((j : ℕ) → j < recordSize → G j ≡ getD (recordOf (grant (asked f) cs)) j 0)
+  by-form : (f : Form) → formAt (N 0) ≡ f → T (can-read f) → Narrow (asked f .want) cs → ((j : ℕ) → j < recordSize → G j ≡ getD (recordOf (grant (asked f) cs)) j 0)
       → requestAt (pinForm f G (requestSize * i) rq) i ≡ pinned (grant (asked f) cs)
   unfolding readable wantAt pinWant recordOf requestIn
-  by-form unknown e t gr = absurd (let u : T false = search (and-r) in u)
-  by-form mmio e t gr = one-formed mmio (G 3) e t (ap (λ (v : ℕ). memory (N 3) (N 4) (pinChoice (choiceAt (N 6) (N 7)) v)) (gr 3 (omega arith)))
-  by-form pio e t gr = one-formed pio (G 3) e t (ap (λ (v : ℕ). ports (N 3) (N 4) (pinChoice (choiceAt (N 6) (N 7)) v)) (gr 3 (omega arith)))
-  by-form input e t gr = one-formed input (G 4) e t (ap (λ (v : ℕ). wire (N 3) (N 4) (N 5) (pinChoice (choiceAt (N 6) (N 7)) v)) (gr 4 (omega arith)))
-  by-form host e t gr = one-formed host (G 3) e t (ap (λ (v : ℕ). irq (pinChoice (choiceAt (N 6) (N 7)) v)) (gr 3 (omega arith)))
-  by-form messages e t gr =
+  by-form unknown e t low gr = absurd (let u : T false = search (and-r) in u)
+  by-form mmio e t low gr = one-formed mmio (G 3) tt e t (ap (λ (v : ℕ). memory (N 3) (N 4) (pinChoice (choiceAt (N 6) (N 7)) v)) (gr 3 (omega arith)))
+  by-form pio e t low gr = one-formed pio (G 3) tt e t (ap (λ (v : ℕ). ports (N 3) (N 4) (pinChoice (choiceAt (N 6) (N 7)) v)) (gr 3 (omega arith)))
+  by-form input e t low gr = one-formed input (G 4) tt e t (ap (λ (v : ℕ). wire (N 3) (N 4) (N 5) (pinChoice (choiceAt (N 6) (N 7)) v)) (gr 4 (omega arith)))
+  by-form host e t low gr = one-formed host (G 3) tt e t (ap (λ (v : ℕ). irq (pinChoice (choiceAt (N 6) (N 7)) v)) (gr 3 (omega arith)))
+  by-form messages e t low gr =
       three-choices i (G 5) (G 6) (G 7) rq long
       ∙ ap
       (λ (F : Form). formed (N 1) (N 2) (N 3) (N 4) (N 5) (N 6) (N 7) (N 8) (N 9) (N 10) (N 11) cs F (pinCode (N 6)) (pinNumber (N 6) (N 7) (G 5)) (pinCode (N 8)) (pinNumber (N 8) (N 9) (G 6)) (pinCode (N 10)) (pinNumber (N 10) (N 11) (G 7)))
       e
-      ∙ form-three (N 1) (N 2) (N 3) (N 4) (N 5) (N 6) (N 7) (N 8) (N 9) (N 10) (N 11) cs (G 5) (G 6) (G 7) t (gr 5 (omega arith)) (gr 6 (omega arith)) (gr 7 (omega arith))
+      ∙ form-three (N 1) (N 2) (N 3) (N 4) (N 5) (N 6) (N 7) (N 8) (N 9) (N 10) (N 11) cs (G 5) (G 6) (G 7) (omega (arith, low .0, gr 5 (omega arith))) (omega (arith, low .1, gr 6 (omega arith))) (omega (arith, low .2, gr 7 (omega arith))) t (gr 5 (omega arith)) (gr 6 (omega arith)) (gr 7 (omega arith))
 
 -- a good request could be read
 good-reads : (b : Bool) (r : Request) → T (goodRequest (orBad b r)) → T b
@@ -224,17 +243,17 @@ good-reads true r t = tt
 good-reads false r t = t
 
 -- the i-th request, pinned from a record that holds the grant's numbers
-pub one-pinned : (res : List ℕ) (i : ℕ) (rq : List ℕ) (g : Grant) → requestSize * i + requestSize ≤ length rq → requestAt rq i ≡ g .request → T (goodRequest (g .request))
+pub one-pinned : (res : List ℕ) (i : ℕ) (rq : List ℕ) (g : Grant) → requestSize * i + requestSize ≤ length rq → requestAt rq i ≡ g .request → Good g
     → ((j : ℕ) → j < recordSize → grantedAt res i j ≡ getD (recordOf g) j 0) → requestAt (pinOne res i rq) i ≡ pinned g
 unfolding pinOne requestAt requestIn
 one-pinned res i rq g long e good gr =
     let f : Form = formAt (numberAt rq i 0) in
     let r : Request = asked i rq (grantedAt res i) (g .rows) long f in
     let b : Bool = can-read i rq (grantedAt res i) (g .rows) long f in
-    let t : T b = good-reads b r (subst (λ (v : Request). T (goodRequest v)) (sym e) good) in
+    let t : T b = good-reads b r (subst (λ (v : Request). T (goodRequest v)) (sym e) (good .0)) in
     let is : requestAt rq i ≡ r = ap (λ (v : Bool). orBad v r) (T-true b t) in
     let same : g .request ≡ r = sym e ∙ is in
-    by-form i rq (grantedAt res i) (g .rows) long f refl t (λ j s. gr j s ∙ ap (λ (v : Request). getD (recordOf (grant v (g .rows))) j 0) same)
+    by-form i rq (grantedAt res i) (g .rows) long f refl t (subst (λ (v : Request). Narrow (v .want) (g .rows)) same (good .1)) (λ j s. gr j s ∙ ap (λ (v : Request). getD (recordOf (grant v (g .rows))) j 0) same)
     ∙ ap (λ (v : Request). pinned (grant v (g .rows))) (sym same)
 
 -- ---- the list
@@ -275,10 +294,6 @@ pub pinned-length : (rq res : List ℕ) → length (pinnedNumbers rq res) ≡ le
 unfolding pinnedNumbers
 pinned-length rq res = from-length res 0 (min (length rq / requestSize) (length res / recordSize)) rq
 
-abbrev AllGood : List Grant → Type 0
-AllGood [] = Unit {0}
-AllGood (g ∷ gs) = T (goodRequest (g .request)) × AllGood gs
-
 abbrev requests : List Grant → List Request
 requests gs = map (λ g. g .request) gs
 
@@ -306,22 +321,6 @@ from-pinned res (g ∷ gs) i rq l e good gr =
     behind : length (recordOf g) ≡ recordSize → (h : ℕ) → getD (recordOf g ++ records gs) (recordSize + h) 0 ≡ getD (records gs) h 0
     behind n h = ap (λ (k : ℕ). getD (recordOf g ++ records gs) (k + h) 0) (sym n) ∙ getD-append-add (recordOf g) (records gs) h 0
 
--- every accepted request is a good one
-resolve-good : (P : Pools) (S : Holders) (r : Request) (cs : List Claim) → resolve P S r ≡ accepted cs → T (goodRequest r)
-unfolding resolve
-resolve-good P S r cs e = require-accepted (goodRequest r) badInput (claims P S (r .requester) (r .want) then λ ds. require (room S ds) full (accepted ds)) e .0
-
-run-good : (P : Pools) (rs : List Request) (S : Holders) (gs : List Grant) → run P S rs ≡ done gs → AllGood gs
-unfolding run
-run-good P [] S gs e = let z : gs ≡ [] = cc in rw z tt
-run-good P (r ∷ rs) S gs e = go (run-good P rs) (resolve P S r) refl
-  where
-    go : ((X : Holders) (hs : List Grant) → run P X rs ≡ done hs → AllGood hs) → (a : Answer (List Claim)) → resolve P S r ≡ a → AllGood gs
-    go below (refused x) q = absurd (not-done (sym (run-refused P S r rs x q) ∙ e))
-    go below (accepted cs) q =
-        let (hs, e₁, z) = after-done (grant r cs) (run P (S ⊕ cs) rs) gs (sym (run-accepted P S r rs cs q) ∙ e) in
-        rw z (resolve-good P S r cs q, below (S ⊕ cs) hs e₁)
-
 -- as many grants as requests
 pub grants-length : (rq : List ℕ) (s : State) (out : List ℕ) (gs : List Grant) → planRun (requestsOf rq) s out ≡ done gs → length gs ≡ length rq / requestSize
 grants-length rq s out gs e = sym (length-map gs (λ g. g .request)) ∙ ap length (plan-requests (requestsOf rq) s out gs e) ∙ requests-length rq
@@ -338,8 +337,10 @@ requests-pinned rq s out gs e =
     let k : min (length rq / requestSize) (length res / recordSize) ≡ length gs = omega arith in
     let few : length (pinnedNumbers rq res) / requestSize ≡ length gs = ap (λ (v : ℕ). v / requestSize) (pinned-length rq res) ∙ sym n in
     let is : requests gs ≡ requestsFrom rq 0 (length gs) = plan-requests (requestsOf rq) s out gs e ∙ ap (requestsFrom rq 0) (sym n) in
+    let d = plan-says (requestsOf rq) s out gs e in
+    let ground : (k : Kind) → Ground (poolsOf s) (ownersOf s) k = λ k. sound-ground s k (sound-for kinds s (d .judged) k (every-kind k)) in
     ap (requestsFrom (pinnedNumbers rq res) 0) few ∙ ap (λ (v : ℕ). requestsFrom (pinFrom res 0 v rq) 0 (length gs)) k
-    ∙ from-pinned res gs 0 rq (omega arith) is (run-good (poolsOf s) (requestsOf rq) (ownersOf s) gs (plan-says (requestsOf rq) s out gs e .ran)) (λ h l. first h ∙ List·getD-append (records gs) (drop (length (records gs)) out) 0 h (omega arith))
+    ∙ from-pinned res gs 0 rq (omega arith) is (run-good (poolsOf s) (λ k. ground k .0) (requestsOf rq) (ownersOf s) gs (λ k. ground k .1) (d .ran)) (λ h l. first h ∙ List·getD-append (records gs) (drop (length (records gs)) out) 0 h (omega arith))
   where
     first : (h : ℕ) → getD (written (records gs) out) (recordSize * 0 + h) 0 ≡ getD (written (records gs) out) h 0
     first h = let z : recordSize * 0 + h ≡ h = omega arith in ap (λ (k : ℕ). getD (written (records gs) out) k 0) z

@@ -1,2 +1,3 @@
 pub mod PinLaws
+pub mod NarrowLaws
 pub mod BackLaws

@@ -1,93 +1,98 @@
-// A plan: its requests in order, up to the first refusal, which hands back the tables that were handed in.
+// A plan where the state stands: its requests in order, each answered in place, up to the first refusal, which cuts the owner tables back to the counts that they had. No request copies a table, and no state is kept to go back to.
 use choose::Refusal;
-use course::Stop;
-use tables::Holders;
+use finding::Finding;
+use lent::Marks;
+use request::Request;
+use request::Said;
 use tables::State;
 ghost use mathlib.Core.Path.{_≡_};
-ghost use lib.Dec.{T};
-ghost use Rattle.definition.specs.Tables.{kinds};
-ghost use Rattle.definition.specs.Base.{silence, tell};
-ghost use Rattle.definition.specs.Calls.{state, saying, sound};
+ghost use lib.Dec.{eqb};
 ghost use Rattle.definition.specs.Plan.{lent};
-ghost use Rattle.tables.specs.Views.{poolsView, holdersView, stateView};
-ghost use Rattle.choose.specs.Told.{refusalOf};
-ghost use Rattle.flat.specs.Flat.{flatPlan};
-ghost use Rattle.turns.specs.Turns.{lengthsFit};
+ghost use Rattle.tables.specs.Views.{stateView};
+ghost use Rattle.request.specs.Asked.{requestOf, saidOf};
+ghost use Rattle.steps.specs.Steps.{Steady, opened, turned};
+ghost use Rattle.plan.specs.Turns.{judgedOf, turnsIn, turnsAfter, Opens, backTo};
 
-const REQUEST: usize = 12;
+pub mod list;
+pub mod numbers;
 
-const RECORD: usize = 9;
+// ---- what is judged before the first request
 
-const PLAN: usize = 128;
-
-// Numbers of whole requests, at most 128 of them, and room for their records: 11 if not.
-pub fn lengths_fit(long: usize, room: usize) -> bool
-    ensures { λ r. ⌜ r ≡ lengthsFit long room ⌝ }
+// The numbers of the answer so far: 1, 11, or zeros.
+pub fn judged(sound: bool, n: usize, room: usize) -> Said
+    ensures { λ r. ⌜ saidOf r ≡ judgedOf sound n room ⌝ }
 {
-    let n = long / REQUEST;
-    if REQUEST * n != long {
-        return false;
-    }
-    if PLAN < n {
-        return false;
-    }
-    RECORD * n <= room
-}
-
-// The tables of s, and a refusal at request i.
-pub fn refused_at(s: State, i: usize, y: Refusal) -> State
-    ensures { λ r. ⌜ stateView r ≡ saying (tell i (refusalOf y)) (stateView s) ⌝ }
-{
-    let said = request::numbers(y);
-    let mut state = s;
-    state.number = said.number;
-    state.index = i as u64;
-    state.namespace = said.namespace;
-    state.owner = said.owner;
-    state.detail = said.detail;
-    state
-}
-
-// Other owner tables, and five zeros.
-pub fn accepted(s: State, owners: Holders) -> State
-    ensures { λ r. ⌜ stateView r ≡ state (poolsView (s .auto) (s .fixed)) (holdersView (s .held)) (holdersView owners) silence ⌝ }
-{
-    let mut state = s;
-    state.owners = owners;
-    state.number = 0;
-    state.index = 0;
-    state.namespace = 0;
-    state.owner = 0;
-    state.detail = 0;
-    state
-}
-
-// The plan on tables that are sound.
-pub fn run(s: State, requests: &[u64], results: &mut [u64]) -> State
-    requires { ⌜ T (sound kinds (stateView s)) ⌝ }
-    ensures { λ t. ⌜ lent (stateView t) (now (results .exit)) ≡ flatPlan (now (requests .entry)) (stateView s) (now (results .entry)) ⌝ }
-{
-    if !lengths_fit(requests.len(), results.len()) {
-        return refused_at(s, 0, Refusal::Short);
-    }
-    let n = requests.len() / REQUEST;
-    let ran = course::steps(s.owners, s.auto, s.fixed, requests, results, n);
-    let stop = ran.stop;
-    match stop {
-        Stop::Nowhere => {
-            let owners = ran.owners;
-            accepted(s, owners)
+    if sound {
+        if steps::fits(n, room) {
+            return request::plain(0);
         }
-        Stop::Before(i, y) => refused_at(s, i, y),
+        return request::plain(11);
+    }
+    request::plain(1)
+}
+
+// .. which are said beside the tables: nothing is stored in them.
+pub fn opening(sound: bool, n: usize, room: usize) -> Finding
+    ensures { λ f. ⌜ Opens sound n room f ⌝ }
+{
+    let said = judged(sound, n, room);
+    let mut f = finding::refused(Refusal::Malformed);
+    f.said = said;
+    f
+}
+
+// How many requests have their turn: all of them, or none.
+pub fn turns(sound: bool, n: usize, room: usize) -> usize
+    ensures { λ r. ⌜ r ≡ turnsIn sound n room ⌝ }
+{
+    if sound {
+        if steps::fits(n, room) {
+            return n;
+        }
+        return 0;
+    }
+    0
+}
+
+// ---- the steps of a plan on a lent state
+
+// One request in its turn: after a refusal nothing is done; else it is answered in place, and its record is written.
+pub fn turn(s: &mut State, r: Request, i: usize, results: &mut [u64])
+    requires { ⌜ Steady (stateView (now s)) ⌝ }
+    ensures { λ _. ⌜ lent (stateView (now (s .exit))) (now (results .exit)) ≡ turned i (requestOf r) (stateView (now (s .entry))) (now (results .entry)) ⌝ }
+{
+    let go = steps::goes(s.number, i, results.len());
+    if go {
+        let b = inplace::resolve(s, r);
+        s.index = steps::index(b, i);
+        steps::write(results, i, r, b);
     }
 }
 
-// The plan: the tables handed in are tested once, then it runs. 1 where they are not sound.
-pub fn plan(s: State, requests: &[u64], results: &mut [u64]) -> State
-    ensures { λ t. ⌜ lent (stateView t) (now (results .exit)) ≡ flatPlan (now (requests .entry)) (stateView s) (now (results .entry)) ⌝ }
+// Whether no request was refused.
+pub fn quiet(m: Marks) -> bool
+    ensures { λ r. ⌜ r ≡ eqb (m .number) 0 ⌝ }
 {
-    if sound::sound(s) {
-        return run(s, requests, results);
+    m.number == 0
+}
+
+// After the last: a refusal puts the owner tables back, which were as long as `m` says.
+pub fn settle(s: &mut State, m: Marks)
+    ensures { λ _. ⌜ stateView (now (s .exit)) ≡ backTo m (stateView (now (s .entry))) ⌝ }
+{
+    let p = lent::peek(s);
+    if quiet(p) {
+        return;
     }
-    refused_at(s, 0, Refusal::Malformed)
+    lent::restore(s, m);
+}
+
+// What is judged before the first request, and how many have their turn: 1, 11, or five zeros beside the tables.
+pub fn open(s: &mut State, n: usize, room: usize) -> usize
+    ensures { λ r. ⌜ (stateView (now (s .exit)) ≡ opened n room (stateView (now (s .entry)))) × (r ≡ turnsAfter n (stateView (now (s .exit)))) ⌝ }
+{
+    let sound = lent_sound::sound(s);
+    let f = opening(sound, n, room);
+    inplace::keep(s, f);
+    turns(sound, n, room)
 }

@@ -7,6 +7,7 @@ use Rattle.definition.specs.Base as F
 use Rattle.definition.specs.Request.{goodChoice, oneBit, memory, ports, wire, irq, msi}
 use Rattle.definition.specs.Request as R
 use Rattle.choose.specs.Told.{choiceOf}
+use Rattle.choose.specs.Ids.{deviceChoice, eventChoice, lpiChoice}
 use Rattle.request.specs.declared.Want.{Want}
 use Rattle.request.specs.declared.Want.the-variants.{Mmio, Pio, WiredIrq, HostIrq, Msi}
 use Rattle.request.specs.declared.Request.{Request}
@@ -17,7 +18,7 @@ wantOf (Mmio s a c) = memory s a (choiceOf c)
 wantOf (Pio s a c) = ports s a (choiceOf c)
 wantOf (WiredIrq k t s c) = wire k t s (choiceOf c)
 wantOf (HostIrq c) = irq (choiceOf c)
-wantOf (Msi k i n d e l) = msi k i n (choiceOf d) (choiceOf e) (choiceOf l)
+wantOf (Msi k i n d e l) = msi k i n (deviceChoice d) (eventChoice e) (lpiChoice l)
 
 abbrev pub requestOf : Request → R.Request
 requestOf r = record { requester = r .requester; slot = r .slot; want = wantOf (r .want) }

@@ -1,19 +1,21 @@
 // A request as it is handed in, whether its numbers make sense, and the numbers of a refusal.
 use choose::Choice;
 use choose::Refusal;
+use choose::ids::DeviceChoice;
+use choose::ids::EventChoice;
+use choose::ids::LpiChoice;
 ghost use mathlib.Core.Path.{_≡_};
 ghost use Rattle.definition.specs.Base.{tell};
 ghost use Rattle.definition.specs.Request.{goodChoice, goodWant, goodRequest, wire, msi};
 ghost use Rattle.choose.specs.Told.{choiceOf, refusalOf};
+ghost use Rattle.choose.specs.Ids.{deviceChoice, eventChoice, lpiChoice};
 ghost use Rattle.request.specs.Asked.{wantOf, requestOf, saidOf, goodSpan};
 
 const TOP_64: u64 = 18446744073709551615;
 
-const TOP_32: u64 = 4294967295;
-
 const TOP_16: u64 = 65535;
 
-// What is wanted. PIO numbers have 16 bits, all numbers of MSI 32: one that is too large is bad input.
+// What is wanted. PIO numbers have 16 bits: one that is too large is bad input. All numbers of MSI have 32 by their types.
 pub enum Want {
     Mmio {
         size: u64,
@@ -38,9 +40,9 @@ pub enum Want {
         controller: u32,
         its: u32,
         count: u32,
-        device: Choice,
-        event: Choice,
-        lpi: Choice,
+        device: DeviceChoice,
+        event: EventChoice,
+        lpi: LpiChoice,
     },
 }
 
@@ -105,22 +107,13 @@ pub fn good_msi(
     controller: u32,
     its: u32,
     count: u32,
-    device: Choice,
-    event: Choice,
-    lpi: Choice,
+    device: DeviceChoice,
+    event: EventChoice,
+    lpi: LpiChoice,
 ) -> bool
-    ensures { λ r. ⌜ r ≡ goodWant (msi controller its count (choiceOf device) (choiceOf event) (choiceOf lpi)) ⌝ }
+    ensures { λ r. ⌜ r ≡ goodWant (msi controller its count (deviceChoice device) (eventChoice event) (lpiChoice lpi)) ⌝ }
 {
-    if count == 0 {
-        return false;
-    }
-    if !good_choice(TOP_32, device) {
-        return false;
-    }
-    if !good_choice(TOP_32, event) {
-        return false;
-    }
-    good_choice(TOP_32, lpi)
+    count != 0
 }
 
 pub fn good_want(want: Want) -> bool

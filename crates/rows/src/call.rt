@@ -1,5 +1,8 @@
 // A command's numbers as a call, or as a request.
 use choose::Choice;
+use choose::ids::DeviceChoice;
+use choose::ids::EventChoice;
+use choose::ids::LpiChoice;
 use poke::store::low32;
 use pool::Call;
 use pool::Devices;
@@ -122,6 +125,27 @@ pub fn choice_of(code: u64, n: u64) -> Choice {
     Choice::Fixed(n)
 }
 
+pub fn device_choice(code: u64, n: u64) -> DeviceChoice {
+    if code == 0 {
+        return DeviceChoice::Auto;
+    }
+    DeviceChoice::Fixed(DeviceId(low32(n)))
+}
+
+pub fn event_choice(code: u64, n: u64) -> EventChoice {
+    if code == 0 {
+        return EventChoice::Auto;
+    }
+    EventChoice::Fixed(EventId(low32(n)))
+}
+
+pub fn lpi_choice(code: u64, n: u64) -> LpiChoice {
+    if code == 0 {
+        return LpiChoice::Auto;
+    }
+    LpiChoice::Fixed(Lpi(low32(n)))
+}
+
 // Kind 1 MMIO, 2 PIO, 3 input, 4 host, 5 MSI; the numbers from place k on.
 pub fn want_of(x: [u64; 14], k: usize) -> Want {
     if 5 <= k {
@@ -158,15 +182,16 @@ pub fn want_of(x: [u64; 14], k: usize) -> Want {
     if x[k] == 4 {
         return Want::HostIrq { choice: first };
     }
-    let second = choice_of(x[k + 6], x[k + 7]);
-    let third = choice_of(x[k + 8], x[k + 9]);
+    let device = device_choice(x[k + 4], x[k + 5]);
+    let event = event_choice(x[k + 6], x[k + 7]);
+    let lpi = lpi_choice(x[k + 8], x[k + 9]);
     Want::Msi {
         controller: low32(a),
         its: low32(b),
         count: low32(c),
-        device: first,
-        event: second,
-        lpi: third,
+        device,
+        event,
+        lpi,
     }
 }
 

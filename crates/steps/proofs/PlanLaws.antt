@@ -22,11 +22,10 @@ use Rattle.definition.specs.StateLaws.{Sound, SoundFor, sound-for, for-sound, s
 use Rattle.definition.specs.Plan.{Grant, grant, Run, done, stopped, after as andThen, run, recordOf, records, written, Lent, lent, allRows, roomy, planRun, ended, grantsOf, plan}
 use Rattle.definition.specs.PlanLaws.{tell-number, told-at, granting-append}
 use Rattle.definition.specs.RunLaws.{run-accepted, run-refused, record-length}
-use Rattle.turns.specs.Turns.{putFrom}
-use Rattle.turns.proofs.TurnLaws.{put-append, put-nil}
+use Rattle.steps.specs.Steps.{putFrom, clear, Steady, opened, indexed, numbered, answered, turned, turns, recorded, indexFor, settled, steps}
+use Rattle.steps.proofs.PutLaws.{put-append, put-nil}
 use Rattle.allocation.proofs.ServeLaws.{into-refused, into-granted}
-use Rattle.resolve.specs.Outcomes.{basesIn, after}
-use Rattle.steps.specs.Steps.{clear, Steady, opened, indexed, numbered, answered, turned, turns, recorded, indexFor, settled, steps}
+use Rattle.finding.specs.Outcome.{basesIn, after}
 use Rattle.steps.proofs.StepLaws.{not-clear, opened-unsound, opened-short, opened-clear, numbered-clear, numbered-refused, settled-clear, settled-refused, turned-skips, turned-answers}
 
 -- ---- the results
@@ -43,7 +42,7 @@ granting-nil w t = λ j. state (t .pools) (t .held) (λ k. push-nil (t .owners k
 
 -- ---- what is left after i requests, of which t and out are the tables and the results
 
-abbrev finished : ℕ → State → List ℕ → Run → Lent
+abbrev pub finished : ℕ → State → List ℕ → Run → Lent
 finished i t out (done gs) = lent (granting (allRows gs) t) (putFrom (recordSize * i) (records gs) out)
 finished i t out (stopped gs x) = lent (saying (tell (i + length gs) x) (granting (allRows gs) t)) (putFrom (recordSize * i) (records gs) out)
 
@@ -55,7 +54,7 @@ finished-after i t out g (stopped gs x) l =
     ap₂ lent (ap₂ (λ (m : ℕ) (u : State). saying (tell m x) u) q (granting-append (g .rows) (allRows gs) t)) (put-append out (recordOf g) (records gs) (recordSize * i) (recordSize * (i + 1)) (omega (arith, record-length g)) l)
 
 -- after a refusal nothing is done
-turns-skip : (rs : List Request) (i : ℕ) (s : State) (out : List ℕ) → (s .said .number ≡ 0 → ⊥) → turns i rs s out ≡ lent s out
+pub turns-skip : (rs : List Request) (i : ℕ) (s : State) (out : List ℕ) → (s .said .number ≡ 0 → ⊥) → turns i rs s out ≡ lent s out
 unfolding turns
 turns-skip [] i s out f = refl
 turns-skip (r ∷ rs) i s out f =
@@ -102,13 +101,13 @@ module _ (i : ℕ) (r : Request) (t : State) (out : List ℕ) where
   room-of e = let l : i < length out / recordSize = ltb-true i (length out / recordSize) e in omega (arith, l)
 
   pub turned-in-place : clear t ≡ true → ltb i (length out / recordSize) ≡ true → T (sound kinds t)
-      → lent (saying (indexed (indexFor (basesIn answer) i) (after t answer .said)) (after t answer)) (recorded i r answer out) ≡ turned i r t out
+      → lent (saying (indexed (indexFor (basesIn (r .want) answer) i) (after t answer .said)) (after t answer)) (recorded i r answer out) ≡ turned i r t out
   turned-in-place c e h = go answer refl
     where
       snd : sound kinds t ≡ true
       snd = T-true (sound kinds t) h
 
-      go : (x : Answer (List Claim)) → answer ≡ x → lent (saying (indexed (indexFor (basesIn x) i) (after t x .said)) (after t x)) (recorded i r x out) ≡ turned i r t out
+      go : (x : Answer (List Claim)) → answer ≡ x → lent (saying (indexed (indexFor (basesIn (r .want) x) i) (after t x .said)) (after t x)) (recorded i r x out) ≡ turned i r t out
       go (accepted cs) q = sym (turned-accepted i r t out snd (quiet-of c) (room-of e) cs q)
       go (refused x) q = ap (λ (w : Said). lent (saying w t) out) (told-at i x) ∙ sym (turned-refused i r t out snd (quiet-of c) (room-of e) x q)
 
@@ -140,7 +139,7 @@ opened-steady n room s = go (sound kinds s) refl (leb n planLimit && leb (record
 
 -- ---- the turns of a list
 
-turns-run : (rs : List Request) (i : ℕ) (t : State) (out : List ℕ) → SoundFor kinds t → t .said ≡ silence → recordSize * (i + length rs) ≤ length out → turns i rs t out ≡ finished i t out (run (poolsOf t) (ownersOf t) rs)
+pub turns-run : (rs : List Request) (i : ℕ) (t : State) (out : List ℕ) → SoundFor kinds t → t .said ≡ silence → recordSize * (i + length rs) ≤ length out → turns i rs t out ≡ finished i t out (run (poolsOf t) (ownersOf t) rs)
 unfolding turns run records
 turns-run [] i t out h e l = ap₂ lent (sym (granting-nil silence t ∙ (λ j. state (t .pools) (t .held) (t .owners) (sym e j)))) (sym (put-nil out (recordSize * i)))
 turns-run (r ∷ rs) i t out h e l = go (turns-run rs (i + 1)) (resolve (poolsOf t) (ownersOf t) r) refl

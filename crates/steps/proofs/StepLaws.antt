@@ -1,5 +1,5 @@
 -- What the steps' code does, in the words of Steps.antt. Assumes nothing.
-use mathlib.Core.Path.{_≡_, ap, ap₂, sym, _∙_}
+use mathlib.Core.Path.{_≡_, refl, ap, ap₂, sym, _∙_}
 use mathlib.Core.Bool.{Bool, true, false, _&&_}
 use mathlib.Core.List.{List, [], _++_, append-nil}
 use Prim.Native.Nat.{ℕ, _*_, _/_, _-_, _<_}
@@ -11,11 +11,16 @@ use borrow.Author.Tests.{lt-ltb}
 use borrow.Rule.Slice.PartMut.{putMid}
 use Rattle.definition.specs.BaseLaws.{T-false}
 use Rattle.definition.specs.Tables.{planLimit, recordSize, kinds}
-use Rattle.definition.specs.Base.{malformed, short, silence, tell, require}
+use Rattle.definition.specs.Base.{malformed, short, silence, tell, Answer, accepted, refused, require}
 use Rattle.definition.specs.Request.{Request}
 use Rattle.definition.specs.Calls.{State, sound, saying}
 use Rattle.definition.specs.Plan.{Lent, lent, allocateInto}
-use Rattle.steps.specs.Steps.{clear, opened, indexed, numbered, answered, turned, settled}
+use Rattle.definition.specs.Pools.{Claim}
+use Rattle.steps.specs.Steps.{putFrom, clear, opened, indexed, numbered, answered, turned, recorded, writtenAt, settled}
+use Rattle.request.specs.Asked.{requestOf}
+use Rattle.request.specs.declared.Request as R
+use Rattle.finding.specs.Outcome.{basesIn}
+use Rattle.allocation.proofs.RecordLaws.{record-granted}
 
 pub is-clear : (s : State) → s .said .number ≡ 0 → clear s ≡ true
 is-clear s e = ap (λ (k : ℕ). eqb k 0) e
@@ -36,6 +41,12 @@ opened-short n room s e f = rw (e, f)
 pub opened-clear : (n room : ℕ) (s : State) → sound kinds s ≡ true → leb n planLimit && leb (recordSize * n) room ≡ true → saying silence s ≡ opened n room s
 unfolding opened require
 opened-clear n room s e f = rw (e, f)
+
+-- ---- what is written of an answer
+
+pub written-is : (i : ℕ) (r : R.Request) (a : Answer (List Claim)) (out : List ℕ) → writtenAt i r (basesIn (requestOf r .want) a) out ≡ recorded i (requestOf r) a out
+written-is i r (accepted cs) out = ap (λ xs. putFrom (recordSize * i) xs out) (record-granted r cs)
+written-is i r (refused y) out = refl
 
 -- ---- the index of a refusal, and the last step
 

@@ -10,12 +10,10 @@ use Rattle.definition.specs.Base.{malformed, short, Said, says, silence, Answer
 use Rattle.definition.specs.Request.{Request}
 use Rattle.definition.specs.Calls.{State, sound, saying, settle}
 use Rattle.definition.specs.Pools.{Claim}
-use Rattle.definition.specs.Plan.{Lent, lent, allocateInto, grant, recordOf}
-use Rattle.turns.specs.Turns.{putFrom}
-use Rattle.request.specs.Asked.{requestOf}
+use Rattle.definition.specs.Plan.{Lent, lent, allocateInto, grant, recordOf, written}
 use Rattle.request.specs.declared.Request as R
-use Rattle.resolve.specs.Outcomes.{basesIn}
-use Rattle.resolve.specs.declared.Bases.{Bases}
+use Rattle.finding.specs.declared.Bases.{Bases}
+use Rattle.allocation.specs.Records.{listOf, recordIn}
 
 -- no request was refused so far
 abbrev pub clear : State → Bool
@@ -49,6 +47,10 @@ unfoldable pub turns : ℕ → List Request → State → List ℕ → Lent
 turns i [] s out = lent s out
 turns i (r ∷ rs) s out = turns (i + 1) rs (turned i r s out .state) (turned i r s out .results)
 
+-- the numbers from a on begin with these
+abbrev pub putFrom : ℕ → List ℕ → List ℕ → List ℕ
+putFrom a xs out = take a out ++ written xs (drop a out)
+
 -- what an answer writes
 abbrev pub recorded : ℕ → Request → Answer (List Claim) → List ℕ → List ℕ
 recorded i r (accepted cs) out = putFrom (recordSize * i) (recordOf (grant r cs)) out
@@ -59,9 +61,9 @@ recorded i r (refused y) out = out
 abbrev pub indexFor : Bases → ℕ → ℕ
 indexFor b i = elim (b .accepted) [ true ↦ 0 | false ↦ i ]
 
--- the record of an accepted request in its place, and no other number changed
-abbrev pub Recorded : ℕ → R.Request → Bases → List ℕ → List ℕ → Type 0
-Recorded i r b out out′ = (a : Answer (List Claim)) → b ≡ basesIn a → out′ ≡ recorded i (requestOf r) a out
+-- the record of an accepted request in its place, and no other number changed: law `written-is` ties it to what the answer writes
+abbrev pub writtenAt : ℕ → R.Request → Bases → List ℕ → List ℕ
+writtenAt i r b out = elim (b .accepted) [ true ↦ putFrom (recordSize * i) (listOf (recordIn r b)) out | false ↦ out ]
 
 -- after the last: a refusal puts the tables back as they were at the start
 abbrev pub settled : State → State → State

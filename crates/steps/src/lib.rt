@@ -1,6 +1,6 @@
 // The steps of a plan over requests that come one by one: what is judged before the first, one request in its turn, and what is handed back after the last.
+use finding::Bases;
 use request::Request;
-use resolve::Bases;
 use tables::State;
 ghost use mathlib.Core.Path.{_≡_};
 ghost use mathlib.Core.Bool.{_&&_};
@@ -13,7 +13,7 @@ ghost use Rattle.definition.specs.Calls.{saying};
 ghost use Rattle.definition.specs.Plan.{lent};
 ghost use Rattle.tables.specs.Views.{stateView};
 ghost use Rattle.request.specs.Asked.{requestOf};
-ghost use Rattle.steps.specs.Steps.{opened, numbered, turned, settled, indexFor, Recorded};
+ghost use Rattle.steps.specs.Steps.{opened, numbered, turned, settled, indexFor, writtenAt};
 
 const PLAN: usize = 128;
 
@@ -105,7 +105,7 @@ pub fn index(b: Bases, i: usize) -> u64
 // The record of an accepted request in its place; nothing is written of a refused one.
 pub fn write(results: &mut [u64], i: usize, r: Request, b: Bases)
     requires { ⌜ recordSize * i + recordSize ≤ length (now results) ⌝ }
-    ensures { λ _. ⌜ Recorded i r b (now (results .entry)) (now (results .exit)) ⌝ }
+    ensures { λ _. ⌜ now (results .exit) ≡ writtenAt i r b (now (results .entry)) ⌝ }
 {
     if b.accepted {
         let place = RECORD * i;

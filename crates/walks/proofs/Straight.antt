@@ -35,7 +35,7 @@ use denote.Steps.{heard}
 abbrev pub Store : Type 0
 Store = List (Option Val)
 
-abbrev tail : Store → Store
+abbrev pub tail : Store → Store
 tail [] = []
 tail (x ∷ σ) = σ
 
@@ -69,7 +69,7 @@ Has zero (l ∷ ls) = Unit {0}
 Has (suc k) (l ∷ ls) = Has k ls
 
 -- .. at the blocks that they are given
-abbrev env : List Local → (ℕ → ℕ) → List (Ty × ℕ)
+abbrev pub env : List Local → (ℕ → ℕ) → List (Ty × ℕ)
 env [] f = []
 env (local τ h ∷ ls) f = (τ, f zero) ∷ env ls (λ n. f (suc n))
 
@@ -77,26 +77,26 @@ abbrev cons : ℕ → (ℕ → ℕ) → ℕ → ℕ
 cons b f zero = b
 cons b f (suc n) = f n
 
-abbrev pos : ℕ → ℕ
+abbrev pub pos : ℕ → ℕ
 pos zero = zero
 pos (suc k) = suc (suc (pos k))
 
-abbrev cellOf : {M : Type 1} (𝓤 : URA M) → Ty → ℕ → Option Val → Item 𝓤
+abbrev pub cellOf : {M : Type 1} (𝓤 : URA M) → Ty → ℕ → Option Val → Item 𝓤
 cellOf 𝓤 τ b none = ‵ (froom τ b zero)
 cellOf 𝓤 τ b (some v) = ‵ (fat fullShare τ b zero v)
 
 -- the cell of each local and what frees it, in the order of the locals
-abbrev cells : {M : Type 1} (𝓤 : URA M) → List (Ty × ℕ) → Store → List (Item 𝓤)
+abbrev pub cells : {M : Type 1} (𝓤 : URA M) → List (Ty × ℕ) → Store → List (Item 𝓤)
 cells 𝓤 [] σ = []
 cells 𝓤 (e ∷ E) σ = cellOf 𝓤 (e .0) (e .1) (val zero σ) ∷ ‵ (fdies (e .0) (e .1)) ∷ cells 𝓤 E (tail σ)
 
 module _ {M : Type 1} (𝓤 : URA M) (H : Heap 𝓤) (A : Atoms 𝓤) where
-  type-at : (k : ℕ) (ls : List Local) (f : ℕ → ℕ) → Has k ls → spotOf 𝓤 H (env ls f) k .0 ≡ tyAt k ls
+  pub type-at : (k : ℕ) (ls : List Local) (f : ℕ → ℕ) → Has k ls → spotOf 𝓤 H (env ls f) k .0 ≡ tyAt k ls
   type-at k [] f h = absurd h
   type-at zero (local τ w ∷ ls) f h = refl
   type-at (suc k) (local τ w ∷ ls) f h = type-at k ls (λ n. f (suc n)) h
 
-  cell-at : (k : ℕ) (ls : List Local) (f : ℕ → ℕ) (σ : Store) → Has k ls → nth 𝓤 H A (pos k) (cells 𝓤 (env ls f) σ) ≡ cellOf 𝓤 (spotOf 𝓤 H (env ls f) k .0) (spotOf 𝓤 H (env ls f) k .1) (val k σ)
+  pub cell-at : (k : ℕ) (ls : List Local) (f : ℕ → ℕ) (σ : Store) → Has k ls → nth 𝓤 H A (pos k) (cells 𝓤 (env ls f) σ) ≡ cellOf 𝓤 (spotOf 𝓤 H (env ls f) k .0) (spotOf 𝓤 H (env ls f) k .1) (val k σ)
   cell-at k [] f σ h = absurd h
   cell-at zero (local τ w ∷ ls) f σ h = refl
   cell-at (suc k) (local τ w ∷ ls) f σ h = cell-at k ls (λ n. f (suc n)) (tail σ) h
@@ -165,7 +165,7 @@ module _ {M : Type 1} {𝓤 : URA M} {H : Heap 𝓤} {A : Atoms 𝓤} (W : Given
   holds : (x : Option Val) (v : Val) (τ : Ty) (b : ℕ) → x ≡ some v → cellOf 𝓤 τ b x ≡ ‵ (fat fullShare τ b zero v)
   holds x v τ b e = ap (cellOf 𝓤 τ b) e
 
-  reads : (i : Item 𝓤) (σ : Store) (k : ℕ) (v : Val) → val k σ ≡ some v → Has k ls → Reads (Go {0}) W (i ∷ cells 𝓤 E σ) (spotOf 𝓤 H E k .0) (spotOf 𝓤 H E k .1) zero v
+  pub reads : (i : Item 𝓤) (σ : Store) (k : ℕ) (v : Val) → val k σ ≡ some v → Has k ls → Reads (Go {0}) W (i ∷ cells 𝓤 E σ) (spotOf 𝓤 H E k .0) (spotOf 𝓤 H E k .1) zero v
   reads i σ k v e h = look ! (suc (pos k)) (cell-at 𝓤 H A k ls f σ h ∙ holds (val k σ) v _ _ e)
 
   -- .. and written
@@ -173,21 +173,21 @@ module _ {M : Type 1} {𝓤 : URA M} {H : Heap 𝓤} {A : Atoms 𝓤} (W : Given
   fresh Γ n none v τ b e wt = init ! n e wt
   fresh Γ n (some u) v τ b e wt = store ! n e wt
 
-  writes : (i : Item 𝓤) (σ : Store) (k : ℕ) (v : Val) → Has k ls → Holds (hasTy (tyAt k ls) v) × WT v → Writes (Go {0}) W (i ∷ cells 𝓤 E σ) (spotOf 𝓤 H E k .0) (spotOf 𝓤 H E k .1) zero v (i ∷ cells 𝓤 E (set k v σ))
+  pub writes : (i : Item 𝓤) (σ : Store) (k : ℕ) (v : Val) → Has k ls → Holds (hasTy (tyAt k ls) v) × WT v → Writes (Go {0}) W (i ∷ cells 𝓤 E σ) (spotOf 𝓤 H E k .0) (spotOf 𝓤 H E k .1) zero v (i ∷ cells 𝓤 E (set k v σ))
   writes i σ k v h wt =
       subst (λ (Δ : List (Item 𝓤)). Writes (Go {0}) W (i ∷ cells 𝓤 E σ) (spotOf 𝓤 H E k .0) (spotOf 𝓤 H E k .1) zero v (i ∷ Δ)) (cell-set 𝓤 H A k v ls f σ h)
       (fresh (i ∷ cells 𝓤 E σ) (suc (pos k)) (val k σ) v _ _ (cell-at 𝓤 H A k ls f σ h) (subst (λ (τ : Ty). Holds (hasTy τ v) × WT v) (sym (type-at 𝓤 H A k ls f h)) wt))
 
   -- the operands of a call: i is not read
-  operands : (i : Item 𝓤) (σ : Store) (xs : List Operand) (vs : List Val) → Evals σ ls xs vs → Opds (Go {0}) W (i ∷ cells 𝓤 E σ) E xs vs
+  pub operands : (i : Item 𝓤) (σ : Store) (xs : List Operand) (vs : List Val) → Evals σ ls xs vs → Opds (Go {0}) W (i ∷ cells 𝓤 E σ) E xs vs
   operands i σ _ _ nil = no-more !
   operands i σ _ _ (arg {k} {v} {xs} {vs} e h os) = and-then ! (load ! (from ! (stop !)) (reads i σ k v e h)) (operands i σ xs vs os)
   operands i σ _ _ (num {w} {n} {xs} {vs} z os) = and-then ! (lit ! z) (operands i σ xs vs os)
 
 -- the way to a part: where it ends, and how the machine goes there
-record Way {M : Type 1} {𝓤 : URA M} {H : Heap 𝓤} {A : Atoms 𝓤} (W : Given 𝓤 H A) (Γ : List (Item 𝓤)) (E : List (Ty × ℕ)) (τ : Ty) (b o a : ℕ) (st : List PStep) : Type 2 where
-  end : Ty
-  walk : Walks (Go {0}) W Γ E (τ, b, o) st (end, b, a)
+pub record Way {M : Type 1} {𝓤 : URA M} {H : Heap 𝓤} {A : Atoms 𝓤} (W : Given 𝓤 H A) (Γ : List (Item 𝓤)) (E : List (Ty × ℕ)) (τ : Ty) (b o a : ℕ) (st : List PStep) : Type 2 where
+  pub end : Ty
+  pub walk : Walks (Go {0}) W Γ E (τ, b, o) st (end, b, a)
 
 abbrev got : Option ℕ → ℕ
 got none = zero
@@ -206,7 +206,7 @@ module _ {M : Type 1} {𝓤 : URA M} {H : Heap 𝓤} {A : Atoms 𝓤} (W : Given
   into k st τ b o a on none is e = no-place e
   into k st τ b o a on (some f) is e = let w : Way W Γ E (f .0) b (o + f .1) a st = on (f .0) (f .1) e in record { end = w .end; walk = fld ! is (w .walk) }
 
-  way : (st : List PStep) (τ : Ty) (b o a : ℕ) → leads τ o st ≡ some a → Way W Γ E τ b o a st
+  pub way : (st : List PStep) (τ : Ty) (b o a : ℕ) → leads τ o st ≡ some a → Way W Γ E τ b o a st
   way [] τ b o a e = subst (λ (z : ℕ). Way W Γ E τ b o z []) (ap got e) (record { end = τ; walk = stop ! })
   way (field k ∷ st) τ b o a e = into k st τ b o a (λ τ′ d. way st τ′ b (o + d) a) (fieldOf τ k) refl e
   way (deref σ ∷ st) τ b o a e = no-place e
@@ -218,7 +218,7 @@ module _ {M : Type 1} {𝓤 : URA M} {H : Heap 𝓤} {A : Atoms 𝓤} (W : Given
   free-one i τ b none Δ E g s = move ! (1 ∷ 2 ∷ []) $ free1 ! $ s
   free-one i τ b (some v) Δ E g s = move ! (1 ∷ 2 ∷ []) $ forget ! 0 refl $ free1 ! $ s
 
-  free-all : (i : Item 𝓤) (E : List (Ty × ℕ)) (σ : Store) (g : Goal 𝓤 H) → Seq (Go {0}) W (i ∷ []) g → Seq (Go {0}) W (i ∷ cells 𝓤 E σ) (frees E g)
+  pub free-all : (i : Item 𝓤) (E : List (Ty × ℕ)) (σ : Store) (g : Goal 𝓤 H) → Seq (Go {0}) W (i ∷ []) g → Seq (Go {0}) W (i ∷ cells 𝓤 E σ) (frees E g)
   free-all i [] σ g s = free0 ! $ s
   free-all i (e ∷ E) σ g s = free-one i (e .0) (e .1) (val zero σ) (cells 𝓤 E (tail σ)) E g (free-all i E (tail σ) g s)
 
@@ -232,7 +232,7 @@ module _ {M : Type 1} {𝓤 : URA M} {H : Heap 𝓤} {A : Atoms 𝓤} (W : Given
   given [] = []
   given (v ∷ vs) = some v ∷ given vs
 
-  pass-all : (i : Item 𝓤) (ls : List Local) (f : ℕ → ℕ) (vs : List Val) (g : Goal 𝓤 H) → Typed ls vs → Seq (Go {0}) W (i ∷ cells 𝓤 (env ls f) (given vs)) g → Seq (Go {0}) W (i ∷ cells 𝓤 (env ls f) []) (passes (env ls f) vs g)
+  pub pass-all : (i : Item 𝓤) (ls : List Local) (f : ℕ → ℕ) (vs : List Val) (g : Goal 𝓤 H) → Typed ls vs → Seq (Go {0}) W (i ∷ cells 𝓤 (env ls f) (given vs)) g → Seq (Go {0}) W (i ∷ cells 𝓤 (env ls f) []) (passes (env ls f) vs g)
   pass-all i ls f [] g wt s = pass0 ! $ s
   pass-all i [] f (v ∷ vs) g wt s = absurd wt
   pass-all i (local τ h ∷ ls) f (v ∷ vs) g wt s =
@@ -249,7 +249,7 @@ module _ {M : Type 1} {𝓤 : URA M} {H : Heap 𝓤} {A : Atoms 𝓤} (W : Given
   bring-two : (x y : Item 𝓤) (Δ Γ : List (Item 𝓤)) → ent 𝓤 (⋆ 𝓤 H A (Δ ++ (x ∷ y ∷ Γ))) (⋆ 𝓤 H A (x ∷ y ∷ (Δ ++ Γ)))
   bring-two x y Δ Γ = via 𝓤 (⋆ 𝓤 H A (x ∷ (Δ ++ (y ∷ Γ)))) (bring x Δ (y ∷ Γ)) (via 𝓤 (sep 𝓤 (mean 𝓤 H A x) (⋆ 𝓤 H A (Δ ++ (y ∷ Γ)))) (pop 𝓤 H A x (Δ ++ (y ∷ Γ))) (monoR 𝓤 (mean 𝓤 H A x) (bring y Δ Γ)))
 
-  room-all : (ls : List Local) (Kt : Env 𝓤 H → Goal 𝓤 H) (Γ : List (Item 𝓤)) → ((f : ℕ → ℕ) → Seq (Go {0}) W (cells 𝓤 (env ls f) [] ++ Γ) (Kt (env ls f))) → Seq (Go {0}) W Γ (allocs ls Kt)
+  pub room-all : (ls : List Local) (Kt : Env 𝓤 H → Goal 𝓤 H) (Γ : List (Item 𝓤)) → ((f : ℕ → ℕ) → Seq (Go {0}) W (cells 𝓤 (env ls f) [] ++ Γ) (Kt (env ls f))) → Seq (Go {0}) W Γ (allocs ls Kt)
   room-all [] Kt Γ k = alloc0 ! $ k (λ n. n)
   room-all (local τ h ∷ ls) Kt Γ k =
       alloc1 ! (λ b. room-all ls (λ E. Kt ((τ, b) ∷ E)) (‵ (froom τ b zero) ∷ ‵ (fdies τ b) ∷ Γ) (λ f. by ! (via 𝓤 _ (bring-two (‵ (froom τ b zero)) (‵ (fdies τ b)) (cells 𝓤 (env ls f) []) Γ) (k (cons b f) .prf))))

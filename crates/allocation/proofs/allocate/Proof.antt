@@ -19,7 +19,7 @@ refuse-requires : tie.Need-refuse-requires
 refuse-requires c κs = search needs
 
 returns-2 : tie.Need-returns-2
-returns-2 c = c .before .refuse .ensures .state ∙ serve-unsound _ _ _ (sym (c .before .before .before .sound .ensures) ∙ c .before .before .if1 .left)
+returns-2 c = c .refuse .ensures ∙ serve-unsound _ _ _ (sym (c .before .before .sound .ensures) ∙ c .before .if1 .left)
 
 pub allocate-spec : {M : Type 1} → statement M
 allocate-spec =

@@ -1,7 +1,4 @@
 -- The kind's numbers, zeros to nine. Assumes nothing.
-use mathlib.Core.Path.{ap}
-use Rattle.definition.specs.Plan.{recordOf}
-use Rattle.resolve.specs.declared.Bases.{Bases}
 use borrow.Author.Needs.{needs}
 use Rattle.allocation.proofs.record_of.Statement.{statement}
 use Rattle.allocation.proofs.record_of.Tie as tie
@@ -57,28 +54,32 @@ cast-line-5 c = search needs
 cast-line-6 : tie.Need-cast-line-6
 cast-line-6 c = search needs
 
+cast-line-7 : tie.Need-cast-line-7
+cast-line-7 c = search needs
+
+cast-line-8 : tie.Need-cast-line-8
+cast-line-8 c = search needs
+
+cast-line-9 : tie.Need-cast-line-9
+cast-line-9 c = search needs
+
 line-requires-5 : tie.Need-line-requires-5
 line-requires-5 c κs = search needs
 
 returns : tie.Need-returns
-unfolding recordOf
-returns c = λ cs e. rw (c .line .ensures, c .before .before .want .given .1, ap (λ (b : Bases). b .first) e)
+returns c = rw (c .line .ensures, c .before .before .want .given .1)
 
 returns-2 : tie.Need-returns-2
-unfolding recordOf
-returns-2 c = λ cs e. rw (c .line2 .ensures, c .before .before .want2 .given .1, ap (λ (b : Bases). b .first) e)
+returns-2 c = rw (c .line2 .ensures, c .before .before .want2 .given .1)
 
 returns-3 : tie.Need-returns-3
-unfolding recordOf
-returns-3 c = λ cs e. rw (c .line3 .ensures, c .before .before .want3 .given .1, ap (λ (b : Bases). b .first) e)
+returns-3 c = rw (c .line3 .ensures, c .before .before .want3 .given .1)
 
 returns-4 : tie.Need-returns-4
-unfolding recordOf
-returns-4 c = λ cs e. rw (c .line4 .ensures, c .before .enum-told .given .1, ap (λ (b : Bases). b .first) e)
+returns-4 c = rw (c .line4 .ensures, c .before .enum-told .given .1)
 
 returns-5 : tie.Need-returns-5
-unfolding recordOf
-returns-5 c = λ cs e. rw (c .line5 .ensures, c .before .before .want4 .given .1, ap (λ (b : Bases). b .first) e, ap (λ (b : Bases). b .second) e, ap (λ (b : Bases). b .third) e)
+returns-5 c = rw (c .line5 .ensures, c .before .before .before .before .before .want4 .given .1)
 
 pub record-of-spec : {M : Type 1} → statement M
 record-of-spec =
@@ -101,6 +102,9 @@ record-of-spec =
     cast-line-4
     cast-line-5
     cast-line-6
+    cast-line-7
+    cast-line-8
+    cast-line-9
     line-requires-5
     returns
     returns-2

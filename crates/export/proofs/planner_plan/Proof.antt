@@ -49,10 +49,10 @@ use Rattle.definition.specs.Plan.{Lent, lent}
 use Rattle.export.specs.Export.{stateSize}
 use Rattle.export.proofs.SizeLaws.{right-size, wrong-size, counts}
 use Rattle.export.proofs.FaceWalk.{faceCode, face-walk}
-use Rattle.plan.proofs.plan as g
-use Rattle.plan.proofs.plan.Symbol as g-def
-use Rattle.plan.proofs.plan.Symbol.{name as #g}
-use Rattle.plan.proofs.plan.Met as g-thm
+use Rattle.plan.proofs.numbers.plan as g
+use Rattle.plan.proofs.numbers.plan.Symbol as g-def
+use Rattle.plan.proofs.numbers.plan.Symbol.{name as #g}
+use Rattle.plan.proofs.numbers.plan.Met as g-thm
 use Rattle.face.proofs.lent.filled as k
 use Rattle.face.proofs.lent.filled.Symbol as k-def
 use Rattle.face.proofs.lent.filled.Symbol.{name as #k}
@@ -231,5 +231,5 @@ planner-plan-spec 𝓤 H 𝓜 𝓖 𝓡 =
     entered 𝓤 H (tripleOf 𝓤 H (𝓖 .A) f.signature (f.spec 𝓤 H (𝓖 .A) (𝓜 .mem) (𝓡 .run)))
     (tables 𝓤 H 𝓜 𝓡 code.env .C) (tables 𝓤 H 𝓜 𝓡 code.env .Λ) #f code.function (code.unfolded 𝓤 H 𝓜 𝓡)
     (f-meets 𝓤 H (𝓖 .A) (givenOf 𝓤 H 𝓜 𝓖) (𝓜 .mem) (𝓡 .run) (tablesOf 𝓤 H 𝓜 (tables 𝓤 H 𝓜 𝓡 code.env))
-    (cited 𝓤 H (G 𝓤 H (𝓖 .A) (𝓜 .mem) (𝓡 .run)) 𝓜 𝓡 code.env #g g-def.routine code.calls-plan·plan (g-thm.met 𝓤 H 𝓜 𝓖 𝓡))
+    (cited 𝓤 H (G 𝓤 H (𝓖 .A) (𝓜 .mem) (𝓡 .run)) 𝓜 𝓡 code.env #g g-def.routine code.calls-plan·numbers·plan (g-thm.met 𝓤 H 𝓜 𝓖 𝓡))
     (cited 𝓤 H (K 𝓤 H (𝓖 .A) (𝓜 .mem) (𝓡 .run)) 𝓜 𝓡 code.env #k k-def.routine code.calls-face·lent·filled (k-thm.met 𝓤 H 𝓜 𝓖 𝓡)))

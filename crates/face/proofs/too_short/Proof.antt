@@ -9,13 +9,13 @@ refuse-requires : tie.Need-refuse-requires
 refuse-requires c κs = search needs
 
 returns : tie.Need-returns
-returns c = c .before .refuse .ensures .state ∙ judged-short _ _ (c .before .before .if1 .taken)
+returns c = c .refuse .ensures ∙ judged-short _ _ (c .before .if1 .taken)
 
 refuse-requires-2 : tie.Need-refuse-requires-2
 refuse-requires-2 c κs = search needs
 
 returns-2 : tie.Need-returns-2
-returns-2 c = c .before .refuse2 .ensures .state ∙ judged-not _ _ (c .before .before .if1 .left)
+returns-2 c = c .refuse2 .ensures ∙ judged-not _ _ (c .before .if1 .left)
 
 pub too-short-spec : {M : Type 1} → statement M
 too-short-spec = tie.close (tie.spec refuse-requires returns refuse-requires-2 returns-2)

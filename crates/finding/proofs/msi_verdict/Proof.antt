@@ -1,78 +1,51 @@
--- Each refusal in its turn, and room last. Assumes nothing.
-use mathlib.Core.Path.{sym, _∙_}
+-- What the chain answers, with its rows. Assumes nothing.
+use mathlib.Core.Path.{sym, _∙_, ap}
+use Rattle.finding.specs.Finding.{msiGiven}
 use borrow.Author.Needs.{needs}
 use Rattle.finding.proofs.msi_verdict.Statement.{statement}
 use Rattle.finding.proofs.msi_verdict.Tie as tie
 
-enum-known-d : tie.Need-enum-known-d
-enum-known-d c = search needs
+device-requires : tie.Need-device-requires
+device-requires c κs = search needs
+
+event-requires : tie.Need-event-requires
+event-requires c κs = search needs
+
+lpi-requires : tie.Need-lpi-requires
+lpi-requires c κs = search needs
+
+chain-requires : tie.Need-chain-requires
+chain-requires c κs = search needs
+
+enum-known-chosen : tie.Need-enum-known-chosen
+enum-known-chosen c = search needs
 
 refused-requires : tie.Need-refused-requires
 refused-requires c κs = search needs
 
-enum-known-d-2 : tie.Need-enum-known-d-2
-enum-known-d-2 c = search needs
-
-enum-known-e : tie.Need-enum-known-e
-enum-known-e c = search needs
-
-refused-requires-2 : tie.Need-refused-requires-2
-refused-requires-2 c κs = search needs
-
-enum-known-e-2 : tie.Need-enum-known-e-2
-enum-known-e-2 c = search needs
-
-enum-known-l : tie.Need-enum-known-l
-enum-known-l c = search needs
-
-refused-requires-3 : tie.Need-refused-requires-3
-refused-requires-3 c κs = search needs
-
-enum-known-l-2 : tie.Need-enum-known-l-2
-enum-known-l-2 c = search needs
-
-three-free-requires : tie.Need-three-free-requires
-three-free-requires c κs = search needs
+enum-known-chosen-2 : tie.Need-enum-known-chosen-2
+enum-known-chosen-2 c = search needs
 
 three-requires : tie.Need-three-requires
 three-requires c κs = search needs
 
 returns : tie.Need-returns
-returns c = rw (c .three .ensures, c .before .before .before .before .before .before .before .before .before .before .d2 .given .1, c .before .before .before .before .before .before .before .e2 .given .1, c .before .before .before .before .l2 .given .1, sym (c .before .before .three-free .ensures) ∙ c .before .if1 .taken)
-
-refused-requires-4 : tie.Need-refused-requires-4
-refused-requires-4 c κs = search needs
+returns c = c .refused .ensures ∙ ap (msiGiven (c .before .before .before .before .before .before .before .before .before .args .q .msi)) (sym (c .before .before .chosen .given .1) ∙ (rw (c .before .before .before .before .before .before .before .device .ensures, c .before .before .before .before .before .before .event .ensures, c .before .before .before .before .before .lpi .ensures) at (c .before .before .before .before .chain .ensures)))
 
 returns-2 : tie.Need-returns-2
-returns-2 c = rw (c .refused .ensures, c .before .before .d .given .1)
-
-returns-3 : tie.Need-returns-3
-returns-3 c = rw (c .refused2 .ensures, c .before .before .before .before .before .d2 .given .1, c .before .before .e .given .1)
-
-returns-4 : tie.Need-returns-4
-returns-4 c = rw (c .refused3 .ensures, c .before .before .before .before .before .before .before .before .d2 .given .1, c .before .before .before .before .before .e2 .given .1, c .before .before .l .given .1)
-
-returns-5 : tie.Need-returns-5
-returns-5 c = rw (c .refused4 .ensures, c .before .before .before .before .before .before .before .before .before .before .d2 .given .1, c .before .before .before .before .before .before .before .e2 .given .1, c .before .before .before .before .l2 .given .1, sym (c .before .before .three-free .ensures) ∙ c .before .if1 .left)
+returns-2 c = c .three .ensures ∙ ap (msiGiven (c .before .before .before .before .before .before .before .before .before .args .q .msi)) (sym (c .before .before .chosen2 .given .1) ∙ (rw (c .before .before .before .before .before .before .before .device .ensures, c .before .before .before .before .before .before .event .ensures, c .before .before .before .before .before .lpi .ensures) at (c .before .before .before .before .chain .ensures)))
 
 pub msi-verdict-spec : {M : Type 1} → statement M
 msi-verdict-spec =
     tie.close
     (tie.spec
-    enum-known-d
+    device-requires
+    event-requires
+    lpi-requires
+    chain-requires
+    enum-known-chosen
     refused-requires
-    enum-known-d-2
-    enum-known-e
-    refused-requires-2
-    enum-known-e-2
-    enum-known-l
-    refused-requires-3
-    enum-known-l-2
-    three-free-requires
+    enum-known-chosen-2
     three-requires
     returns
-    refused-requires-4
-    returns-2
-    returns-3
-    returns-4
-    returns-5)
+    returns-2)

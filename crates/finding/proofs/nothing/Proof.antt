@@ -1,4 +1,4 @@
--- No need and no wire. Assumes nothing.
+-- Nothing. Assumes nothing.
 use borrow.Author.Needs.{needs}
 use Rattle.finding.proofs.nothing.Statement.{statement}
 use Rattle.finding.proofs.nothing.Tie as tie
@@ -9,8 +9,11 @@ no-need-requires c κs = search needs
 no-wire-requires : tie.Need-no-wire-requires
 no-wire-requires c κs = search needs
 
+no-msi-requires : tie.Need-no-msi-requires
+no-msi-requires c κs = search needs
+
 returns : tie.Need-returns
-returns c = rw (c .before .no-need .ensures, c .no-wire .ensures)
+returns c = rw (c .before .before .no-need .ensures, c .before .no-wire .ensures, c .no-msi .ensures)
 
 pub nothing-spec : {M : Type 1} → statement M
-nothing-spec = tie.close (tie.spec no-need-requires no-wire-requires returns)
+nothing-spec = tie.close (tie.spec no-need-requires no-wire-requires no-msi-requires returns)

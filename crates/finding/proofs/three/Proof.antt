@@ -3,26 +3,11 @@ use borrow.Author.Needs.{needs}
 use Rattle.finding.proofs.three.Statement.{statement}
 use Rattle.finding.proofs.three.Tie as tie
 
-narrow-requires : tie.Need-narrow-requires
-narrow-requires c κs = search needs
+rows-requires : tie.Need-rows-requires
+rows-requires c κs = search needs
 
-needing-requires : tie.Need-needing-requires
-needing-requires c κs = search needs
-
-row-requires : tie.Need-row-requires
-row-requires c κs = search needs
-
-needing-requires-2 : tie.Need-needing-requires-2
-needing-requires-2 c κs = search needs
-
-row-requires-2 : tie.Need-row-requires-2
-row-requires-2 c κs = search needs
-
-needing-requires-3 : tie.Need-needing-requires-3
-needing-requires-3 c κs = search needs
-
-row-requires-3 : tie.Need-row-requires-3
-row-requires-3 c κs = search needs
+three-bases-requires : tie.Need-three-bases-requires
+three-bases-requires c κs = search needs
 
 no-wire-row-requires : tie.Need-no-wire-row-requires
 no-wire-row-requires c κs = search needs
@@ -31,19 +16,9 @@ granted-requires : tie.Need-granted-requires
 granted-requires c κs = search needs
 
 returns : tie.Need-returns
-returns c = rw (c .granted .ensures, c .before .no-wire-row .ensures, c .before .before .row3 .ensures, c .before .before .before .needing3 .ensures, c .before .before .before .before .row2 .ensures, c .before .before .before .before .before .needing2 .ensures, c .before .before .before .before .before .before .row .ensures, c .before .before .before .before .before .before .before .needing .ensures, c .before .before .before .before .before .before .before .before .narrow .ensures)
+returns c = rw (c .granted .ensures, c .before .no-wire-row .ensures, c .before .before .three-bases .ensures, c .before .before .before .before .before .before .rows .ensures)
 
 pub three-spec : {M : Type 1} → statement M
 three-spec =
     tie.close
-    (tie.spec
-    narrow-requires
-    needing-requires
-    row-requires
-    needing-requires-2
-    row-requires-2
-    needing-requires-3
-    row-requires-3
-    no-wire-row-requires
-    granted-requires
-    returns)
+    (tie.spec rows-requires three-bases-requires no-wire-row-requires granted-requires returns)

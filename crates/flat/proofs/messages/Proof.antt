@@ -1,21 +1,38 @@
 -- The numbers fit. Assumes nothing.
 use native.Mathlib.Omega.{arith}
-use Rattle.flat.proofs.FormLaws.{all-fit-says}
-use borrow.Author.Needs.{needs}
+use Rattle.flat.proofs.FormLaws.{all-fit-says, reads-messages}
 use Rattle.flat.proofs.messages.Statement.{statement}
 use Rattle.flat.proofs.messages.Tie as tie
 
-cast-t7 : tie.Need-cast-t7
-cast-t7 c = let a = c .args in omega (arith, all-fit-says (a .a) (a .b) (a .c) (c .pre))
+device-of-requires : tie.Need-device-of-requires
+device-of-requires c κs = reads-messages _ _ _ _ _ _ _ _ _ (c .pre) .1
 
-cast-t8 : tie.Need-cast-t8
-cast-t8 c = let a = c .args in omega (arith, all-fit-says (a .a) (a .b) (a .c) (c .pre))
+event-of-requires : tie.Need-event-of-requires
+event-of-requires c κs = reads-messages _ _ _ _ _ _ _ _ _ (c .before .pre) .2
 
-cast-t9 : tie.Need-cast-t9
-cast-t9 c = let a = c .args in omega (arith, all-fit-says (a .a) (a .b) (a .c) (c .pre))
+lpi-of-requires : tie.Need-lpi-of-requires
+lpi-of-requires c κs = reads-messages _ _ _ _ _ _ _ _ _ (c .before .before .pre) .3
+
+cast-t13 : tie.Need-cast-t13
+cast-t13 c = let a = c .before .before .before .args in omega (arith, all-fit-says (a .a) (a .b) (a .c) (reads-messages _ _ _ (a .x) (a .n) (a .y) (a .m) (a .z) (a .l) (c .before .before .before .pre) .0))
+
+cast-t14 : tie.Need-cast-t14
+cast-t14 c = let a = c .before .before .before .args in omega (arith, all-fit-says (a .a) (a .b) (a .c) (reads-messages _ _ _ (a .x) (a .n) (a .y) (a .m) (a .z) (a .l) (c .before .before .before .pre) .0))
+
+cast-t15 : tie.Need-cast-t15
+cast-t15 c = let a = c .before .before .before .args in omega (arith, all-fit-says (a .a) (a .b) (a .c) (reads-messages _ _ _ (a .x) (a .n) (a .y) (a .m) (a .z) (a .l) (c .before .before .before .pre) .0))
 
 returns : tie.Need-returns
-returns c = search needs
+returns c = rw (c .before .before .device-of .ensures, c .before .event-of .ensures, c .lpi-of .ensures)
 
 pub messages-spec : {M : Type 1} → statement M
-messages-spec = tie.close (tie.spec cast-t7 cast-t8 cast-t9 returns)
+messages-spec =
+    tie.close
+    (tie.spec
+    device-of-requires
+    event-of-requires
+    lpi-of-requires
+    cast-t13
+    cast-t14
+    cast-t15
+    returns)

@@ -1,7 +1,6 @@
--- Narrow numbers, then the codes. Assumes nothing.
-use native.Mathlib.Omega.{arith}
+-- Narrow numbers, then the three choices. Assumes nothing.
 use mathlib.Core.Path.{sym, _∙_}
-use borrow.Author.Tests.{not-true, not-false, lt-leb, le-leb}
+use borrow.Author.Tests.{not-true, not-false}
 use Rattle.flat.specs.Flat.{readable}
 use borrow.Author.Needs.{needs}
 use Rattle.flat.proofs.messages_read.Statement.{statement}
@@ -14,17 +13,36 @@ returns : tie.Need-returns
 unfolding readable
 returns c = rw (sym (c .before .all-fit .ensures) ∙ not-true (c .before .all-fit .result) (c .if1 .taken))
 
+number-reads-requires : tie.Need-number-reads-requires
+number-reads-requires c κs = search needs
+
 returns-2 : tie.Need-returns-2
 unfolding readable
-returns-2 c = rw (sym (c .before .before .all-fit .ensures) ∙ not-false (c .before .before .all-fit .result) (c .before .if1 .left), lt-leb (c .before .before .before .args .x) 1 (omega arith))
+returns-2 c = rw (sym (c .before .before .before .all-fit .ensures) ∙ not-false (c .before .before .before .all-fit .result) (c .before .before .if1 .left), sym (c .before .number-reads .ensures) ∙ not-true (c .before .number-reads .result) (c .if2 .taken))
+
+number-reads-requires-2 : tie.Need-number-reads-requires-2
+number-reads-requires-2 c κs = search needs
 
 returns-3 : tie.Need-returns-3
 unfolding readable
-returns-3 c = rw (sym (c .before .before .before .all-fit .ensures) ∙ not-false (c .before .before .before .all-fit .result) (c .before .before .if1 .left), le-leb (c .before .before .before .before .args .x) 1 (omega arith), lt-leb (c .before .before .before .before .args .y) 1 (omega arith))
+returns-3 c = rw (sym (c .before .before .before .before .before .all-fit .ensures) ∙ not-false (c .before .before .before .before .before .all-fit .result) (c .before .before .before .before .if1 .left), sym (c .before .before .before .number-reads .ensures) ∙ not-false (c .before .before .before .number-reads .result) (c .before .before .if2 .left), sym (c .before .number-reads2 .ensures) ∙ not-true (c .before .number-reads2 .result) (c .if3 .taken))
+
+number-reads-requires-3 : tie.Need-number-reads-requires-3
+number-reads-requires-3 c κs = search needs
 
 returns-4 : tie.Need-returns-4
 unfolding readable
-returns-4 c = rw (sym (c .before .before .before .all-fit .ensures) ∙ not-false (c .before .before .before .all-fit .result) (c .before .before .if1 .left), le-leb (c .before .before .before .before .args .x) 1 (omega arith), le-leb (c .before .before .before .before .args .y) 1 (omega arith))
+returns-4 c = rw (sym (c .before .before .before .before .before .before .all-fit .ensures) ∙ not-false (c .before .before .before .before .before .before .all-fit .result) (c .before .before .before .before .before .if1 .left), sym (c .before .before .before .before .number-reads .ensures) ∙ not-false (c .before .before .before .before .number-reads .result) (c .before .before .before .if2 .left), sym (c .before .before .number-reads2 .ensures) ∙ not-false (c .before .before .number-reads2 .result) (c .before .if3 .left)) (c .number-reads3 .ensures)
 
 pub messages-read-spec : {M : Type 1} → statement M
-messages-read-spec = tie.close (tie.spec all-fit-requires returns returns-2 returns-3 returns-4)
+messages-read-spec =
+    tie.close
+    (tie.spec
+    all-fit-requires
+    returns
+    number-reads-requires
+    returns-2
+    number-reads-requires-2
+    returns-3
+    number-reads-requires-3
+    returns-4)

@@ -11,7 +11,7 @@ unfolding readable
 returns c = rw (c .if1 .taken)
 
 returns-2 : tie.Need-returns-2
-returns-2 c = readable-past _ _ _ _ _ _ _ (c .if2 .taken)
+returns-2 c = readable-past _ _ _ _ _ _ _ _ _ _ (c .if2 .taken)
 
 wired-reads-requires : tie.Need-wired-reads-requires
 wired-reads-requires c κs = search needs
@@ -28,7 +28,7 @@ unfolding readable
 returns-4 c = rw (c .before .if4 .taken) (c .messages-read .ensures)
 
 returns-5 : tie.Need-returns-5
-returns-5 c = readable-plain _ _ _ _ _ _ _ (omega arith) (omega arith) (c .before .if3 .left) (c .if4 .left)
+returns-5 c = readable-plain _ _ _ _ _ _ _ _ _ _ (omega arith) (omega arith) (c .before .if3 .left) (c .if4 .left)
 
 pub readable-spec : {M : Type 1} → statement M
 readable-spec =

@@ -32,27 +32,18 @@ returns-3 : tie.Need-returns-3
 unfolding requestIn
 returns-3 c = rw (le-leb (c .before .before .before .before .before .args .requester) 4294967295 (omega arith), le-leb (c .before .before .before .before .before .args .slot) 4294967295 (omega arith), sym (c .before .before .readable .ensures) ∙ not-true (c .before .before .readable .result) (c .before .if3 .taken)) (c .bad3 .ensures)
 
-choice-of-requires : tie.Need-choice-of-requires
-choice-of-requires c κs = search needs
-
-choice-of-requires-2 : tie.Need-choice-of-requires-2
-choice-of-requires-2 c κs = search needs
-
-choice-of-requires-3 : tie.Need-choice-of-requires-3
-choice-of-requires-3 c κs = search needs
-
 want-of-requires : tie.Need-want-of-requires
-want-of-requires c κs = let a = c .before .before .before .before .before .before .before .args in (a .x, a .y, a .z, true-T _ (sym (c .before .before .before .before .readable .ensures) ∙ not-false (c .before .before .before .before .readable .result) (c .before .before .before .if3 .left)))
+want-of-requires c κs = true-T _ (sym (c .before .readable .ensures) ∙ not-false (c .before .readable .result) (c .if3 .left))
 
-cast-t19 : tie.Need-cast-t19
-cast-t19 c = search needs
+cast-t16 : tie.Need-cast-t16
+cast-t16 c = search needs
 
-cast-t20 : tie.Need-cast-t20
-cast-t20 c = search needs
+cast-t17 : tie.Need-cast-t17
+cast-t17 c = search needs
 
 returns-4 : tie.Need-returns-4
 unfolding requestIn
-returns-4 c = rw (le-leb (c .before .before .before .before .before .before .before .before .args .requester) 4294967295 (omega arith), le-leb (c .before .before .before .before .before .before .before .before .args .slot) 4294967295 (omega arith), sym (c .before .before .before .before .before .readable .ensures) ∙ not-false (c .before .before .before .before .before .readable .result) (c .before .before .before .before .if3 .left), c .want-of .ensures, c .before .choice-of3 .ensures, c .before .before .choice-of2 .ensures, c .before .before .before .choice-of .ensures)
+returns-4 c = rw (le-leb (c .before .before .before .before .before .args .requester) 4294967295 (omega arith), le-leb (c .before .before .before .before .before .args .slot) 4294967295 (omega arith), sym (c .before .before .readable .ensures) ∙ not-false (c .before .before .readable .result) (c .before .if3 .left), c .want-of .ensures)
 
 pub request-of-spec : {M : Type 1} → statement M
 request-of-spec =
@@ -65,10 +56,7 @@ request-of-spec =
     readable-requires
     bad-requires-3
     returns-3
-    choice-of-requires
-    choice-of-requires-2
-    choice-of-requires-3
     want-of-requires
-    cast-t19
-    cast-t20
+    cast-t16
+    cast-t17
     returns-4)

@@ -43,10 +43,10 @@ use Rattle.request.specs.Asked.{requestOf}
 use Rattle.request.specs.declared.Request.{Request}
 use Rattle.request.proofs.Request as R
 use Rattle.request.proofs.Request.Laws as R′
-use Rattle.resolve.specs.Outcomes.{basesIn, after}
-use Rattle.resolve.specs.declared.Bases.{Bases}
-use Rattle.resolve.proofs.Bases as B
-use Rattle.resolve.proofs.Bases.Laws as B′
+use Rattle.finding.specs.Outcome.{basesIn, after}
+use Rattle.finding.specs.declared.Bases.{Bases}
+use Rattle.finding.proofs.Bases as B
+use Rattle.finding.proofs.Bases.Laws as B′
 use Rattle.allocation.proofs.ServeLaws.{serve-sound}
 use Rattle.finding.specs.Kept.{answer}
 use Rattle.inplace.proofs.AllocateWalk.{allocateCode, allocate-walk}
@@ -76,7 +76,7 @@ Promise h r d = stateView d ≡ serve kinds (want (requestOf r)) (stateView h)
 
 -- what `resolve` promises
 abbrev Solved : State → Request → State → Bases → Type 0
-Solved h r d u = (stateView d ≡ after (stateView h) (answer h (requestOf r))) × (u ≡ basesIn (answer h (requestOf r)))
+Solved h r d u = (stateView d ≡ after (stateView h) (answer h (requestOf r))) × (u ≡ basesIn (requestOf r .want) (answer h (requestOf r)))
 
 abbrev stayed : Stays (f.ended .signature .params) (f.ended .kept)
 stayed = (gave-ref (0 ∷ []) tt (plain (λ _. T.the-row)), (stay-none (λ _. R.the-row) yes, tt))

@@ -42,8 +42,8 @@ use Rattle.request.specs.Asked.{requestOf}
 use Rattle.request.specs.declared.Request.{Request}
 use Rattle.request.proofs.Request as R
 use Rattle.request.proofs.Request.Laws as R′
-use Rattle.resolve.proofs.Bases as B
-use Rattle.resolve.proofs.Bases.Laws as B′
+use Rattle.finding.proofs.Bases as B
+use Rattle.finding.proofs.Bases.Laws as B′
 use Rattle.finding.specs.Kept.{Finds, kept}
 use Rattle.finding.specs.declared.Finding.{Finding}
 use Rattle.finding.proofs.Finding as F

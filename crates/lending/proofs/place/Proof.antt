@@ -1,4 +1,4 @@
--- `lending::place` meets its contract: the walk of ArrayWalk.antt, over `placed::plan_in`. Assumes nothing.
+-- `lending::place` meets its contract: the walk of ArrayWalk.antt, over `plan::list::plan_in`. Assumes nothing.
 use mathlib.Core.Path.{_≡_, refl, sym, subst}
 use Prim.Native.Nat.{ℕ, _≤_, _<_, _^_}
 use native.Mathlib.Omega.{arith}
@@ -48,10 +48,10 @@ use Rattle.request.specs.declared.Request.{Request}
 use Rattle.request.proofs.Request as R
 use Rattle.request.proofs.Request.Laws as R′
 use Rattle.lending.proofs.ArrayWalk.{lendCode, lend-walk}
-use Rattle.placed.proofs.plan_in as g
-use Rattle.placed.proofs.plan_in.Symbol as g-def
-use Rattle.placed.proofs.plan_in.Symbol.{name as #g}
-use Rattle.placed.proofs.plan_in.Met as g-thm
+use Rattle.plan.proofs.list.plan_in as g
+use Rattle.plan.proofs.list.plan_in.Symbol as g-def
+use Rattle.plan.proofs.list.plan_in.Symbol.{name as #g}
+use Rattle.plan.proofs.list.plan_in.Met as g-thm
 use Rattle.lending.proofs.place.Key.{name as #f}
 use Rattle.lending.proofs.place as f
 use Rattle.lending.proofs.place.Statement as stated
@@ -187,4 +187,4 @@ place-spec 𝓤 H 𝓜 𝓖 𝓡 =
     entered 𝓤 H (tripleOf 𝓤 H (𝓖 .A) f.signature (f.spec 𝓤 H (𝓖 .A) (𝓜 .mem) (𝓡 .run)))
     (tables 𝓤 H 𝓜 𝓡 code.env .C) (tables 𝓤 H 𝓜 𝓡 code.env .Λ) #f code.function (code.unfolded 𝓤 H 𝓜 𝓡)
     (f-meets 𝓤 H (𝓖 .A) (givenOf 𝓤 H 𝓜 𝓖) (𝓜 .mem) (𝓡 .run) (tablesOf 𝓤 H 𝓜 (tables 𝓤 H 𝓜 𝓡 code.env))
-    (cited 𝓤 H (G 𝓤 H (𝓖 .A) (𝓜 .mem) (𝓡 .run)) 𝓜 𝓡 code.env #g g-def.routine code.calls-placed·plan-in (g-thm.met 𝓤 H 𝓜 𝓖 𝓡)))
+    (cited 𝓤 H (G 𝓤 H (𝓖 .A) (𝓜 .mem) (𝓡 .run)) 𝓜 𝓡 code.env #g g-def.routine code.calls-plan·list·plan-in (g-thm.met 𝓤 H 𝓜 𝓖 𝓡)))

@@ -48,10 +48,10 @@ use Rattle.flat.specs.Flat.{requestSize, flatPlan}
 use Rattle.planned.specs.Filled.{flatFilled}
 use Rattle.planned.proofs.FilledLaws.{flat-front}
 use Rattle.door.proofs.PartWalk.{partCode, part-walk}
-use Rattle.plan.proofs.plan as g
-use Rattle.plan.proofs.plan.Symbol as g-def
-use Rattle.plan.proofs.plan.Symbol.{name as #g}
-use Rattle.plan.proofs.plan.Met as g-thm
+use Rattle.plan.proofs.numbers.plan as g
+use Rattle.plan.proofs.numbers.plan.Symbol as g-def
+use Rattle.plan.proofs.numbers.plan.Symbol.{name as #g}
+use Rattle.plan.proofs.numbers.plan.Met as g-thm
 use Rattle.planned.proofs.part as k
 use Rattle.planned.proofs.part.Symbol as k-def
 use Rattle.planned.proofs.part.Symbol.{name as #k}
@@ -209,5 +209,5 @@ plan-spec 𝓤 H 𝓜 𝓖 𝓡 =
     entered 𝓤 H (tripleOf 𝓤 H (𝓖 .A) f.signature (f.spec 𝓤 H (𝓖 .A) (𝓜 .mem) (𝓡 .run)))
     (tables 𝓤 H 𝓜 𝓡 code.env .C) (tables 𝓤 H 𝓜 𝓡 code.env .Λ) #f code.function (code.unfolded 𝓤 H 𝓜 𝓡)
     (f-meets 𝓤 H (𝓖 .A) (givenOf 𝓤 H 𝓜 𝓖) (𝓜 .mem) (𝓡 .run) (tablesOf 𝓤 H 𝓜 (tables 𝓤 H 𝓜 𝓡 code.env))
-    (cited 𝓤 H (G 𝓤 H (𝓖 .A) (𝓜 .mem) (𝓡 .run)) 𝓜 𝓡 code.env #g g-def.routine code.calls-plan·plan (g-thm.met 𝓤 H 𝓜 𝓖 𝓡))
+    (cited 𝓤 H (G 𝓤 H (𝓖 .A) (𝓜 .mem) (𝓡 .run)) 𝓜 𝓡 code.env #g g-def.routine code.calls-plan·numbers·plan (g-thm.met 𝓤 H 𝓜 𝓖 𝓡))
     (cited 𝓤 H (K 𝓤 H (𝓖 .A) (𝓜 .mem) (𝓡 .run)) 𝓜 𝓡 code.env #k k-def.routine code.calls-planned·part (k-thm.met 𝓤 H 𝓜 𝓖 𝓡)))

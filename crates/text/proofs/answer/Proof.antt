@@ -6,7 +6,7 @@ use lib.ListN.{length}
 use lib.Seq.{length-take-le}
 use Rattle.tables.specs.Views.{stateView}
 use Rattle.lines.proofs.Longest.{output-length}
-use Rattle.text.proofs.OutputLaws.{output-refused, started-sound, ends, blank, blank-long}
+use Rattle.text.proofs.OutputLaws.{output-refused, ends, blank, blank-long}
 use borrow.Author.Needs.{needs}
 use Rattle.text.proofs.answer.Statement.{statement}
 use Rattle.text.proofs.answer.Tie as tie
@@ -38,21 +38,14 @@ start-requires c κs = search needs
 array-share-prefix-numbers : tie.Need-array-share-prefix-numbers
 array-share-prefix-numbers c = omega (arith, c .before .before .read-wants .ensures .few, c .before .before .read-wants .ensures .long)
 
-slice-aggregate-run : tie.Need-slice-aggregate-run
-slice-aggregate-run c = let r = c .before .before .before .read-wants in sym (length-take-le (12 * r .result .count) (r .last .1 .1 .0) (omega (arith, r .ensures .few, r .ensures .long)))
+slice-aggregate-plan : tie.Need-slice-aggregate-plan
+slice-aggregate-plan c = let r = c .before .before .before .read-wants in sym (length-take-le (12 * r .result .count) (r .last .1 .1 .0) (omega (arith, r .ensures .few, r .ensures .long)))
 
-slice-aggregate-run-2 : tie.Need-slice-aggregate-run-2
-slice-aggregate-run-2 c = search needs
+slice-aggregate-plan-2 : tie.Need-slice-aggregate-plan-2
+slice-aggregate-plan-2 c = search needs
 
-run-requires : tie.Need-run-requires
-run-requires c κs =
-    let a = c .before .before .before .before .before .before .before .before .before .before .before .args in
-    let p = c .before .before .before .before .before .before .before .before .before .before .before .pre in
-    let ok = c .before .before .before .before .before .before .if1 .left in
-    let w = c .before .before .before .before .read-wants .result in
-    let rq = c .before .before .before .before .read-wants .last .1 .1 .0 in
-    let r = c .before .before .before .before .read-wants .ensures in
-    started-sound (a .text .now) (p .0 .0) (a .head) (p .1) ok rq w r (stateView (c .before .before .start .result)) (c .before .before .start .ensures)
+plan-requires : tie.Need-plan-requires
+plan-requires c κs = tt
 
 add-line : tie.Need-add-line
 add-line c =
@@ -63,7 +56,7 @@ add-line c =
     let rq = c .before .before .before .before .before .before .before .before .before .read-wants .last .1 .1 .0 in
     let r = c .before .before .before .before .before .before .before .before .before .read-wants .ensures in
     let e = ends (a .text .now) (p .0 .0) (a .head) (p .1) ok rq w r (stateView (c .before .before .before .before .before .before .before .start .result)) (c .before .before .before .before .before .before .before .start .ensures)
-    (stateView (c .before .before .before .before .run .result)) blank (c .before .before .before .before .run .last .1 .1 .0) blank-long (c .before .before .before .before .run .ensures) in
+    (stateView (c .before .before .before .before .plan .result)) blank (c .before .before .before .before .plan .last .1 .1 .0) blank-long (c .before .before .before .before .plan .ensures) in
     omega (arith, e .index (c .before .if2 .taken), p .1 .taken .counted, p .1 .taken .inside, p .0 .0)
 
 add-line-2 : tie.Need-add-line-2
@@ -75,7 +68,7 @@ add-line-2 c =
     let rq = c .before .before .before .before .before .before .before .before .before .read-wants .last .1 .1 .0 in
     let r = c .before .before .before .before .before .before .before .before .before .read-wants .ensures in
     let e = ends (a .text .now) (p .0 .0) (a .head) (p .1) ok rq w r (stateView (c .before .before .before .before .before .before .before .start .result)) (c .before .before .before .before .before .before .before .start .ensures)
-    (stateView (c .before .before .before .before .run .result)) blank (c .before .before .before .before .run .last .1 .1 .0) blank-long (c .before .before .before .before .run .ensures) in
+    (stateView (c .before .before .before .before .plan .result)) blank (c .before .before .before .before .plan .last .1 .1 .0) blank-long (c .before .before .before .before .plan .ensures) in
     omega (arith, e .index (c .before .if2 .taken), p .1 .taken .counted, p .1 .taken .inside, p .0 .0)
 
 refuse-requires-2 : tie.Need-refuse-requires-2
@@ -87,7 +80,7 @@ refuse-requires-2 c κs =
     let rq = c .before .before .before .before .before .before .before .before .before .before .read-wants .last .1 .1 .0 in
     let r = c .before .before .before .before .before .before .before .before .before .before .read-wants .ensures in
     let e = ends (a .text .now) (p .0 .0) (a .head) (p .1) ok rq w r (stateView (c .before .before .before .before .before .before .before .before .start .result)) (c .before .before .before .before .before .before .before .before .start .ensures)
-    (stateView (c .before .before .before .before .before .run .result)) blank (c .before .before .before .before .before .run .last .1 .1 .0) blank-long (c .before .before .before .before .before .run .ensures) in
+    (stateView (c .before .before .before .before .before .plan .result)) blank (c .before .before .before .before .before .plan .last .1 .1 .0) blank-long (c .before .before .before .before .before .plan .ensures) in
     omega (arith, ap length (e .refused (c .before .before .if2 .taken)), output-length (a .text .now))
 
 same-length-2 : tie.Need-same-length-2
@@ -102,7 +95,7 @@ returns-2 c =
     let rq = c .before .before .before .before .before .before .before .before .before .before .before .before .before .read-wants .last .1 .1 .0 in
     let r = c .before .before .before .before .before .before .before .before .before .before .before .before .before .read-wants .ensures in
     let e = ends (a .text .now) (p .0 .0) (a .head) (p .1) ok rq w r (stateView (c .before .before .before .before .before .before .before .before .before .before .before .start .result)) (c .before .before .before .before .before .before .before .before .before .before .before .start .ensures)
-    (stateView (c .before .before .before .before .before .before .before .before .run .result)) blank (c .before .before .before .before .before .before .before .before .run .last .1 .1 .0) blank-long (c .before .before .before .before .before .before .before .before .run .ensures) in
+    (stateView (c .before .before .before .before .before .before .before .before .plan .result)) blank (c .before .before .before .before .before .before .before .before .plan .last .1 .1 .0) blank-long (c .before .before .before .before .before .before .before .before .plan .ensures) in
     rw (e .refused (c .before .before .before .before .before .if2 .taken)) (c .before .before .refuse2 .ensures)
 
 slice-aggregate-finish : tie.Need-slice-aggregate-finish
@@ -117,8 +110,8 @@ finish-requires c κs =
     let rq = c .before .before .before .before .before .before .before .before .before .before .read-wants .last .1 .1 .0 in
     let r = c .before .before .before .before .before .before .before .before .before .before .read-wants .ensures in
     let e = ends (a .text .now) (p .0 .0) (a .head) (p .1) ok rq w r (stateView (c .before .before .before .before .before .before .before .before .start .result)) (c .before .before .before .before .before .before .before .before .start .ensures)
-    (stateView (c .before .before .before .before .before .run .result)) blank (c .before .before .before .before .before .run .last .1 .1 .0) blank-long (c .before .before .before .before .before .run .ensures) in
-    let long : length (c .before .before .before .before .before .run .last .1 .1 .0) ≡ 1152 = search needs in
+    (stateView (c .before .before .before .before .before .plan .result)) blank (c .before .before .before .before .before .plan .last .1 .1 .0) blank-long (c .before .before .before .before .before .plan .ensures) in
+    let long : length (c .before .before .before .before .before .plan .last .1 .1 .0) ≡ 1152 = search needs in
     ((omega (arith, p .1 .taken .counted, p .1 .taken .inside, p .0 .0), r .few), (omega (arith, r .few, long), omega (arith, ap length (e .accepted (c .before .before .if2 .left)), output-length (a .text .now))))
 
 same-length-3 : tie.Need-same-length-3
@@ -133,7 +126,7 @@ returns-3 c =
     let rq = c .before .before .before .before .before .before .before .before .before .before .before .before .before .read-wants .last .1 .1 .0 in
     let r = c .before .before .before .before .before .before .before .before .before .before .before .before .before .read-wants .ensures in
     let e = ends (a .text .now) (p .0 .0) (a .head) (p .1) ok rq w r (stateView (c .before .before .before .before .before .before .before .before .before .before .before .start .result)) (c .before .before .before .before .before .before .before .before .before .before .before .start .ensures)
-    (stateView (c .before .before .before .before .before .before .before .before .run .result)) blank (c .before .before .before .before .before .before .before .before .run .last .1 .1 .0) blank-long (c .before .before .before .before .before .before .before .before .run .ensures) in
+    (stateView (c .before .before .before .before .before .before .before .before .plan .result)) blank (c .before .before .before .before .before .before .before .before .plan .last .1 .1 .0) blank-long (c .before .before .before .before .before .before .before .before .plan .ensures) in
     rw (e .accepted (c .before .before .before .before .before .if2 .left)) (c .before .before .finish .ensures)
 
 pub answer-spec : {M : Type 1} → statement M
@@ -147,9 +140,9 @@ answer-spec =
     mul-n
     start-requires
     array-share-prefix-numbers
-    slice-aggregate-run
-    slice-aggregate-run-2
-    run-requires
+    slice-aggregate-plan
+    slice-aggregate-plan-2
+    plan-requires
     add-line
     add-line-2
     refuse-requires-2

@@ -2,9 +2,8 @@
 use mathlib.Core.Path.{ap}
 use mathlib.Core.Option.{some}
 use native.Mathlib.Omega.{arith}
-use borrow.Author.Tests.{le-leb}
 use Rattle.flat.specs.Flat.{readable, wantAt}
-use Rattle.wants.proofs.AskedLaws.{asked-is, all-fit}
+use Rattle.wants.proofs.AskedLaws.{asked-is, all-fit, named-low}
 use Rattle.wants.proofs.one.messages.Statement.{statement}
 use Rattle.wants.proofs.one.messages.Tie as tie
 
@@ -12,9 +11,11 @@ returns : tie.Need-returns
 unfolding readable wantAt
 returns c =
     let a = c .args in
-    let known = le-leb (a .code) 1 (omega arith) in
+    let device = named-low (a .code) (a .device) (omega arith) (omega arith) in
+    let event = named-low (a .code) (a .event) (omega arith) (omega arith) in
+    let lpi = named-low (a .code) (a .lpi) (omega arith) (omega arith) in
     let fit = all-fit (a .controller) (a .its) (a .count) (omega arith) (omega arith) (omega arith) in
-    ap some (asked-is 5 (a .requester) (a .slot) (a .controller) (a .its) (a .count) (a .code) (a .device) (a .code) (a .event) (a .code) (a .lpi) (omega arith) (omega arith) (rw (fit, known)))
+    ap some (asked-is 5 (a .requester) (a .slot) (a .controller) (a .its) (a .count) (a .code) (a .device) (a .code) (a .event) (a .code) (a .lpi) (omega arith) (omega arith) (rw (fit, device, event, lpi)))
 
 pub messages-spec : {M : Type 1} → statement M
 messages-spec = tie.close (tie.spec returns)

@@ -1,0 +1,10 @@
+pub mod Acts
+pub mod Steps
+pub mod CutLaws
+pub mod Plain
+pub mod Lies
+pub mod Swap
+pub mod RestoreWalk
+pub mod Deeper
+pub mod PeekWalk
+pub mod CutViews

@@ -1,0 +1,19 @@
+-- `lent::lesser` meets its contract. Assumes nothing.
+use native.Mathlib.Omega.{arith}
+use borrow.Author.Tests.{leb-true, leb-false}
+use Rattle.lent.proofs.CutLaws.{lesser-low, lesser-high}
+use Rattle.lent.proofs.lesser.Statement.{statement}
+use Rattle.lent.proofs.lesser.Tie as tie
+use Rattle.lent.proofs.lesser.Reads as reads
+use Rattle.lent.proofs.lesser.Lts as lts
+
+-- src/lib.rt:33:9
+returns : tie.Need-returns
+returns c = lesser-low _ (omega arith)
+
+-- src/lib.rt:29:1
+returns-2 : tie.Need-returns-2
+returns-2 c = lesser-high _ (omega arith)
+
+pub lesser-spec : {M : Type 1} → statement M
+lesser-spec = tie.close (tie.spec returns returns-2)

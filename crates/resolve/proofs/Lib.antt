@@ -1,3 +1,0 @@
-pub mod AnswerLaws
-pub mod OwnerLaws
-pub mod ReadyLaws
