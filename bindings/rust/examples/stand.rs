@@ -1,6 +1,8 @@
 //! A stand with a card reader, a kitchen printer and three tills: planned, pinned, and planned again after a power dip.
 
-use thurgoleo::{Choice, Hold, Kind, Part, Plan, Planner, Pool, Request, Use, Want};
+use thurgoleo::{
+    Choice, DeviceId, EventId, Hold, Kind, Lpi, Part, Plan, Planner, Pool, Request, Use, Want,
+};
 
 const CARD_READER: u32 = 1;
 const PRINTER: u32 = 2;
@@ -186,9 +188,9 @@ fn replay(
             controller: n32(3),
             its: n32(4),
             count: n32(5),
-            device: Choice::Fixed(n32(7)),
-            event: Choice::Fixed(n32(9)),
-            lpi: Choice::Fixed(n32(11)),
+            device: Choice::Fixed(DeviceId(n32(7))),
+            event: Choice::Fixed(EventId(n32(9))),
+            lpi: Choice::Fixed(Lpi(n32(11))),
         },
     };
     Ok(planner

@@ -114,7 +114,7 @@ pub enum Hold {
     Event {
         controller: u32,
         its: u32,
-        device: u32,
+        device: DeviceId,
         events: Range<u32>,
     },
     Lpi {
@@ -165,7 +165,7 @@ impl Hold {
                 events,
             } => (
                 6,
-                [*controller, *its, *device, events.start, events.end].map(u64::from),
+                [*controller, *its, device.0, events.start, events.end].map(u64::from),
             ),
             Hold::Lpi { controller, lpis } => {
                 (7, [*controller, lpis.start, lpis.end, 0, 0].map(u64::from))
@@ -181,6 +181,36 @@ impl Hold {
             ),
         };
         [2, owner.into(), kind, n[0], n[1], n[2], n[3], n[4]]
+    }
+}
+
+/// The number of a device at its ITS.
+#[derive(Clone, Copy, Debug, PartialEq, Eq)]
+pub struct DeviceId(pub u32);
+
+/// The number of an event of a device.
+#[derive(Clone, Copy, Debug, PartialEq, Eq)]
+pub struct EventId(pub u32);
+
+/// The number of a message interrupt of a controller.
+#[derive(Clone, Copy, Debug, PartialEq, Eq)]
+pub struct Lpi(pub u32);
+
+impl From<DeviceId> for u64 {
+    fn from(id: DeviceId) -> u64 {
+        id.0.into()
+    }
+}
+
+impl From<EventId> for u64 {
+    fn from(id: EventId) -> u64 {
+        id.0.into()
+    }
+}
+
+impl From<Lpi> for u64 {
+    fn from(id: Lpi) -> u64 {
+        id.0.into()
     }
 }
 
@@ -200,7 +230,14 @@ impl<T: Into<u64> + Copy> Choice<T> {
     }
 }
 
-/// What a request wants. An alignment has exactly one bit set.
+/// What a request wants. An alignment has exactly one bit set. The three numbers of a message interrupt are of three types:
+/// one cannot stand in another's place.
+///
+/// ```compile_fail
+/// use thurgoleo::{Choice, DeviceId, EventId, Lpi, Want};
+/// let (device, event, lpi) = (Choice::Fixed(Lpi(8192)), Choice::Fixed(EventId(0)), Choice::Fixed(DeviceId(1)));
+/// let _ = Want::Msi { controller: 0, its: 0, count: 1, device, event, lpi };
+/// ```
 #[derive(Clone, Copy, Debug, PartialEq, Eq)]
 pub enum Want {
     Mmio {
@@ -226,9 +263,9 @@ pub enum Want {
         controller: u32,
         its: u32,
         count: u32,
-        device: Choice<u32>,
-        event: Choice<u32>,
-        lpi: Choice<u32>,
+        device: Choice<DeviceId>,
+        event: Choice<EventId>,
+        lpi: Choice<Lpi>,
     },
 }
 

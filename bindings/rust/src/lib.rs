@@ -33,7 +33,7 @@ mod plan;
 mod raw;
 mod refusal;
 
-pub use ask::{Choice, Hold, Pool, Request, Use, Want};
+pub use ask::{Choice, DeviceId, EventId, Hold, Lpi, Pool, Request, Use, Want};
 pub use plan::{Granted, Plan, PlanRefusal};
 pub use refusal::Refusal;
 

@@ -4,7 +4,8 @@ mod common;
 
 use common::{planner_call, planner_fresh, planner_plan, planner_read, planner_state_size};
 use thurgoleo::{
-    Choice, Hold, Kind, Part, Plan, Planner, Pool, Refusal, Request, Use, Want, STATE_SIZE,
+    Choice, DeviceId, Hold, Kind, Part, Plan, Planner, Pool, Refusal, Request, Use, Want,
+    STATE_SIZE,
 };
 
 fn call(state: &mut [u64], numbers: &[u64]) -> [u64; 5] {
@@ -162,7 +163,7 @@ fn rows_come_back() {
         Hold::Event {
             controller: 1,
             its: 2,
-            device: 3,
+            device: DeviceId(3),
             events: 10..20,
         },
     )
