@@ -18,7 +18,7 @@ use Rattle.definition.specs.PlanLaws.{tell-number, tell-index, plan-says}
 use Rattle.definition.specs.RunLaws.{run-requests, run-stopped, records-length}
 use Rattle.flat.specs.Flat.{requestSize, requestsOf, wholeRequests, flatPlan}
 use Rattle.flat.proofs.FlatLaws.{requests-length, flat-whole}
-use Rattle.face.specs.Lent.{filledIn}
+use Rattle.face.specs.Lent.{filledBy, filledIn}
 
 -- ---- as many grants as requests, or fewer
 
@@ -60,10 +60,10 @@ few-granted rs s out gs x e =
 
 module _ (rs : List Request) (s : State) (out : List ℕ) (n : ℕ) (asked : length rs ≡ n / requestSize) where
   counted-run : (v : Run) → planRun rs s out ≡ v → filledIn (ended s v) n ≡ length (records (grantsOf v))
-  unfolding filledIn
+  unfolding filledBy
   counted-run (done gs) e = ap (λ (m : ℕ). recordSize * m) (sym asked ∙ sym (all-granted (poolsOf s) rs (ownersOf s) gs (plan-says rs s out gs e .ran))) ∙ sym (records-length gs)
   counted-run (stopped gs x) e =
-      rw (ne-eqb (tell (length gs) x .number) 0 (tell-number (length gs) x), tell-index (length gs) x, le-leb (length gs) planLimit (few-granted rs s out gs x e), filledIn) (ap (λ (m : ℕ). recordSize * m) (tell-index (length gs) x) ∙ sym (records-length gs))
+      rw (ne-eqb (tell (length gs) x .number) 0 (tell-number (length gs) x), tell-index (length gs) x, le-leb (length gs) planLimit (few-granted rs s out gs x e), filledBy) (ap (λ (m : ℕ). recordSize * m) (tell-index (length gs) x) ∙ sym (records-length gs))
 
 -- THE COUNT: a plan of whole requests answers with the length of the records that it has written
 pub filled-is : (rq : List ℕ) (s : State) (out : List ℕ) → wholeRequests rq ≡ true

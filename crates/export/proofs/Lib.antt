@@ -1,3 +1,4 @@
+pub mod LendThree
 pub mod SizeLaws
 pub mod FaceWalk
 pub mod ReadWalk

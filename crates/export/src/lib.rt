@@ -89,9 +89,11 @@ pub extern "C" fn planner_plan(
     ensures { λ r. ⌜ answered (lent (stateView (now (state .exit))) (now (results .exit))) r ≡ sized size (stateView (now (state .entry))) (now (results .entry)) (counted (length (now (requests .entry))) (flatPlan (now (requests .entry)) (stateView (now (state .entry))) (now (results .entry)))) ⌝ }
 {
     if size == STATE {
-        let next = plan::numbers::plan(*state, requests, results);
-        *state = next;
-        return filled(next, requests);
+        plan::numbers::plan_in(state, requests, results);
+        let m = lent::peek(state);
+        let number = m.number;
+        let index = m.index;
+        return filled(number, index, requests.len());
     }
     1
 }

@@ -13,7 +13,7 @@ use Rattle.definition.specs.Plan.{Lent, lent, allocateInto}
 use Rattle.flat.specs.Flat.{requestAt}
 use Rattle.face.specs.Face.{number, faceCall}
 use Rattle.face.specs.Rows.{Told, told, rowTold, answerTold}
-use Rattle.face.specs.Lent.{telling, callTold, flatAllocate, readTold, filledIn}
+use Rattle.face.specs.Lent.{telling, callTold, flatAllocate, readTold, filledBy}
 
 pub call-told : (xs : List ℕ) (s t : State) (out zs : List ℕ) (y : ℕ) → t ≡ faceCall xs s → told y zs ≡ answerTold t out → lent t zs ≡ callTold xs s out
 call-told xs s t out zs y e a = ap (λ (w : Told). lent t (w .out)) a ∙ ap (λ (v : State). telling v out) e
@@ -46,15 +46,15 @@ module _ (xs : List ℕ) (s : State) (out : List ℕ) where
         a ∙ ap (λ (x : ℕ). rowTold s x kind i out) e₀ ∙ ap (λ (x : ℕ). rowTold s (number xs 0) x i out) e₁ ∙ ap (λ (x : ℕ). rowTold s (number xs 0) (number xs 1) x out) e₂
         ∙ rw (ne-eqb (length xs) 0 n, ne-eqb (number xs 0) 0 (λ e. p (e₀ ∙ e)), le-leb 3 (length xs) l, readTold)
 
-module _ (s : State) (n : ℕ) where
-  pub filled-all : s .said .number ≡ 0 → 9 * (n / 12) ≡ filledIn s n
-  unfolding filledIn
-  filled-all e = rw (eq-eqb (s .said .number) 0 e, filledIn)
+module _ (number index n : ℕ) where
+  pub filled-all : number ≡ 0 → 9 * (n / 12) ≡ filledBy number index n
+  unfolding filledBy
+  filled-all e = rw (eq-eqb number 0 e, filledBy)
 
-  pub filled-far : (s .said .number ≡ 0 → ⊥) → 128 < s .said .index → 0 ≡ filledIn s n
-  unfolding filledIn
-  filled-far f l = rw (ne-eqb (s .said .number) 0 f, lt-leb (s .said .index) 128 l, filledIn)
+  pub filled-far : (number ≡ 0 → ⊥) → 128 < index → 0 ≡ filledBy number index n
+  unfolding filledBy
+  filled-far f l = rw (ne-eqb number 0 f, lt-leb index 128 l, filledBy)
 
-  pub filled-front : (s .said .number ≡ 0 → ⊥) → s .said .index ≤ 128 → 9 * s .said .index ≡ filledIn s n
-  unfolding filledIn
-  filled-front f l = rw (ne-eqb (s .said .number) 0 f, le-leb (s .said .index) 128 l, filledIn)
+  pub filled-front : (number ≡ 0 → ⊥) → index ≤ 128 → 9 * index ≡ filledBy number index n
+  unfolding filledBy
+  filled-front f l = rw (ne-eqb number 0 f, le-leb index 128 l, filledBy)

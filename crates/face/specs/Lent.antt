@@ -38,10 +38,14 @@ readTold xs s out =
       ]
     ]
 
--- how many numbers a plan of so many numbers has filled, told by the state that it leaves: nine a request, of all its requests or of those before the refused one
-unfoldable pub filledIn : State → ℕ → ℕ
-filledIn s n =
-    elim (eqb (s .said .number) 0) [
+-- how many numbers a plan of so many numbers has filled, told by its answer's number and index: nine a request, of all its requests or of those before the refused one
+unfoldable pub filledBy : ℕ → ℕ → ℕ → ℕ
+filledBy number index n =
+    elim (eqb number 0) [
       | true ↦ recordSize * (n / requestSize)
-      | false ↦ elim (leb (s .said .index) planLimit) [ true ↦ recordSize * s .said .index | false ↦ 0 ]
+      | false ↦ elim (leb index planLimit) [ true ↦ recordSize * index | false ↦ 0 ]
     ]
+
+-- .. by the state that it leaves
+abbrev pub filledIn : State → ℕ → ℕ
+filledIn s n = filledBy (s .said .number) (s .said .index) n

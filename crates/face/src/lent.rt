@@ -5,11 +5,10 @@ use super::row;
 use super::too_short;
 use tables::State;
 ghost use mathlib.Core.Path.{_≡_};
-ghost use lib.ListN.{length};
 ghost use Rattle.definition.specs.Plan.{lent};
 ghost use Rattle.tables.specs.Views.{stateView};
 ghost use Rattle.face.specs.Rows.{told};
-ghost use Rattle.face.specs.Lent.{callTold, flatAllocate, readTold, filledIn};
+ghost use Rattle.face.specs.Lent.{callTold, flatAllocate, readTold, filledBy};
 
 // A call, and its answer's five numbers where the list has room for them.
 pub fn call_into(s: State, numbers: &[u64], answer: &mut [u64]) -> State
@@ -59,15 +58,15 @@ pub fn number_of(s: State, numbers: &[u64]) -> u64
 }
 
 // How many numbers of its results a plan has filled: nine a request, of all its requests or of those before the refused one.
-pub fn filled(s: State, requests: &[u64]) -> u64
-    ensures { λ r. ⌜ r ≡ filledIn (stateView s) (length (now (requests .entry))) ⌝ }
+pub fn filled(number: u64, index: u64, long: usize) -> u64
+    ensures { λ r. ⌜ r ≡ filledBy number index long ⌝ }
 {
-    if s.number == 0 {
-        let n = requests.len() / 12;
+    if number == 0 {
+        let n = long / 12;
         return 9 * n as u64;
     }
-    if 128 < s.index {
+    if 128 < index {
         return 0;
     }
-    9 * s.index
+    9 * index
 }

@@ -7,7 +7,8 @@ use request::Said;
 use tables::State;
 ghost use mathlib.Core.Path.{_≡_};
 ghost use lib.Dec.{eqb};
-ghost use Rattle.definition.specs.Plan.{lent};
+ghost use Rattle.definition.specs.Tables.{kinds};
+ghost use Rattle.definition.specs.Plan.{lent, allocateInto};
 ghost use Rattle.tables.specs.Views.{stateView};
 ghost use Rattle.request.specs.Asked.{requestOf, saidOf};
 ghost use Rattle.steps.specs.Steps.{Steady, opened, turned};
@@ -95,4 +96,12 @@ pub fn open(s: &mut State, n: usize, room: usize) -> usize
     let f = opening(sound, n, room);
     inplace::keep(s, f);
     turns(sound, n, room)
+}
+
+// One request with its record: 1, 11, 2 and the rest.
+pub fn allocate_into(s: &mut State, r: Request, out: &mut [u64])
+    ensures { λ _. ⌜ lent (stateView (now (s .exit))) (now (out .exit)) ≡ allocateInto kinds (requestOf r) (stateView (now (s .entry))) (now (out .entry)) ⌝ }
+{
+    let _turns = open(s, 1, out.len());
+    turn(s, r, 0, out);
 }

@@ -10,16 +10,16 @@ mul-result : tie.Need-mul-result
 mul-result c = search needs
 
 returns : tie.Need-returns
-returns c = filled-all _ _ (c .if1 .taken)
+returns c = filled-all _ _ _ (c .if1 .taken)
 
 returns-2 : tie.Need-returns-2
-returns-2 c = filled-far _ _ (c .before .before .if1 .left) (c .if2 .taken)
+returns-2 c = filled-far _ _ _ (c .before .if1 .left) (c .if2 .taken)
 
 mul-result-2 : tie.Need-mul-result-2
 mul-result-2 c = search needs
 
 returns-3 : tie.Need-returns-3
-returns-3 c = let l : c .before .before .before .before .before .args .s .index ≤ 128 = omega arith in filled-front _ _ (c .before .before .before .if1 .left) l
+returns-3 c = let l : c .before .before .args .index ≤ 128 = omega arith in filled-front _ _ _ (c .before .if1 .left) l
 
 pub filled-spec : {M : Type 1} → statement M
 filled-spec = tie.close (tie.spec mul-result returns returns-2 mul-result-2 returns-3)

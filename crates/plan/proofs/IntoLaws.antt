@@ -1,0 +1,57 @@
+-- One request with its record is a turn of a plan of one. Assumes nothing.
+use mathlib.Core.Path.{_≡_, refl, sym, ap, _∙_}
+use mathlib.Core.Bool.{Bool, true, false, _&&_}
+use mathlib.Core.List.{List}
+use Prim.Native.Nat.{ℕ, _/_, _≤_, _<_}
+use native.Mathlib.Omega.{arith}
+use lib.Dec.{T, leb, ltb}
+use lib.ListN.{length}
+use borrow.Author.Tests.{leb-true, lt-ltb, leb-false}
+use Rattle.definition.specs.BaseLaws.{true-T}
+use Rattle.definition.specs.Base.{Refusal, malformed, short, Said, silence, tell, Answer, accepted, refused}
+use Rattle.definition.specs.Tables.{recordSize, kinds}
+use Rattle.definition.specs.Pools.{Claim}
+use Rattle.definition.specs.Request.{Request, resolve}
+use Rattle.definition.specs.Calls.{State, poolsOf, ownersOf, sound, saying}
+use Rattle.definition.specs.StateLaws.{sound-for, for-sound, sound-saying}
+use Rattle.definition.specs.Plan.{Lent, lent, allocateInto}
+use Rattle.definition.specs.PlanLaws.{tell-number, told-at}
+use Rattle.allocation.proofs.ServeLaws.{into-unsound, into-short, into-refused, into-granted}
+use Rattle.finding.specs.Outcome.{basesIn, after}
+use Rattle.steps.specs.Steps.{clear, opened, indexed, indexFor, recorded, turned}
+use Rattle.steps.proofs.StepLaws.{not-clear, opened-unsound, opened-short, opened-clear, turned-skips}
+use Rattle.steps.proofs.PlanLaws.{turned-in-place}
+
+module _ (r : Request) (s : State) (out : List ℕ) where
+  -- nothing is done after a refusal
+  skips : (x : Refusal) (t : State) → saying (tell 0 x) s ≡ t → turned 0 r t out ≡ lent (saying (tell 0 x) s) out
+  skips x t e =
+      ap (λ (u : State). turned 0 r u out) (sym e)
+      ∙ sym (turned-skips 0 r (saying (tell 0 x) s) out (ap (λ (b : Bool). b && ltb 0 (length out / recordSize)) (not-clear (saying (tell 0 x) s) (tell-number 0 x))))
+
+  answers : sound kinds s ≡ true → recordSize ≤ length out → turned 0 r (saying silence s) out ≡ allocateInto kinds r s out
+  answers e l = go (resolve (poolsOf s) (ownersOf s) r) refl
+    where
+      t : State
+      t = saying silence s
+
+      -- the turn's answer, as a function of what is resolved
+      Made : Answer (List Claim) → Lent
+      Made a = lent (saying (indexed (indexFor (basesIn (r .want) a) 0) (after t a .said)) (after t a)) (recorded 0 r a out)
+
+      made : Made (resolve (poolsOf s) (ownersOf s) r) ≡ turned 0 r t out
+      made =
+          turned-in-place 0 r t out refl (lt-ltb 0 (length out / recordSize) (omega (arith, l)))
+          (for-sound kinds t (λ k m. sound-saying silence s k (sound-for kinds s (true-T (sound kinds s) e) k m)))
+
+      go : (a : Answer (List Claim)) → resolve (poolsOf s) (ownersOf s) r ≡ a → turned 0 r t out ≡ allocateInto kinds r s out
+      go (accepted cs) q = sym made ∙ ap Made q ∙ into-granted kinds r s out e l cs q
+      go (refused x) q = sym made ∙ ap Made q ∙ ap (λ (w : Said). lent (saying w s) out) (told-at 0 x) ∙ into-refused kinds r s out e l x q
+
+  pub turn-is-into : turned 0 r (opened 1 (length out) s) out ≡ allocateInto kinds r s out
+  turn-is-into = go (sound kinds s) refl (leb recordSize (length out)) refl
+    where
+      go : (b : Bool) → sound kinds s ≡ b → (f : Bool) → leb recordSize (length out) ≡ f → turned 0 r (opened 1 (length out) s) out ≡ allocateInto kinds r s out
+      go false e f u = skips malformed (opened 1 (length out) s) (opened-unsound 1 (length out) s e) ∙ into-unsound kinds r s out e
+      go true e false u = skips short (opened 1 (length out) s) (opened-short 1 (length out) s e u) ∙ into-short kinds r s out e (leb-false recordSize (length out) u)
+      go true e true u = ap (λ (t : State). turned 0 r t out) (sym (opened-clear 1 (length out) s e u)) ∙ answers e (leb-true recordSize (length out) u)
