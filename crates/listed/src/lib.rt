@@ -1,5 +1,5 @@
 // The plan over a lent list of request records. Each is read from the list in its turn and goes by value to the call that answers one request; no list of them is copied.
-// The state goes by value into each turn and back, as 01 has it; `placed` makes the same promise and answers each request in place.
+// The state goes by value into each turn and back, as 01 has it; `plan::list` makes the same promise and answers each request in place.
 use request::Request;
 use tables::State;
 ghost use mathlib.Core.Path.{_≡_};
