@@ -51,11 +51,6 @@ module _ (g : ℕ → Row) (on : ℕ) (n : Need) where
   pub tried-more : (lo c c′ : ℕ) → Tried g on n lo c → Tried g on n c c′ → Tried g on n lo c′
   tried-more lo c c′ t u x l m e f = ⊎-elim (λ p. t x l p e f) (λ p. u x p m e f) (lt-or-le x c)
 
-  -- a base that a row is on is tried
-  pub tried-one : (lo c k : ℕ) → Tried g on n lo c → k < on → meets (rowAt n c) (g k) ≡ true → Tried g on n lo (c + 1)
-  tried-one lo c k t used hit x l m e f =
-      ⊎-elim (λ p. t x l p e f) (λ p. let q : x ≡ c = omega arith in not-both (rw (← q) at hit) (f k used)) (lt-or-le x c)
-
 -- ---- pool rows
 
 -- pool row k has no usable base

@@ -1,27 +1,16 @@
 -- An input is a run of one number: what the search of inputs leans on. Assumes nothing.
 use mathlib.Core.Path.{_≡_, refl, sym, _∙_}
 use mathlib.Core.List.{List}
-use Prim.Native.Nat.{ℕ, _+_}
+use Prim.Native.Nat.{ℕ}
 use native.Mathlib.Numerals.{add-one}
 use Rattle.definition.specs.Tables.{Span, Row, wiredRow, overlap, meets}
 use Rattle.definition.specs.Request.{rowAt, aligned, holds, free, candidates, lowest, allowed, wireNeed}
-use Rattle.tables.specs.declared.Hit.the-variants.{At, Clear}
 use Rattle.search.specs.Asks.{needOf, inputNeed, bareWire}
-use Rattle.search.specs.Steps.{Free, Tried}
-use Rattle.tables.proofs.IndexLaws.{FirstIs}
-use Rattle.search.proofs.CoreLaws.{tried-one}
 
 module _ (c : ℕ) where
   pub input-meets : (x : ℕ) (r : Row) → meets (wiredRow c x 0 0 0) r ≡ meets (rowAt (needOf (inputNeed c)) x) r
   unfolding meets overlap rowAt
   input-meets x r = rw add-one
-
-  module _ (g : ℕ → Row) (on : ℕ) where
-    pub input-free : (x : ℕ) → FirstIs (λ k. meets (wiredRow c x 0 0 0) (g k)) on Clear → Free g on (needOf (inputNeed c)) x
-    input-free x h k l = sym (input-meets x (g k)) ∙ h k l
-
-    pub input-tried : (lo x k : ℕ) → FirstIs (λ k. meets (wiredRow c x 0 0 0) (g k)) on (At k) → Tried g on (needOf (inputNeed c)) lo x → Tried g on (needOf (inputNeed c)) lo (x + 1)
-    input-tried lo x k h t = tried-one g on (needOf (inputNeed c)) lo x k t (h .0) (sym (input-meets x (g k)) ∙ h .1)
 
   -- neither the kind nor the codes nor who asks is read
   pub input-lowest : (ps : List Span) (rs : List Row) (t s q : ℕ) → lowest ps rs (needOf (inputNeed c)) ≡ lowest ps rs (wireNeed c t s q)

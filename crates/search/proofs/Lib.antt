@@ -3,6 +3,7 @@ pub mod OnesLaws
 pub mod MeetLaws
 pub mod CoreLaws
 pub mod FoundLaws
+pub mod PassLaws
 pub mod PoolRowLaws
 pub mod InputLaws
 pub mod AllowedLaws

@@ -1,7 +1,7 @@
 -- The bases of a pool row, and whether it holds a run, from comparisons of its numbers. Assumes nothing.
 use mathlib.Core.Path.{_≡_, sym}
 use mathlib.Core.Bool.{Bool, true, false}
-use Prim.Native.Nat.{ℕ, _+_, _<_, _≤_}
+use Prim.Native.Nat.{ℕ, _+_, _-_, _^_, _<_, _≤_}
 use native.Mathlib.Omega.{arith}
 use lib.Dec.{T}
 use borrow.Author.Tests.{eq-eqb, ne-eqb}
@@ -39,6 +39,10 @@ module _ (n : Need) (p : Span) where
   -- a base below the first that is too high, from the row's start on, is held
   pub bases-hold : (r b : ℕ) → Bases n p r → p .start ≤ b → b < r → T (holds n b p)
   bases-hold r b u l m = says-holds n b p (record { dom = u .own b m; low = l; high = u .each b m })
+
+  -- .. and past the last of them a run still ends within 64 bits, or at their end
+  pub bases-fit : (r b : ℕ) → Bases n p r → b < r → r + n .size ≤ 2 ^ 64
+  bases-fit r b u l = omega (arith, u .fits (r - 1) (omega arith))
 
   pub held : (b : ℕ) → sameDom (poolDom (n .dom)) (p .dom) ≡ true → p .start ≤ b → b + n .size ≤ p .end → T (holds n b p)
   held b e l h = says-holds n b p (record { dom = true-T (sameDom (poolDom (n .dom)) (p .dom)) e; low = l; high = h })

@@ -1,10 +1,12 @@
 -- What the steps of a search promise each other, over rows by their index. Assumes nothing.
 use mathlib.Core.Path.{_≡_}
-use mathlib.Core.Bool.{false}
+use mathlib.Core.Bool.{true, false}
+use mathlib.Core.Logic.{_⊎_}
 use Prim.Native.Nat.{ℕ, _+_, _%_, _^_, _<_, _≤_}
 use lib.Dec.{T}
 use Rattle.definition.specs.Tables.{sameDom, poolDom, Span, Row, meets}
 use Rattle.definition.specs.Request.{Need, rowAt, holds}
+use Rattle.bases.specs.Bases.{Up}
 use Rattle.search.specs.declared.Step.{Step}
 use Rattle.search.specs.declared.Step.the-variants.{To, Stay}
 
@@ -22,6 +24,10 @@ Free g on n x = (k : ℕ) → k < on → meets (rowAt n x) (g k) ≡ false
 -- no aligned base from lo up to c is free, whatever pool it lies in
 abbrev pub Tried : (ℕ → Row) → ℕ → Need → ℕ → ℕ → Type 0
 Tried g on n lo c = (x : ℕ) → lo ≤ x → x < c → x % n .align ≡ 0 → Free g on n x → ⊥
+
+-- the base after a row: past the row's end where that is in the way of the run at b, else b
+abbrev pub Passes : Row → Need → ℕ → ℕ → ℕ → Type 0
+Passes w n b stop r = ((meets (rowAt n b) w ≡ false) × (r ≡ b)) ⊎ ((meets (rowAt n b) w ≡ true) × Up (w .end) (n .align) stop r)
 
 pub record Jumps (g : ℕ → Row) (on : ℕ) (n : Need) (c stop r : ℕ) : Type 0 where
   pub rises : c < r

@@ -6,14 +6,14 @@ use tables::POOL_ROWS;
 use tables::ROWS;
 ghost use mathlib.Core.Path.{_≡_};
 ghost use mathlib.Core.List.{[]};
-ghost use Prim.Native.Nat.{_+_, _^_, _≤_, _<_};
+ghost use Prim.Native.Nat.{_+_, _^_, _%_, _≤_, _<_};
 ghost use Rattle.definition.specs.Base.{anyOf};
 ghost use Rattle.definition.specs.Tables.{used, poolLimit, rowLimit, nature, dom, sameDom, rangeRow, wiredRow, meets};
 ghost use Rattle.definition.specs.Request.{oneBit, holds, allowed};
 ghost use Rattle.tables.specs.Below.{first};
 ghost use Rattle.tables.specs.Views.{pool, ranges, wires, spanOf, poolAt, rangeOf, rangeAt, wireOf, wireAt, poolView};
 ghost use Rattle.search.specs.Asks.{kindOf, needOf, inputNeed};
-ghost use Rattle.search.specs.Steps.{Bases, Steps};
+ghost use Rattle.search.specs.Steps.{Bases, Passes, Steps};
 ghost use Rattle.search.specs.Finds.{InOrder, Finds, FindsInput};
 
 // The kinds whose rows hold ranges: every kind but inputs.
@@ -170,7 +170,42 @@ pub fn bases_of<'a>(
     bases_below(hi, need.size)
 }
 
-// Whether the range at base `c` is free; else the next base to try, at most `stop`: past the end of an owner that is in the way.
+// The base past owner row `k`, at most `stop`, where the row is in the way of the range at `b`; else `b`. Numbers are compared before domains: most rows end there.
+pub fn past_row<'a>(
+    controller: &'a [u32; ROWS],
+    its: &'a [u32; ROWS],
+    device: &'a [u32; ROWS],
+    start: &'a [u64; ROWS],
+    end: &'a [u64; ROWS],
+    k: usize,
+    need: Need,
+    b: u64,
+    stop: u64,
+) -> u64
+    requires { ⌜ (k < rowLimit) × (0 < need .alignment) × (b + need .size < 2 ^ 64) ⌝ }
+    ensures { λ r. ⌜ Passes (rangeOf (rangeAt (ranges 0 (now (controller .entry)) (now (its .entry)) (now (device .entry)) (now (start .entry)) (now (end .entry)) []) k)) (needOf need) b stop r ⌝ }
+{
+    let past = end[k];
+    if past <= b {
+        return b;
+    }
+    if b + need.size <= start[k] {
+        return b;
+    }
+    if same_domain(
+        need.controller,
+        need.its,
+        need.device,
+        controller[k],
+        its[k],
+        device[k],
+    ) {
+        return align_up(past, need.alignment, stop);
+    }
+    b
+}
+
+// Whether the range at base `c` is free; else the next base to try, at most `stop`. One pass over the owners: each that is in the way puts the base past its end, and the rows behind it are held to that one.
 pub fn next_step<'a>(
     controller: &'a [u32; ROWS],
     its: &'a [u32; ROWS],
@@ -182,18 +217,23 @@ pub fn next_step<'a>(
     c: u64,
     stop: u64,
 ) -> Step
-    requires { ⌜ (n ≤ rowLimit) × (0 < need .alignment) × (c < stop) × (c + need .size < 2 ^ 64) ⌝ }
+    requires { ⌜ (n ≤ rowLimit) × (0 < need .alignment) × (c < stop) × (c % need .alignment ≡ 0) × (stop + need .size ≤ 2 ^ 64) ⌝ }
     ensures { λ r. ⌜ Steps (λ k. rangeOf (rangeAt (ranges n (now (controller .entry)) (now (its .entry)) (now (device .entry)) (now (start .entry)) (now (end .entry)) []) k)) n (needOf need) c stop r ⌝ }
 {
-    let hi = c + need.size;
-    let hit = first_overlap(controller, its, device, start, end, n, need, c, hi);
-    match hit {
-        Hit::Clear => Step::Stay,
-        Hit::At(k) => {
-            let past = end[k];
-            Step::To(align_up(past, need.alignment, stop))
+    let mut b = c;
+    let mut i: usize = 0;
+    while i < n {
+        let next = past_row(controller, its, device, start, end, i, need, b, stop);
+        if stop <= next {
+            return Step::To(next);
         }
+        b = next;
+        i += 1;
     }
+    if b == c {
+        return Step::Stay;
+    }
+    Step::To(b)
 }
 
 // The least aligned base whose range lies in one automatic pool row of the domain and overlaps no owner row of the domain, or Nothing.
@@ -235,6 +275,55 @@ pub fn find_range<'a>(
     }
 }
 
+// The number behind input `b` where owner row `k` stands on it; else `b`.
+pub fn past_input<'a>(
+    controller: &'a [u32; ROWS],
+    input: &'a [u64; ROWS],
+    k: usize,
+    c: u32,
+    b: u64,
+    stop: u64,
+) -> u64
+    requires { ⌜ (k < rowLimit) × (b < stop) × (stop < 2 ^ 64) ⌝ }
+    ensures { λ r. ⌜ Passes (wireOf (wireAt (wires 0 (now (controller .entry)) (now (input .entry)) [] [] []) k)) (needOf (inputNeed c)) b stop r ⌝ }
+{
+    if input[k] != b {
+        return b;
+    }
+    if controller[k] == c {
+        return b + 1;
+    }
+    b
+}
+
+// Whether no row is on input `x`; else the next one to try, at most `stop`: one pass, as for ranges.
+pub fn next_input<'a>(
+    controller: &'a [u32; ROWS],
+    input: &'a [u64; ROWS],
+    n: usize,
+    c: u32,
+    x: u64,
+    stop: u64,
+) -> Step
+    requires { ⌜ (n ≤ rowLimit) × (x < stop) × (stop < 2 ^ 64) ⌝ }
+    ensures { λ r. ⌜ Steps (λ k. wireOf (wireAt (wires n (now (controller .entry)) (now (input .entry)) [] [] []) k)) n (needOf (inputNeed c)) x stop r ⌝ }
+{
+    let mut b = x;
+    let mut i: usize = 0;
+    while i < n {
+        let next = past_input(controller, input, i, c, b, stop);
+        if stop <= next {
+            return Step::To(next);
+        }
+        b = next;
+        i += 1;
+    }
+    if b == x {
+        return Step::Stay;
+    }
+    Step::To(b)
+}
+
 // The least input of an automatic pool row of the controller that no row is on, or Nothing.
 pub fn find_input<'a>(
     pc: &'a [u32; POOL_ROWS],
@@ -259,11 +348,11 @@ pub fn find_input<'a>(
         let stop = bases_of(pc, pi, ps, pe, i, need);
         let mut c = ps[i];
         'inputs: while c < stop {
-            let hit = first_on(oc, ox, on, controller, c);
-            match hit {
-                Hit::Clear => break 'pools Found::At(c),
-                Hit::At(_) => {
-                    c += 1;
+            let step = next_input(oc, ox, on, controller, c, stop);
+            match step {
+                Step::Stay => break 'pools Found::At(c),
+                Step::To(next) => {
+                    c = next;
                 }
             }
         }

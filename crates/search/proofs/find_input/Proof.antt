@@ -10,10 +10,9 @@ use Rattle.definition.specs.Tables.{meets}
 use Rattle.tables.specs.Views.{pool, wires, wireOf, wireAt}
 use Rattle.search.specs.Asks.{needOf, inputNeed, bareWire}
 use Rattle.search.specs.Steps.{Tried}
-use Rattle.search.proofs.CoreLaws.{Barren, tried-none, barren-tried, lowest-here, lowest-none}
-use Rattle.tables.proofs.IndexLaws.{first-tells}
-use Rattle.search.proofs.InputLaws.{input-free, input-tried, input-lowest}
-use Rattle.search.proofs.PoolRowLaws.{bases-hold}
+use Rattle.search.proofs.CoreLaws.{Barren, tried-none, tried-more, barren-tried, lowest-here, lowest-none}
+use Rattle.search.proofs.InputLaws.{input-lowest}
+use Rattle.search.proofs.PoolRowLaws.{bases-hold, bases-fit}
 use Rattle.search.proofs.FoundLaws.{spanAt, wireIn, order-used, found-wires}
 use native.Mathlib.Nat.{mod-one}
 use Rattle.search.proofs.find_input.Statement.{statement}
@@ -49,26 +48,27 @@ element-copy-out-c c = omega (arith, c .before .before .before .before .pre .0 .
 inputs-holds : tie.Need-inputs-holds Inv-inputs μ-inputs Inv-pools μ-pools
 inputs-holds c = (omega arith, tried-none _ _ _ _)
 
-first-on-requires : tie.Need-first-on-requires Inv-inputs μ-inputs Inv-pools μ-pools
-first-on-requires c κs = search needs
+next-input-requires : tie.Need-next-input-requires Inv-inputs μ-inputs Inv-pools μ-pools
+next-input-requires c κs =
+    let u = rw (c .before .before .before .before .before .before .one-input .ensures) at (c .before .before .before .bases-of .ensures) in
+    (search needs, c .inputs-test .taken, omega (arith, bases-fit _ _ _ _ u (c .inputs-test .taken)))
 
 enum-told : tie.Need-enum-told Inv-inputs μ-inputs Inv-pools μ-pools
 enum-told c = search needs
 
-enum-told-2 : tie.Need-enum-told-2 Inv-inputs μ-inputs Inv-pools μ-pools
-enum-told-2 c = search needs
-
-add-c : tie.Need-add-c Inv-inputs μ-inputs Inv-pools μ-pools
-add-c c = let u = rw (c .before .before .before .before .before .before .before .before .before .one-input .ensures) at (c .before .before .before .before .before .before .bases-of .ensures) in omega (arith, u .fits (c .before .before .before .before .inputs .c) (c .before .before .before .inputs-test .taken))
+enum-known-step : tie.Need-enum-known-step Inv-inputs μ-inputs Inv-pools μ-pools
+enum-known-step c = search needs
 
 inputs-less : tie.Need-inputs-less Inv-inputs μ-inputs Inv-pools μ-pools
-inputs-less c = omega arith
+inputs-less c =
+    let h = rw (c .before .step .given .1) at (c .before .before .before .next-input .ensures) in
+    omega arith
 
 inputs-again : tie.Need-inputs-again Inv-inputs μ-inputs Inv-pools μ-pools
 inputs-again c =
-    let h = rw (c .enum-told2 .given .1) at (first-tells _ _ _ (c .before .before .first-on .ensures)) in
-    let v = c .before .before .before .before .inputs .inv in
-    (omega (arith, v .0), input-tried _ _ _ _ _ _ h (v .1))
+    let h = rw (c .before .step .given .1) at (c .before .before .before .next-input .ensures) in
+    let v = c .before .before .before .before .before .inputs .inv in
+    (omega (arith, v .0, h .rises), tried-more _ _ _ _ _ _ (v .1) (h .tried))
 
 add-i : tie.Need-add-i Inv-inputs μ-inputs Inv-pools μ-pools
 add-i c = omega arith
@@ -98,14 +98,14 @@ unfolding meets
 returns-2 c =
     let a = c .before .before .before .before .before .before .before .before .before .before .args in
     let p = c .before .before .before .before .before .before .before .before .before .before .pre in
-    let f = rw (c .enum-told .given .1) at (first-tells _ _ _ (c .before .before .first-on .ensures)) in
+    let f = rw (c .enum-told .given .1) at (c .before .before .next-input .ensures) in
     let t = c .before .before .before .inputs-test .taken in
     let v = c .before .before .before .before .inputs .inv in
     let u = rw (c .before .before .before .before .before .before .before .before .before .one-input .ensures) at (c .before .before .before .before .before .before .bases-of .ensures) in
     record {
       is = λ g s o. found-wires (pool (a .pn) (a .pc .now) (a .pi .now) (a .ps .now) (a .pe .now)) (wires (a .on) (a .oc .now) (a .ox .now) g s o) (bareWire (a .controller)) _ (p .0) (p .1) (sym (input-lowest (a .controller) _ _ 0 0 0)
           ∙ lowest-here (spanAt (pool (a .pn) (a .pc .now) (a .pi .now) (a .ps .now) (a .pe .now))) (wireIn (wires (a .on) (a .oc .now) (a .ox .now) g s o)) (a .on) (needOf (inputNeed (a .controller))) (a .pn) (omega arith) _ _ (order-used (pool (a .pn) (a .pc .now) (a .pi .now) (a .ps .now) (a .pe .now)) (p .0)) (omega arith)
-          (c .before .before .before .before .before .before .before .before .pools .inv .1) (v .1) (bases-hold _ _ _ _ u (v .0) t) (mod-one (c .before .before .before .before .inputs .c)) (input-free (a .controller) (wireIn (wires (a .on) (a .oc .now) (a .ox .now) g s o)) (a .on) _ f));
+          (c .before .before .before .before .before .before .before .before .pools .inv .1) (v .1) (bases-hold _ _ _ _ u (v .0) t) (mod-one (c .before .before .before .before .inputs .c)) f);
       ends = u .fits (c .before .before .before .before .inputs .c) t;
     }
 
@@ -123,10 +123,9 @@ find-input-spec =
     mul-c
     element-copy-out-c
     inputs-holds
-    first-on-requires
+    next-input-requires
     enum-told
-    enum-told-2
-    add-c
+    enum-known-step
     inputs-less
     inputs-again
     add-i

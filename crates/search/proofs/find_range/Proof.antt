@@ -10,7 +10,7 @@ use Rattle.tables.specs.Views.{pool, ranges, rangeOf, rangeAt}
 use Rattle.search.specs.Asks.{needOf}
 use Rattle.search.specs.Steps.{Tried}
 use Rattle.search.proofs.CoreLaws.{Barren, tried-first, tried-more, barren-tried, lowest-here, lowest-none}
-use Rattle.search.proofs.PoolRowLaws.{bases-hold}
+use Rattle.search.proofs.PoolRowLaws.{bases-hold, bases-fit}
 use Rattle.search.proofs.FoundLaws.{spanAt, rangeIn, order-used, found-ranges}
 use Rattle.search.proofs.find_range.Statement.{statement}
 use Rattle.search.proofs.find_range.Tie as tie
@@ -47,8 +47,8 @@ bases-holds c = let u = c .align-up .ensures in (u .reached, u .aligned, tried-f
 
 next-step-requires : tie.Need-next-step-requires Inv-bases μ-bases Inv-pools μ-pools
 next-step-requires c κs =
-    let e = c .before .before .before .bases-of .ensures .fits (c .before .bases .c) (c .bases-test .taken) in
-    (search needs, search needs, search needs, e)
+    let t = c .bases-test .taken in
+    (search needs, search needs, t, c .before .bases .inv .1 t, bases-fit _ _ _ _ (c .before .before .before .bases-of .ensures) t)
 
 enum-told : tie.Need-enum-told Inv-bases μ-bases Inv-pools μ-pools
 enum-told c = search needs

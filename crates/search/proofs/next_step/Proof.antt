@@ -1,59 +1,56 @@
--- Where a row is in the way, the next base is past its end. Assumes nothing.
-use native.Mathlib.Omega.{arith}
-use Rattle.tables.proofs.IndexLaws.{first-tells}
-use Rattle.search.proofs.CoreLaws.{jump}
-use Rattle.definition.specs.Tables.{meets}
-use Rattle.definition.specs.Request.{rowAt}
+-- One pass over the owners: what it has passed is tried, and a base that has not moved is free. Assumes nothing.
 use borrow.Author.Needs.{needs}
+use native.Mathlib.Omega.{arith}
+use Prim.Native.Nat.{_-_, _≤_}
+use mathlib.Core.Path.{_≡_}
+use mathlib.Core.List.{[]}
+use Rattle.tables.specs.Views.{ranges, rangeOf, rangeAt}
+use Rattle.search.specs.Asks.{needOf}
+use Rattle.search.proofs.PassLaws.{Passing, pass-start, pass-on, pass-stop, pass-stay, pass-to}
 use Rattle.search.proofs.next_step.Statement.{statement}
 use Rattle.search.proofs.next_step.Tie as tie
 
-add-hi : tie.Need-add-hi
-add-hi c = search needs
+abbrev Inv-loop : tie.InvT-loop
+Inv-loop controller its device start end n need c stop b₀ i₀ b i = (i ≤ n) × Passing (λ k. rangeOf (rangeAt (ranges n controller its device start end []) k)) n (needOf need) c stop i b
 
-first-overlap-requires : tie.Need-first-overlap-requires
-first-overlap-requires c κs = search needs
+abbrev μ-loop : tie.MeasureT-loop
+μ-loop controller its device start end n need c stop b₀ i₀ b i = n - i
 
-enum-told : tie.Need-enum-told
-enum-told c = search needs
+loop-holds : tie.Need-loop-holds Inv-loop μ-loop
+loop-holds c = (omega arith, pass-start _ _ _ _ _ (c .pre .2) (c .pre .3))
 
-enum-known-hit : tie.Need-enum-known-hit
-enum-known-hit c = search needs
+past-row-requires : tie.Need-past-row-requires Inv-loop μ-loop
+past-row-requires c κs = let h = c .before .loop .inv .1 .below in (omega arith, search needs, omega arith)
 
-mul-past : tie.Need-mul-past
-mul-past c =
-    let h = rw (c .before .hit .given .1) at (first-tells _ _ _ (c .before .before .before .first-overlap .ensures)) in
-    omega arith
+returns : tie.Need-returns Inv-loop μ-loop
+returns c = pass-stop _ _ _ _ _ _ _ _ (c .before .before .loop-test .taken) (c .before .before .before .loop .inv .1) (c .before .past-row .ensures) (c .if1 .taken)
 
-element-copy-out-past : tie.Need-element-copy-out-past
-element-copy-out-past c =
-    let h = rw (c .before .hit .given .1) at (first-tells _ _ _ (c .before .before .before .first-overlap .ensures)) in
-    omega arith
+add-i : tie.Need-add-i Inv-loop μ-loop
+add-i c = omega arith
 
-align-up-requires : tie.Need-align-up-requires
-align-up-requires c κs = search needs
+loop-less : tie.Need-loop-less Inv-loop μ-loop
+loop-less c = omega arith
 
-returns : tie.Need-returns
-unfolding meets rowAt
-returns c = rw (c .enum-told .given .1) at (first-tells _ _ _ (c .before .before .first-overlap .ensures))
+loop-again : tie.Need-loop-again Inv-loop μ-loop
+loop-again c = (omega arith, pass-on _ _ _ _ _ _ _ _ (c .before .before .loop-test .taken) (c .before .before .before .loop .inv .1) (c .before .past-row .ensures) (omega arith))
 
-returns-2 : tie.Need-returns-2
-unfolding meets rowAt
-returns-2 c =
-    let b = c .before .before .before in
-    let h = rw (b .hit .given .1) at (first-tells _ _ _ (b .before .before .first-overlap .ensures)) in
-    jump _ _ _ _ _ _ _ (search needs) (h .0) (h .1) (c .align-up .ensures)
+returns-2 : tie.Need-returns-2 Inv-loop μ-loop
+returns-2 c = let e : c .before .before .loop .i ≡ c .before .before .before .args .n = omega arith in pass-stay _ _ _ _ _ _ (rw e at (c .before .before .loop .inv .1)) (c .if2 .taken)
+
+returns-3 : tie.Need-returns-3 Inv-loop μ-loop
+returns-3 c = let e : c .before .before .loop .i ≡ c .before .before .before .args .n = omega arith in pass-to _ _ _ _ _ _ (rw e at (c .before .before .loop .inv .1)) (c .if2 .left)
 
 pub next-step-spec : {M : Type 1} → statement M
 next-step-spec =
     tie.close
     (tie.spec
-    add-hi
-    first-overlap-requires
-    enum-told
-    enum-known-hit
-    mul-past
-    element-copy-out-past
-    align-up-requires
+    Inv-loop
+    μ-loop
+    loop-holds
+    past-row-requires
     returns
-    returns-2)
+    add-i
+    loop-less
+    loop-again
+    returns-2
+    returns-3)
