@@ -1,6 +1,6 @@
 // What is timed: two sets of tables, light and heavy, and one list of mixed requests for both.
 
-use crate::ours::Flat;
+use crate::face::Flat;
 use oracle::calls::{Add, Choice, Hold, Need, PoolRange, Request};
 
 /// The requests of a run, and of a short one.

@@ -16,6 +16,17 @@ pub fn taken_by(call: impl FnOnce() + Send) -> usize {
     })
 }
 
+/// A stack as a hypervisor's thread has it.
+const SMALL: usize = 64 << 10;
+
+/// The call made on a thread with that stack, its own frames among them.
+pub fn on_small<R: Send>(call: impl FnOnce() -> R + Send) -> R {
+    thread::scope(|scope| {
+        let builder = thread::Builder::new().stack_size(SMALL);
+        builder.spawn_scoped(scope, call).expect("a thread").join().expect("a call that ends")
+    })
+}
+
 #[inline(never)]
 fn measure(call: impl FnOnce()) -> usize {
     let mark = 0u64;

@@ -94,54 +94,8 @@ pub struct MsiSet {
     pub lpi: Set<Ranges>,
 }
 
-/// What a request of one kind needs of tables that are known to be sound.
-#[repr(C)]
-#[derive(Clone, Copy, PartialEq)]
-pub struct Core<Held> {
-    pub auto: Pool,
-    pub fixed: Pool,
-    pub owners: Held,
-}
-
-#[repr(C)]
-#[derive(Clone, Copy, PartialEq)]
-pub struct MsiCore {
-    pub pools: [[Pool; 2]; 3],
-    pub owners: [Ranges; 3],
-}
-
-impl<Held> Set<Held> {
-    pub fn core(self) -> Core<Held> {
-        Core { auto: self.auto, fixed: self.fixed, owners: self.owners }
-    }
-}
-
-impl MsiSet {
-    pub fn core(self) -> MsiCore {
-        let sets = [self.device, self.event, self.lpi];
-        MsiCore { pools: sets.map(|set| [set.auto, set.fixed]), owners: sets.map(|set| set.owners) }
-    }
-}
-
 /// Numbers of a record.
 pub const RECORD: usize = 9;
-
-/// A state with room behind it for one record.
-#[repr(C)]
-#[derive(Clone)]
-pub struct Told {
-    pub state: State,
-    pub record: [u64; RECORD],
-}
-
-/// A state with room behind it for the records of the longest plan.
-#[cfg(feature = "plan")]
-#[repr(C)]
-#[derive(Clone)]
-pub struct Lent {
-    pub state: State,
-    pub results: [u64; RECORD * ROWS],
-}
 
 impl State {
     /// The judge's rows as columns.

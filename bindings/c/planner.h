@@ -3,7 +3,8 @@
  * The state is your memory: PLANNER_STATE_SIZE bytes, aligned to 8, lent with its size to every call. A state of another size is
  * not touched, and the answer is 1. Any bytes may stand in it: they are judged, and refused with 1 where they are not sound.
  * Lists are a pointer and a count of 64-bit numbers; a list without numbers still wants a pointer that is not null. The helpers
- * below refuse null pointers with 1. Calls take up to 768 KB of stack, as measured: give a thread 1 MB.
+ * below refuse null pointers with 1. Requests and plans run on a stack of 64 KB; the other calls take up to 768 KB, as measured:
+ * give a thread that makes them 1 MB.
  *
  * Answers: 0 accepted, 1 malformed tables, 2 bad input, 3 bad owner, 4 empty range, 5 reserved, 6 fixed not allowed, 7 exhausted,
  * 8 conflict, 9 full, 10 bad line, 11 too short (a list) or too long (a plan). */

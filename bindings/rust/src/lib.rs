@@ -89,7 +89,7 @@ pub struct Row {
     pub owner: u64,
 }
 
-/// The planner with its tables: 66,312 bytes, on the stack unless it is put elsewhere. Calls take up to 768 KB of stack, as measured: give a thread 1 MB.
+/// The planner with its tables: 66,312 bytes, on the stack unless it is put elsewhere. Requests and plans run on a stack of 64 KB; the other calls take up to 768 KB, as measured: give a thread that makes them 1 MB.
 #[derive(Clone)]
 pub struct Planner {
     state: [u64; WORDS],

@@ -2,10 +2,8 @@
 
 mod common;
 
-use common::{planner_plan, small_stack, Rng};
-use thurgoleo::{
-    Choice, Hold, Kind, Part, Plan, Planner, Pool, Refusal, Request, Use, Want, STATE_SIZE,
-};
+use common::{mixed, numbers, planner_plan, small_stack, stand, Rng};
+use thurgoleo::{Choice, Kind, Part, Plan, Planner, Refusal, Want, STATE_SIZE};
 
 const KINDS: [Kind; 7] = [
     Kind::Mmio,
@@ -16,119 +14,6 @@ const KINDS: [Kind; 7] = [
     Kind::Event,
     Kind::Lpi,
 ];
-
-fn stand() -> Box<Planner> {
-    let mut p = Box::new(Planner::new());
-    for used in [Use::Automatic, Use::Fixed] {
-        p.add_pool(
-            used,
-            Pool::Mmio {
-                start: 0x1000,
-                end: 0x100_0000,
-            },
-        )
-        .unwrap();
-        p.add_pool(
-            used,
-            Pool::Pio {
-                start: 0x100,
-                end: 0xf000,
-            },
-        )
-        .unwrap();
-        p.add_pool(
-            used,
-            Pool::Input {
-                controller: 0,
-                start: 16,
-                end: 200,
-            },
-        )
-        .unwrap();
-        p.add_pool(
-            used,
-            Pool::Host {
-                start: 32,
-                end: 400,
-            },
-        )
-        .unwrap();
-        p.add_pool(
-            used,
-            Pool::Msi {
-                controller: 0,
-                its: 0,
-                devices: 0..64,
-                events: 0..256,
-                lpis: 8192..9000,
-            },
-        )
-        .unwrap();
-    }
-    p.reserve(
-        9,
-        Hold::Mmio {
-            start: 0x2000,
-            end: 0x3000,
-        },
-    )
-    .unwrap();
-    p.reserve(9, Hold::Host { start: 33, end: 35 }).unwrap();
-    p.start().unwrap();
-    p
-}
-
-fn mixed(n: u32) -> Vec<Request> {
-    (0..n)
-        .map(|i| {
-            let want = match i % 5 {
-                0 => Want::Mmio {
-                    size: 0x1000 << (i % 3),
-                    alignment: 0x1000,
-                    choice: Choice::Auto,
-                },
-                1 => Want::Pio {
-                    size: 8,
-                    alignment: 8,
-                    choice: Choice::Auto,
-                },
-                2 => Want::Input {
-                    controller: 0,
-                    trigger: 1,
-                    sharing: 0,
-                    choice: Choice::Auto,
-                },
-                3 => Want::HostIrq {
-                    choice: Choice::Auto,
-                },
-                _ => Want::Msi {
-                    controller: 0,
-                    its: 0,
-                    count: 1 + i % 4,
-                    device: Choice::Auto,
-                    event: Choice::Auto,
-                    lpi: Choice::Auto,
-                },
-            };
-            Request {
-                requester: 100 + i,
-                slot: i,
-                want,
-            }
-        })
-        .collect()
-}
-
-fn numbers(requests: &[Request]) -> Vec<u64> {
-    let mut plan = Box::new(Plan::new());
-    let mut all = Vec::new();
-    for part in requests.chunks(128) {
-        *plan = Plan::new();
-        part.iter().for_each(|r| plan.push(r).unwrap());
-        all.extend_from_slice(plan.requests());
-    }
-    all
-}
 
 // The call itself, on lists of any length: the numbers filled.
 fn run(words: &mut [u64], requests: &[u64], results: &mut [u64]) -> usize {

@@ -23,7 +23,7 @@ use Rattle.adding.proofs.PutLaws.{put-pool}
 
 -- ---- the pool tables of one use
 
-pub added : (p : Pools) (k : Kind) (s : Span) (x : Inserted) → Entered k s (poolView (poolOf p k)) x → Added p (putPool p k (x .pool)) k s (x .number)
+pub added : (p : Pools) (k : Kind) (s : Span) (x : Inserted) → Entered (addRange k s (used (poolView (poolOf p k)))) (poolView (poolOf p k)) x → Added p (putPool p k (x .pool)) k s (x .number)
 added p k s x e = record { rows = λ j. ap poolView (put-pool p k (x .pool) j) ∙ chosen (sameKind j k) (poolOf p j); said = e .said }
   where
     chosen : (b : Bool) (y : Pool) → poolView (elim b [ true ↦ x .pool | false ↦ y ])

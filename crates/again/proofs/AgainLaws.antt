@@ -2,23 +2,25 @@
 use mathlib.Core.Path.{_≡_, refl, sym, subst, ap, _∙_}
 use mathlib.Core.Bool.{Bool, true, false}
 use mathlib.Core.List.{List, _++_, map}
-use Prim.Native.Nat.{ℕ, _*_, _/_}
+use Prim.Native.Nat.{ℕ, _*_, _/_, _≤_}
 use native.Mathlib.Omega.{arith}
+use lib.Dec.{T, leb, leb→le}
 use lib.ListN.{length, drop, length-map}
-use Rattle.definition.specs.BaseLaws.{eq→eqb, T-true}
-use Rattle.definition.specs.Tables.{recordSize, Kind, kinds}
+use lib.Seq.{take-all}
+use Rattle.definition.specs.BaseLaws.{and-l, eq→eqb, T-true}
+use Rattle.definition.specs.Tables.{planLimit, recordSize, Kind, kinds}
 use Rattle.definition.specs.Base.{malformed, short, refused, require}
 use Rattle.definition.specs.Pools.{rowsOf}
 use Rattle.definition.specs.Request.{Request}
 use Rattle.definition.specs.Calls.{State, poolsOf, heldOf, ownersOf, start, serve, sound, settle, granting, starting}
-use Rattle.definition.specs.Plan.{Grant, done, records, written, Lent, lent, allRows, planRun, grantsOf, plan, pinned}
-use Rattle.definition.specs.ReplayLaws.{Pick}
+use Rattle.definition.specs.Plan.{Grant, done, records, written, Lent, lent, allRows, roomy, planRun, grantsOf, plan, pinned}
+use Rattle.definition.specs.ReplayLaws.{Pick, pick-length}
 use Rattle.definition.specs.PlanLaws.{tell-number, plan-accepted, plan-says, Again, replay, replay-rows}
 use Rattle.flat.specs.Flat.{requestSize, requestsFrom, requestsOf, wholeRequests, flatPlan}
-use Rattle.flat.proofs.FlatLaws.{flat-whole, flat-torn}
+use Rattle.flat.proofs.FlatLaws.{requests-length, flat-whole, flat-torn}
 use Rattle.pin.specs.Pin.{pinnedNumbers}
 use Rattle.pin.proofs.BackLaws.{pinned-length, grants-length, requests-pinned}
-use Rattle.again.specs.Again.{blocks, indices, rowsFor, FlatAgain, firstResults, runAgain}
+use Rattle.again.specs.Again.{blocks, indices, taken, rowsFor, FlatAgain, firstResults, runAgain}
 use Rattle.again.proofs.BlockLaws.{pick-map, AllBelow, picked-below, nth, nth-all, requests-length-blocks, requests-blocks, requests-nth, blocks-records, run-told, rows-for}
 
 -- ---- an accepted plan ends with a whole request
@@ -110,6 +112,15 @@ module _ (s t : State) (rq out is out′ : List ℕ) (a : FlatAgain s t rq out i
       ap (λ (v : List ℕ). flatPlan (blocks requestSize (pinnedNumbers rq v) is) (serve kinds start t) out′) results-are
       ∙ flat-whole (blocks requestSize back is) (serve kinds start t) out′ whole-again
       ∙ ap (λ (rs : List Request). plan rs (serve kinds start t) out′) requests-are
+
+  -- where there is room for as many lines as a plan has, all are taken
+  pub all-taken : (room : ℕ) → requestSize * planLimit ≤ room → taken room (pinnedNumbers rq res) is ≡ blocks requestSize (pinnedNumbers rq res) is
+  unfolding roomy
+  all-taken room l =
+      let t : T (leb (length (requestsOf rq)) planLimit) = and-l (leb (length (requestsOf rq)) planLimit) _ (plan-says (requestsOf rq) s₀ out gs ran .has-room) in
+      let few : length is ≤ planLimit = omega (arith, pick-length (again .picked), length-map is (nth gs), count, requests-length rq, leb→le (length (requestsOf rq)) planLimit t) in
+      let m : length (pinnedNumbers rq res) ≡ length rq = pinned-length rq res in
+      take-all room (blocks requestSize (pinnedNumbers rq res) is) (omega (arith, few, l, requests-length-blocks (pinnedNumbers rq res) is (length gs) (omega (arith, m, count)) all-below))
 
   -- all are accepted (the five numbers are 0), each has the nine numbers that it had in the first results, and the owner tables are the
   -- reservations with the rows that these numbers tell of pushed to their ends in the order run

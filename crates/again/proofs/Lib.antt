@@ -1,4 +1,5 @@
 pub mod BlockLaws
+pub mod TakeLaws
 pub mod AgainLaws
 pub mod RunLaws
 pub mod FlatExample

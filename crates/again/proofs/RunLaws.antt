@@ -1,66 +1,101 @@
--- DEMAND 3 over the code's own states and lists: from the calls' contracts alone. Assumes nothing.
-use mathlib.Core.Path.{_≡_, sym, ap, _∙_}
-use mathlib.Core.List.{List, _++_}
+-- DEMAND 3 of two runs (Runs.antt): where its conditions hold, so does what it promises. Assumes nothing.
+use mathlib.Core.Path.{_≡_, refl, sym, subst, ap, _∙_}
+use mathlib.Core.Bool.{Bool, true, false}
+use mathlib.Core.List.{List}
 use Prim.Native.Nat.{ℕ}
-use Rattle.definition.specs.Tables.{recordSize, Kind, kinds, used}
-use Rattle.definition.specs.Base.{silence, says}
-use Rattle.definition.specs.Pools.{rowsOf}
-use Rattle.definition.specs.Calls.{ownersOf, heldOf, start, serve, granting, starting}
-use Rattle.definition.specs.Calls as D
-use Rattle.definition.specs.Plan.{Lent, lent, written}
-use Rattle.tables.specs.Views.{stateView, poolsView, holdersView}
-use Rattle.tables.specs.declared.State.{State}
-use Rattle.flat.specs.Flat.{requestSize, flatPlan}
+use native.Mathlib.Omega.{arith}
+use lib.Dec.{eqb}
+use borrow.Author.Tests.{eq-eqb, ne-eqb}
+use Rattle.definition.specs.Tables.{recordSize, kinds}
+use Rattle.definition.specs.Base.{malformed, short, accepted, refused, require}
+use Rattle.definition.specs.Calls.{State, ownersOf, given, sound, starting, granting, start, serve, settle}
+use Rattle.definition.specs.Plan.{Run, done, stopped, Lent, lent, written, planRun, ended, plan}
+use Rattle.flat.specs.Flat.{requestSize, requestsOf, wholeRequests, flatPlan}
 use Rattle.pin.specs.Pin.{pinnedNumbers}
-use Rattle.again.specs.Again.{blocks, rowsFor, FlatAgain, firstResults, runAgain}
-use Rattle.again.specs.Runs.{TwoRuns}
-use Rattle.again.proofs.AgainLaws.{flat-replay, flat-replay-rows}
+use Rattle.again.specs.Again.{blocks, rowsFor, FlatAgain}
+use Rattle.again.specs.Runs.{Runs, runs, mostTaken, firstRun, secondRun, runsAfter, runsOf, Replayable, Replays}
+use Rattle.again.proofs.AgainLaws.{all-taken, flat-replay, flat-replay-rows}
 
-module _ (s s₁ s₂ t t₁ t₂ : State) (rq out res back is out′ res′ : List ℕ) (h : TwoRuns s s₁ s₂ t t₁ t₂ rq out res back is out′ res′) where
-  first : lent (stateView s₂) res ≡ flatPlan rq (serve kinds start (stateView s)) out
-  first = h .planned ∙ ap (λ (v : D.State). flatPlan rq v out) (h .started)
+-- ---- a run leaves pools and reservations as they were
 
-  results : res ≡ firstResults (stateView s) rq out
-  results = ap (λ (v : Lent). v .results) first
+abbrev Kept : State → State → Type 0
+Kept s t = (t .pools ≡ s .pools) × (t .held ≡ s .held)
 
-  again : FlatAgain (stateView s) (stateView t) rq out is out′
-  again = record {
-    was-accepted = sym (ap (λ (v : Lent). v .state .said .number) first) ∙ h .was-accepted;
-    inside = h .inside;
-    picked = h .picked;
-    same-pools = λ i. poolsView (h .same-auto i) (h .same-fixed i);
-    same-held = ap holdersView (h .same-held);
-    long = h .long;
-  }
+start-kept : (s : State) → Kept s (serve kinds start s)
+unfolding serve require
+start-kept s = go (given kinds s)
+  where
+    go : (b : Bool) → Kept s (settle s (require b malformed (accepted (starting s))))
+    go true = (refl, refl)
+    go false = (refl, refl)
 
-  second : lent (stateView t₂) res′ ≡ runAgain (stateView s) (stateView t) rq out is out′
-  second =
-      h .planned-again ∙ ap (λ (v : D.State). flatPlan (blocks requestSize back is) v out′) (h .started-again)
-      ∙ ap (λ (v : List ℕ). flatPlan (blocks requestSize v is) (serve kinds start (stateView t)) out′) (h .pinned ∙ ap (pinnedNumbers rq) results)
+flat-kept : (rq : List ℕ) (s : State) (out : List ℕ) → Kept s (flatPlan rq s out .state)
+unfolding flatPlan plan require
+flat-kept rq s out = go (wholeRequests rq)
+  where
+    ran : (v : Run) → Kept s (ended s v)
+    ran (done gs) = (refl, refl)
+    ran (stopped gs x) = (refl, refl)
 
-  -- the whole outcome of the second run: accepted, the tables, the results
-  pub two-runs : lent (stateView t₂) res′ ≡ lent (granting (rowsFor res is) (starting (stateView s))) (written (blocks recordSize res is) out′)
-  two-runs =
-      second ∙ flat-replay (stateView s) (stateView t) rq out is out′ again
-      ∙ ap (λ (v : List ℕ). lent (granting (rowsFor v is) (starting (stateView s))) (written (blocks recordSize v is) out′)) (sym results)
+    torn : (b : Bool) → Kept s (settle s (require b malformed (refused short)))
+    torn true = (refl, refl)
+    torn false = (refl, refl)
 
-  -- all are accepted: the five numbers are 0
-  pub runs-accepted : says (t₂ .index) (t₂ .number) (t₂ .namespace) (t₂ .owner) (t₂ .detail) ≡ silence
-  runs-accepted = ap (λ (v : Lent). v .state .said) two-runs
+    go : (b : Bool) → Kept s ((elim b as (λ _. Lent) [ true ↦ plan (requestsOf rq) s out | false ↦ lent (settle s (require (sound kinds s) malformed (refused short))) out ]) .state)
+    go true = ran (planRun (requestsOf rq) s out)
+    go false = torn (sound kinds s)
 
-  -- each has the nine numbers that it had in the first results, and nothing is written past them
-  pub runs-results : res′ ≡ written (blocks recordSize res is) out′
-  runs-results = ap (λ (v : Lent). v .results) two-runs
+-- ---- what is handed back, by the answer of the first run
 
-  -- the used rows of each owner table are the reservations and the rows that those numbers tell of, and nothing else
-  pub runs-owners : (k : Kind) → used (holdersView (t₂ .owners) k) ≡ used (holdersView (s .held) k) ++ rowsOf k (rowsFor res is)
-  runs-owners k =
-      ap (λ (v : Lent). ownersOf (v .state) k) second ∙ flat-replay-rows (stateView s) (stateView t) rq out is out′ again k
-      ∙ ap (λ (v : List ℕ). heldOf (stateView s) k ++ rowsOf k (rowsFor v is)) (sym results)
+module _ (rq is out out′ : List ℕ) (s t : State) (res : List ℕ) (e : lent t res ≡ firstRun rq s out) where
+  abbrev after : Bool → Runs
+  after b =
+      let two : Lent = secondRun (pinnedNumbers rq res) is t out′ in
+      elim b as (λ _. Runs) [ true ↦ runs (two .state) (pinnedNumbers rq res) res (two .results) | false ↦ runs t rq res out′ ]
 
-  -- pools and reservations are as they were
-  pub runs-pools : poolsView (t₂ .auto) (t₂ .fixed) ≡ poolsView (s .auto) (s .fixed)
-  runs-pools = ap (λ (v : Lent). v .state .pools) two-runs
+  by-answer : (b : Bool) → eqb (t .said .number) 0 ≡ b → after b ≡ runsOf rq is out out′ s
+  unfolding runsOf
+  by-answer b n = ap after (sym n) ∙ ap (runsAfter rq is out′) e
 
-  pub runs-held : holdersView (t₂ .held) ≡ holdersView (s .held)
-  runs-held = ap (λ (v : Lent). v .state .held) two-runs
+  pub runs-refused : (t .said .number ≡ 0 → ⊥) → runs t rq res out′ ≡ runsOf rq is out out′ s
+  runs-refused n = by-answer false (ne-eqb (t .said .number) 0 n)
+
+  pub runs-accepted : t .said .number ≡ 0 → runs (secondRun (pinnedNumbers rq res) is t out′ .state) (pinnedNumbers rq res) res (secondRun (pinnedNumbers rq res) is t out′ .results) ≡ runsOf rq is out out′ s
+  runs-accepted n = by-answer true (eq-eqb (t .said .number) 0 n)
+
+-- ---- the theorem
+
+module _ (rq is out out′ : List ℕ) (s : State) (h : Replayable rq is out out′ s) where
+  abbrev one : Lent
+  one = firstRun rq s out
+
+  abbrev lines : List ℕ
+  lines = pinnedNumbers rq (one .results)
+
+  abbrev two : Lent
+  two = secondRun lines is (one .state) out′
+
+  again : FlatAgain s (one .state) rq out is out′
+  again =
+      let a = start-kept s in
+      let b = flat-kept rq (serve kinds start s) out in
+      record { was-accepted = h .was-accepted; inside = h .inside; picked = h .picked; same-pools = b .0 ∙ a .0; same-held = b .1 ∙ a .1; long = h .long }
+
+  runs-are : runsOf rq is out out′ s ≡ runs (two .state) lines (one .results) (two .results)
+  runs-are = sym (runs-accepted rq is out out′ s (one .state) (one .results) refl (h .was-accepted))
+
+  all-are : two ≡ flatPlan (blocks requestSize lines is) (serve kinds start (one .state)) out′
+  all-are = ap (λ (v : List ℕ). flatPlan v (serve kinds start (one .state)) out′) (all-taken s (one .state) rq out is out′ again mostTaken (omega arith))
+
+  two-is : two ≡ lent (granting (rowsFor (one .results) is) (starting s)) (written (blocks recordSize (one .results) is) out′)
+  two-is = all-are ∙ flat-replay s (one .state) rq out is out′ again
+
+  pub replays : Replays is out′ s (runsOf rq is out out′ s)
+  replays =
+      subst (Replays is out′ s) (sym runs-are) record {
+        accepted = ap (λ (v : Lent). v .state .said) two-is;
+        same = ap (λ (v : Lent). v .results) two-is;
+        owners = λ k. ap (λ (v : Lent). ownersOf (v .state) k) all-are ∙ flat-replay-rows s (one .state) rq out is out′ again k;
+        pools = ap (λ (v : Lent). v .state .pools) two-is;
+        held = ap (λ (v : Lent). v .state .held) two-is;
+      }

@@ -24,6 +24,10 @@ unfoldable pub blocks : ℕ → List ℕ → List ℕ → List ℕ
 blocks size xs [] = []
 blocks size xs (i ∷ is) = block size xs i ++ blocks size xs is
 
+-- the requests of these indices, as many of their numbers as there is room for
+abbrev pub taken : ℕ → List ℕ → List ℕ → List ℕ
+taken room xs is = take room (blocks requestSize xs is)
+
 -- i, i + 1 .. so many
 unfoldable pub indices : ℕ → ℕ → List ℕ
 indices i zero = []

@@ -1,12 +1,50 @@
-// Demand 3 for the calls is a law about them and has no code of its own: what is asked stands in specs/, the law in proofs/.
+// Demand 3 for the calls: some of a list's lines taken, in any order. What is asked and promised of two runs stands in specs/, the law in proofs/.
 use flat::REQUEST;
+use pin::lesser;
 ghost use mathlib.Core.Path.{_≡_};
-ghost use Prim.Native.Nat.{_/_};
+ghost use Prim.Native.Nat.{_+_, _*_, _≤_, min};
+ghost use lib.ListN.{length, take, drop};
+ghost use lib.Seq.{sets};
+ghost use Rattle.definition.specs.Plan.{written};
 ghost use Rattle.flat.specs.Flat.{requestSize};
+ghost use Rattle.again.specs.Again.{taken};
 
-// How many requests a list of so many numbers holds.
-pub fn requests_in(numbers: usize) -> usize
-    ensures { λ r. ⌜ r ≡ numbers / requestSize ⌝ }
+// Where a line begins in a list of so many numbers: one past the last, at the list's end.
+pub fn begins(i: u64, long: usize) -> usize
+    ensures { λ r. ⌜ r ≡ min (requestSize * i) long ⌝ }
 {
-    numbers / REQUEST
+    if i <= (long / REQUEST) as u64 {
+        return REQUEST * i as usize;
+    }
+    long
+}
+
+// So many numbers of a list put into another.
+pub fn copy(list: &[u64], from: usize, n: usize, other: &mut [u64], to: usize)
+    requires { ⌜ (from + n ≤ length (now list)) × (to + n ≤ length (now other)) ⌝ }
+    ensures { λ _. ⌜ now (other .exit) ≡ sets (now (other .entry)) to (take n (drop from (now (list .entry)))) ⌝ }
+{
+    let mut k: usize = 0;
+    while k < n {
+        other[to + k] = list[from + k];
+        k += 1;
+    }
+}
+
+// The lines of these indices, in this order, put in front as far as there is room, and how many numbers they are. An index past the last line takes nothing.
+pub fn take(lines: &[u64], selection: &[u64], chosen: &mut [u64]) -> usize
+    ensures { λ r. ⌜ (now (chosen .exit) ≡ written (taken (length (now (chosen .entry))) (now (lines .entry)) (now (selection .entry))) (now (chosen .entry)))
+        × (r ≡ length (taken (length (now (chosen .entry))) (now (lines .entry)) (now (selection .entry)))) ⌝ }
+{
+    let mut at: usize = 0;
+    let mut j: usize = 0;
+    while j < selection.len() {
+        let from = begins(selection[j], lines.len());
+        let whole = lesser(REQUEST, lines.len() - from);
+        let n = lesser(whole, chosen.len() - at);
+        copy(lines, from, n, chosen, at);
+        at += n;
+        j += 1;
+    }
+    at
 }

@@ -1,18 +1,18 @@
 -- Demand 2's sentence on automatic search: on tables with a row free a good automatic request gets the least aligned base of all whose range lies inside
 -- one pool range and meets no owner, and Exhausted exactly when no such base exists. Assumes nothing.
-use mathlib.Core.Path.{_≡_, refl, sym, subst, ap, _∙_}
-use mathlib.Core.Bool.{Bool, true, false, _&&_}
-use mathlib.Core.Option.{Option, none, some}
+use mathlib.Core.Path.{_≡_, refl}
+use mathlib.Core.Bool.{true, _&&_}
+use mathlib.Core.Option.{Option}
 use mathlib.Core.List.{List, [], _∷_}
 use Prim.Native.Nat.{ℕ, _≤_, _<_}
 use native.Mathlib.Omega.{arith}
 use lib.ListN.{length}
-use lib.Dec.{T, leb, ltb, lt→ltb}
+use lib.Dec.{T, ltb, lt→ltb}
 use Rattle.definition.specs.Base.{allOf, badInput, full, exhausted, Answer, accepted, refused, require, _then_}
 use Rattle.definition.specs.BaseLaws.{and-l, and-r, and-i, LeastAll, none-at-all, least-of-all}
-use Rattle.definition.specs.Tables.{rowLimit, dom, Kind, mmio, pio, input, host, nature, Row}
+use Rattle.definition.specs.Tables.{rowLimit, dom, mmio, pio, input, host, nature}
 use Rattle.definition.specs.Pools.{at-kind, Holders, Claim, room}
-use Rattle.definition.specs.Request.{Choice, auto, Want, memory, ports, wire, irq, Request, goodChoice, oneBit, goodWant, goodRequest, Need, rowAt, free, found, automatic, Pools, place, need, wireNeed, one, claims, resolve}
+use Rattle.definition.specs.Request.{auto, Want, memory, ports, wire, irq, Request, oneBit, goodWant, goodRequest, Need, rowAt, free, found, automatic, Pools, place, need, wireNeed, one, claims, resolve}
 use Rattle.definition.specs.RequestLaws.{required, oneBit-pos}
 use Rattle.definition.specs.SearchLaws.{IsFree, free-says, says-free, lowest-says}
 

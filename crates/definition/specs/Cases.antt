@@ -1,17 +1,15 @@
 -- 01's stand cases P1 to P10, as one table under one claim: pools and holds through the calls, a start, then the requests as a plan. Assumes nothing.
 use mathlib.Core.Path.{_≡_, refl}
-use mathlib.Core.Bool.{Bool, true, false, not, _&&_, _||_}
-use mathlib.Core.List.{List, [], _∷_, _++_, map}
-use mathlib.Core.Option.{Option, none, some}
-use Prim.Native.Nat.{ℕ, zero, suc, _+_, _-_, _*_, _^_}
+use mathlib.Core.List.{List, [], _∷_, map}
+use Prim.Native.Nat.{ℕ, _-_, _^_}
 use lib.Count.{onesIn}
-use lib.ListN.{length, replicate}
-use Rattle.definition.specs.Base.{anyOf, allOf, pairsOf, firstOf, lower, leastOf, Refusal, tell, Answer, require}
+use lib.ListN.{replicate}
+use Rattle.definition.specs.Base.{anyOf, allOf, pairsOf, firstOf, lower, leastOf, tell, require}
 use Rattle.definition.specs.Tables.{kinds, sameKind, sameDom, within, sameSpan, sameRow, overlap, meets, joins, clash, tidy, fits, fitsSpan, goodRow, goodSpan, begins, inOrder, soundTable}
-use Rattle.definition.specs.Pools.{Pool, mmioPool, pioPool, hostPool, inputPool, msiPool, insert, unlessThere, addRange, rowsOf, _⊕_, room, Hold, mmioHold, hostHold, inputHold, eventHold, unreserved, allUnreserved, reserve}
-use Rattle.definition.specs.Request.{Choice, auto, at, Want, memory, ports, wire, irq, msi, Request, goodChoice, oneBit, goodWant, goodRequest, rowAt, aligned, holds, free, alignUp, candidates, lowest, allowed, unjoined, obstacle, detail, found, unopposed, Use, automatic, fixed, place, claims, resolve}
+use Rattle.definition.specs.Pools.{mmioPool, pioPool, hostPool, inputPool, msiPool, insert, unlessThere, addRange, rowsOf, _⊕_, room, mmioHold, hostHold, inputHold, eventHold, unreserved, allUnreserved, reserve}
+use Rattle.definition.specs.Request.{auto, at, Want, memory, ports, wire, irq, msi, Request, goodChoice, oneBit, goodWant, goodRequest, rowAt, aligned, holds, free, alignUp, candidates, lowest, allowed, unjoined, obstacle, detail, found, unopposed, automatic, fixed, place, claims, resolve}
 use Rattle.definition.specs.Calls.{State, fresh, givenAt, soundAt, given, sound, pushAll, Call, pool, hold, start, addAll, serve}
-use Rattle.definition.specs.Plan.{Grant, Run, done, stopped, run, roomy, planRun}
+use Rattle.definition.specs.Plan.{Run, done, stopped, run, roomy, planRun}
 
 -- the pools and the holds, the requests, and for each request answered the numbers granted behind a 0, or those of the refusal
 pub record Case : Type 0 where

@@ -1,14 +1,14 @@
 -- Laws of rows added to tables: the rows of one kind, what fits, what stands at the ends. Assumes nothing.
 use mathlib.Core.Path.{_≡_, refl, sym, subst, ap, _∙_}
 use mathlib.Core.Logic.{_⊎_, inl, inr}
-use mathlib.Core.Bool.{Bool, true, false, not, _&&_, _||_}
+use mathlib.Core.Bool.{Bool, not}
 use mathlib.Core.List.{List, [], _∷_, _++_, List·Memᴰ, List·Memᴰ·head, List·Memᴰ·tail, List·Memᴰ·cases-cons, List·Memᴰ·not-nil, List·Memᴰ·append-cases, Memᴰ·append-left, Memᴰ·append-right}
-use Prim.Native.Nat.{ℕ, zero, suc, _+_, _≤_, _<_}
+use Prim.Native.Nat.{_+_, _≤_, _<_}
 use native.Mathlib.Omega.{arith}
 use lib.ListN.{length, length-append}
-use lib.Dec.{T, leb, ltb, leb→le, ltb→lt, le→leb, lt→ltb}
+use lib.Dec.{T, ltb, ltb→lt, lt→ltb}
 use Rattle.definition.specs.Base.{allOf, pairsOf}
-use Rattle.definition.specs.BaseLaws.{and-l, and-r, and-i, T-true, T-false, not-T→, →not-T, either, all-in, all-from}
+use Rattle.definition.specs.BaseLaws.{and-l, and-r, and-i, T-true, T-false, not-T→, either, all-in, all-from}
 use Rattle.definition.specs.Tables.{rowLimit, Kind, sameKind, Row, clash}
 use Rattle.definition.specs.Pools.{Holders, Claim, rowsOf, _⊕_, room}
 use Rattle.definition.specs.RowLaws.{same-kind, kind-same, clash-sym, Beside}

@@ -1,23 +1,23 @@
 -- The count rule: since the last start, with the reservations unchanged, each owner table's row count is its reservations plus the requests of its
 -- kind accepted outside refused plans. Assumes nothing.
-use mathlib.Core.Path.{_≡_, refl, sym, subst, ap, _∙_}
+use mathlib.Core.Path.{_≡_, refl, sym, ap, _∙_}
 use mathlib.Core.Logic.{_⊎_, inl, inr}
 use mathlib.Core.Bool.{Bool, true, false}
-use mathlib.Core.List.{List, [], _∷_, _++_, map, List·Memᴰ·not-nil}
-use Prim.Native.Nat.{ℕ, zero, suc, _+_}
+use mathlib.Core.List.{List, [], _∷_, map, List·Memᴰ·not-nil}
+use Prim.Native.Nat.{ℕ, suc, _+_}
 use native.Mathlib.Omega.{arith}
 use lib.ListN.{length, set, length-append}
 use lib.Dec.{T, eqb, eqb→eq}
 use Rattle.definition.specs.BaseLaws.{T-true, T-false, either}
-use Rattle.definition.specs.Tables.{dom, Span, Kind, mmio, pio, input, host, device, event, lpi, kinds, sameKind, Table}
+use Rattle.definition.specs.Tables.{dom, Span, Kind, mmio, pio, host, device, event, lpi, kinds, sameKind, Table}
 use Rattle.definition.specs.Base.{Refusal, malformed, badInput, full, tell, Answer, accepted, refused, require, _then_}
 use Rattle.definition.specs.Pools.{In, at-kind, Pool, spans, Holders, Claim, rowsOf, _⊕_, room}
 use Rattle.definition.specs.Request.{Choice, Want, memory, ports, wire, irq, msi, Request, goodRequest, Need, Use, Pools, place, need, wireNeed, one, claims, resolve}
-use Rattle.definition.specs.Calls.{State, poolsOf, ownersOf, given, sound, saying, pushAll, granting, starting, pool, start, want, settle, addAll, serve}
-use Rattle.definition.specs.Plan.{Grant, grant, Run, done, stopped, after, run, allRows, planRun, ended, plan}
+use Rattle.definition.specs.Calls.{State, poolsOf, ownersOf, given, sound, saying, pushAll, granting, pool, start, want, settle, addAll, serve}
+use Rattle.definition.specs.Plan.{Grant, grant, Run, done, stopped, run, allRows, planRun, ended, plan}
 use Rattle.definition.specs.ClaimLaws.{rows-same, rows-other, rows-append}
-use Rattle.definition.specs.RequestLaws.{then-accepted, require-accepted, required}
-use Rattle.definition.specs.StateLaws.{GivenFor, given-for, for-given, Pooled, add-given, add-accepted, add-refused}
+use Rattle.definition.specs.RequestLaws.{then-accepted, require-accepted}
+use Rattle.definition.specs.StateLaws.{add-given}
 use Rattle.definition.specs.RunLaws.{run-accepted, run-refused, not-done, after-done}
 use Rattle.definition.specs.PlanLaws.{tell-number, plan-says, start-is}
 use Rattle.definition.specs.ResolveLaws.{kindsOf}

@@ -1,22 +1,19 @@
 -- Demand 3 at one plan, so that its conditions are seen to be met, and at one where they are not. Assumes nothing.
 use mathlib.Core.Path.{_≡_, refl}
-use mathlib.Core.Bool.{Bool, true, false, not, _&&_, _||_}
-use mathlib.Core.List.{List, [], _∷_, _++_, map, List·Memᴰ, List·Memᴰ·head, List·Memᴰ·tail, List·Memᴰ·not-nil}
-use mathlib.Core.Option.{Option, none, some}
-use Prim.Native.Nat.{ℕ, zero, suc, _+_, _-_, _*_, _^_, _≤_}
-use native.Mathlib.Omega.{arith}
+use mathlib.Core.List.{List, [], _∷_, map}
+use Prim.Native.Nat.{ℕ, _-_, _≤_}
 use lib.Count.{onesIn}
-use lib.Dec.{T, lit≤}
-use lib.ListN.{length, getD, drop, replicate}
-use Rattle.definition.specs.Base.{anyOf, allOf, pairsOf, firstOf, lower, leastOf, Refusal, require}
-use Rattle.definition.specs.Tables.{Kind, mmio, pio, input, host, device, event, lpi, kinds, Span, sameKind, sameDom, within, sameSpan, sameRow, overlap, meets, joins, clash, used, tidy, fits, fitsSpan, goodRow, goodSpan, begins, inOrder, soundTable}
+use lib.Dec.{lit≤}
+use lib.ListN.{getD, replicate}
+use Rattle.definition.specs.Base.{anyOf, allOf, pairsOf, firstOf, lower, leastOf, require}
+use Rattle.definition.specs.Tables.{kinds, sameKind, sameDom, within, sameSpan, sameRow, overlap, meets, joins, clash, tidy, fits, fitsSpan, goodRow, goodSpan, begins, inOrder, soundTable}
 use Rattle.definition.specs.Pools.{mmioPool, pioPool, hostPool, inputPool, msiPool, insert, unlessThere, addRange, rowsOf, _⊕_, room, mmioHold, inputHold, unreserved, allUnreserved, reserve}
-use Rattle.definition.specs.Request.{Choice, auto, at, Want, memory, ports, wire, irq, msi, Request, goodChoice, oneBit, goodWant, goodRequest, rowAt, aligned, holds, free, alignUp, candidates, lowest, allowed, unjoined, obstacle, detail, found, unopposed, Use, automatic, fixed, Pools, place, claims, resolve}
+use Rattle.definition.specs.Request.{auto, at, Want, memory, ports, wire, irq, msi, Request, goodChoice, oneBit, goodWant, goodRequest, rowAt, aligned, holds, free, alignUp, candidates, lowest, allowed, unjoined, obstacle, detail, found, unopposed, Use, automatic, fixed, place, claims, resolve}
 use Rattle.definition.specs.Calls.{State, fresh, poolsOf, givenAt, soundAt, given, sound, pushAll, granting, starting, Call, pool, hold, start, addAll, serve}
-use Rattle.definition.specs.Plan.{Grant, grant, Run, done, stopped, run, recordOf, records, written, lent, allRows, roomy, planRun, grantsOf, plan, pinWant, pinned}
+use Rattle.definition.specs.Plan.{Grant, grant, run, recordOf, records, written, lent, allRows, roomy, planRun, grantsOf, plan, pinWant, pinned}
 use Rattle.definition.specs.RequestLaws.{AutoInFixed, insideOne, autoInFixed, inside-says}
-use Rattle.definition.specs.ReplayLaws.{Take, now, later, Pick, stop, pick}
-use Rattle.definition.specs.PlanLaws.{Again, replay}
+use Rattle.definition.specs.ReplayLaws.{now, later, Pick, stop, pick}
+use Rattle.definition.specs.PlanLaws.{replay}
 
 unfoldable made : List Call → State → State
 made [] s = s

@@ -1,11 +1,11 @@
 -- A plan: its requests in order, up to the first refusal; its results; and its lines with their answers written back. Assumes nothing.
-use mathlib.Core.Bool.{Bool, true, false, _&&_}
+use mathlib.Core.Bool.{Bool, _&&_}
 use mathlib.Core.List.{List, [], _∷_, _++_}
 use Prim.Native.Nat.{ℕ, zero, suc, _*_}
 use lib.Dec.{leb}
 use lib.ListN.{length, drop}
 use Rattle.definition.specs.Tables.{planLimit, recordSize, Kind, kinds}
-use Rattle.definition.specs.Base.{Refusal, malformed, short, Said, silence, tell, Answer, accepted, refused, require, _then_}
+use Rattle.definition.specs.Base.{Refusal, malformed, short, tell, Answer, accepted, refused, require}
 use Rattle.definition.specs.Pools.{Holders, Claim, _⊕_}
 use Rattle.definition.specs.Request.{Choice, auto, at, Want, memory, ports, wire, irq, msi, Request, Pools, resolve}
 use Rattle.definition.specs.Calls.{State, poolsOf, ownersOf, sound, saying, granting}

@@ -1,25 +1,25 @@
 -- Laws of the calls and of a plan over the whole state: refusals change no table, an accepted plan is its requests one by one, and DEMAND 3. Assumes nothing.
 use mathlib.Core.Path.{_≡_, refl, sym, subst, ap, _∙_}
 use mathlib.Core.Logic.{_⊎_, inl, inr}
-use mathlib.Core.Bool.{Bool, true, false, not, _&&_, _||_}
-use mathlib.Core.List.{List, [], _∷_, _++_, map, List·Memᴰ}
-use Prim.Native.Nat.{ℕ, zero, suc, _+_, _*_, _≤_, _<_, min}
+use mathlib.Core.Bool.{Bool, true, false}
+use mathlib.Core.List.{List, _++_, map}
+use Prim.Native.Nat.{ℕ, _+_, _*_, _≤_, min}
 use native.Mathlib.Omega.{arith}
-use lib.ListN.{length, take, drop, length-map, length-take}
+use lib.ListN.{length, take, length-map, length-take}
 use lib.Dec.{T, leb, leb→le, le→leb}
 use Rattle.definition.specs.BaseLaws.{and-l, and-r, and-i, either}
-use Rattle.definition.specs.Tables.{rowLimit, planLimit, recordSize, Kind, kinds, used}
+use Rattle.definition.specs.Tables.{planLimit, recordSize, Kind, kinds}
 use Rattle.definition.specs.Base.{Refusal, malformed, badInput, badOwner, emptyRange, full, badLine, short, reserved, fixedNotAllowed, exhausted, conflict, Said, says, silence, tell, Answer, accepted, refused, require, _then_}
 use Rattle.definition.specs.Pools.{Claim, rowsOf, _⊕_, Hold, heldRows, reserve}
-use Rattle.definition.specs.Request.{Request, Pools, resolve}
-use Rattle.definition.specs.Calls.{State, state, poolsOf, heldOf, ownersOf, given, sound, saying, pushAll, holding, granting, starting, Call, pool, hold, start, want, settle, serve}
-use Rattle.definition.specs.Plan.{Grant, Run, done, stopped, run, records, written, Lent, lent, allRows, roomy, atOnce, planRun, grantsOf, ended, plan, pinned}
+use Rattle.definition.specs.Request.{Request, resolve}
+use Rattle.definition.specs.Calls.{State, state, poolsOf, heldOf, ownersOf, given, sound, saying, pushAll, holding, granting, starting, hold, start, want, settle, serve}
+use Rattle.definition.specs.Plan.{Grant, Run, done, stopped, run, records, written, lent, allRows, roomy, atOnce, planRun, grantsOf, ended, plan, pinned}
 use Rattle.definition.specs.RowLaws.{every-kind}
 use Rattle.definition.specs.ClaimLaws.{Fits, length-put, rows-append}
 use Rattle.definition.specs.TableLaws.{push-append}
-use Rattle.definition.specs.RequestLaws.{require-accepted, required, AutoInFixed, Wide, SoundRows}
-use Rattle.definition.specs.StateLaws.{Given, Sound, GivenFor, SoundFor, given-for, for-given, sound-for, for-sound, sound-saying, sound-ground, sound-fits, granting-sound, start-sound, settle-malformed}
-use Rattle.definition.specs.RunLaws.{run-take, run-stopped, run-requests, run-kept, Sounds, not-done}
+use Rattle.definition.specs.RequestLaws.{require-accepted, required, AutoInFixed, Wide}
+use Rattle.definition.specs.StateLaws.{Sound, GivenFor, SoundFor, given-for, for-given, sound-for, for-sound, sound-saying, sound-ground, sound-fits, granting-sound, settle-malformed}
+use Rattle.definition.specs.RunLaws.{run-take, run-requests, run-kept, Sounds, not-done}
 use Rattle.definition.specs.ReplayLaws.{Pick, pick-length, Ready, run-ready, kept, replay-run, kept-rows, kept-records}
 
 -- ---- refusals

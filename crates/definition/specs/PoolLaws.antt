@@ -1,18 +1,18 @@
 -- Adding a pool range keeps a pool table's rows good and in order; adding reservations keeps theirs good and apart. Assumes nothing.
-use mathlib.Core.Path.{_≡_, refl, sym, subst, ap, _∙_}
+use mathlib.Core.Path.{_≡_, refl, subst, ap, _∙_}
 use mathlib.Core.Logic.{_⊎_, inl, inr}
 use mathlib.Core.Bool.{Bool, true, false, not, _&&_, _||_}
 use mathlib.Core.Option.{Option, none, some}
-use mathlib.Core.List.{List, [], _∷_, _++_, List·Memᴰ, List·Memᴰ·head, List·Memᴰ·tail, List·Memᴰ·cases-cons, List·Memᴰ·not-nil}
-use Prim.Native.Nat.{ℕ, zero, suc, _+_, _≤_, _<_}
+use mathlib.Core.List.{List, [], _∷_, List·Memᴰ, List·Memᴰ·head, List·Memᴰ·tail, List·Memᴰ·cases-cons, List·Memᴰ·not-nil}
+use Prim.Native.Nat.{ℕ, suc, _≤_}
 use native.Mathlib.Omega.{arith}
 use lib.ListN.{length}
-use lib.Dec.{T, leb, ltb, leb→le, nltb→le, ltb→lt, le→leb, lt→ltb}
-use Rattle.definition.specs.Base.{anyOf, allOf, pairsOf, firstOf, Refusal, badInput, badOwner, emptyRange, full, Answer, accepted, refused, require}
+use lib.Dec.{T, leb, ltb, leb→le, nltb→le, ltb→lt, le→leb}
+use Rattle.definition.specs.Base.{anyOf, allOf, pairsOf, firstOf, badInput, badOwner, emptyRange, full, Answer, accepted}
 use Rattle.definition.specs.BaseLaws.{and-l, and-r, and-i, or-l, or-r, or-cases, T-true, T-false, not-T→, →not-T, either, in-any, all-in, all-from, none-first}
 use Rattle.definition.specs.Tables.{poolLimit, Kind, sameKind, Span, sameDom, sameSpan, Row, meets, fits, fitsSpan, goodRow, goodSpan, inOrder}
-use Rattle.definition.specs.Pools.{insert, unlessThere, addRange, Holders, Claim, rowsOf, room, Hold, mmioHold, pioHold, hostHold, inputHold, deviceHold, eventHold, lpiHold, pairHold, heldRows, unreserved, allUnreserved, reserve}
-use Rattle.definition.specs.RowLaws.{dom-sym, dom-trans, span-eq, span-refl, meets-sym}
+use Rattle.definition.specs.Pools.{insert, unlessThere, addRange, Holders, Claim, room, Hold, mmioHold, pioHold, hostHold, inputHold, deviceHold, eventHold, lpiHold, pairHold, heldRows, unreserved, allUnreserved, reserve}
+use Rattle.definition.specs.RowLaws.{dom-sym, dom-trans, span-eq, span-refl}
 use Rattle.definition.specs.ClaimLaws.{otherKind}
 use Rattle.definition.specs.RequestLaws.{not-accepted, require-accepted, required}
 

@@ -3,10 +3,10 @@ use mathlib.Core.Bool.{Bool, true, false, _&&_}
 use mathlib.Core.List.{List, [], _∷_, _++_}
 use mathlib.Core.Option.{Option, none, some}
 use Prim.Native.Nat.{ℕ, suc, min}
-use lib.Dec.{leb, ltb}
+use lib.Dec.{ltb}
 use lib.ListN.{length}
-use Rattle.definition.specs.Base.{anyOf, allOf, firstOf, Refusal, badInput, badOwner, emptyRange, full, reserved, Answer, accepted, refused, require, _then_}
-use Rattle.definition.specs.Tables.{poolLimit, rowLimit, Dom, dom, Kind, mmio, pio, input, host, device, event, lpi, nature, sameKind, Span, span, sameDom, sameSpan, Row, rangeRow, wiredRow, meets, fits, fitsSpan}
+use Rattle.definition.specs.Base.{anyOf, allOf, firstOf, badInput, badOwner, emptyRange, full, reserved, Answer, accepted, refused, require}
+use Rattle.definition.specs.Tables.{poolLimit, rowLimit, dom, Kind, mmio, pio, input, host, device, event, lpi, nature, sameKind, Span, span, sameDom, sameSpan, Row, rangeRow, wiredRow, meets, fits, fitsSpan}
 
 pub record In (A : Type 0) : Type 0 where  -- a range or a row, and the kind of its table
   pub kind : Kind

@@ -2,18 +2,17 @@
 -- tables that it needs. Of events it reads only the rows of the device chosen. Assumes nothing.
 use mathlib.Core.Path.{_≡_, refl, sym, subst, ap, _∙_}
 use mathlib.Core.Logic.{_⊎_, inl, inr}
-use mathlib.Core.Bool.{Bool, true, false, not, _&&_, _||_}
-use mathlib.Core.Option.{Option, none, some}
+use mathlib.Core.Bool.{Bool, true, false, _||_}
 use mathlib.Core.List.{List, [], _∷_}
-use Prim.Native.Nat.{ℕ, zero, suc, _+_, _<_}
+use Prim.Native.Nat.{ℕ, _<_}
 use native.Mathlib.Omega.{arith}
 use lib.ListN.{length}
-use lib.Dec.{T, leb, ltb}
-use Rattle.definition.specs.Base.{anyOf, allOf, firstOf, badInput, full, malformed, fixedNotAllowed, Said, silence, tell, Answer, accepted, refused, require, _then_}
+use lib.Dec.{T}
+use Rattle.definition.specs.Base.{anyOf, allOf, firstOf, badInput, full, malformed, Answer, accepted, refused, require, _then_}
 use Rattle.definition.specs.BaseLaws.{and-l, and-r, T-true, T-false, true-T, either, first-at, first-past, all-alike}
-use Rattle.definition.specs.Tables.{top, rowLimit, Dom, dom, sameDom, poolDom, Kind, mmio, pio, input, host, device, event, lpi, kinds, nature, Span, Row, meets}
+use Rattle.definition.specs.Tables.{Dom, dom, sameDom, poolDom, Kind, mmio, pio, input, host, device, event, lpi, Span, Row, meets}
 use Rattle.definition.specs.Pools.{at-kind, Holders, Claim, room}
-use Rattle.definition.specs.Request.{Choice, auto, at, Want, memory, ports, wire, irq, msi, Request, oneBit, goodChoice, goodWant, goodRequest, Need, rowAt, aligned, holds, free, lowest, allowed, unjoined, obstacle, found, unopposed, Use, automatic, fixed, Pools, place, need, wireNeed, one, claims, resolve}
+use Rattle.definition.specs.Request.{Choice, auto, at, Want, memory, ports, wire, irq, msi, Request, oneBit, goodWant, goodRequest, Need, rowAt, holds, free, allowed, obstacle, found, Use, automatic, fixed, Pools, place, need, wireNeed, one, claims, resolve}
 use Rattle.definition.specs.Calls.{State, poolsOf, ownersOf, sound, granting, want, settle, serve}
 use Rattle.definition.specs.RequestLaws.{required, oneBit-pos}
 use Rattle.definition.specs.SearchLaws.{lowest-says}

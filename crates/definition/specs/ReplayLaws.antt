@@ -1,18 +1,18 @@
 -- Demand 3 over lists: an accepted plan's lines, each with its answer written back, run again from the same rows: any of them, each at most
 -- once, in any order. Of requests the proof knows only `resolved`, of rows only that `clash` is symmetric. Assumes nothing.
-use mathlib.Core.Path.{_≡_, refl, sym, subst, ap, _∙_}
+use mathlib.Core.Path.{_≡_, refl, sym, ap, _∙_}
 use mathlib.Core.Logic.{_⊎_, inl, inr}
 use mathlib.Core.List.{List, [], _∷_, _++_, map, List·Memᴰ, List·Memᴰ·head, List·Memᴰ·tail, List·Memᴰ·cases-cons, List·Memᴰ·not-nil}
-use Prim.Native.Nat.{ℕ, zero, suc, _+_, _*_, _≤_, _<_}
+use Prim.Native.Nat.{suc, _+_, _≤_}
 use native.Mathlib.Omega.{arith}
-use lib.ListN.{length, length-append, length-map}
+use lib.ListN.{length, length-append}
 use Rattle.definition.specs.Tables.{rowLimit, Kind}
 use Rattle.definition.specs.Base.{Answer, accepted, refused}
 use Rattle.definition.specs.Pools.{Holders, Claim, rowsOf, _⊕_}
 use Rattle.definition.specs.Request.{Want, memory, ports, wire, irq, msi, Request, Pools, resolve}
-use Rattle.definition.specs.Plan.{Grant, grant, Run, done, stopped, after, run, allRows, baseAt, record-of, recordOf, records, pinChoice, pinWant, pinned}
+use Rattle.definition.specs.Plan.{Grant, grant, done, after, run, allRows, record-of, recordOf, records, pinWant, pinned}
 use Rattle.definition.specs.ClaimLaws.{rows-append, Fits, length-put, FreeOf, Clear, clear-sym, free-put, put-free}
-use Rattle.definition.specs.RequestLaws.{AutoInFixed, Wide, SoundRows}
+use Rattle.definition.specs.RequestLaws.{AutoInFixed, Wide}
 use Rattle.definition.specs.ResolveLaws.{Resolved, resolved, rows-kept}
 use Rattle.definition.specs.RunLaws.{run-accepted, run-refused, not-done, after-done, Sounds}
 

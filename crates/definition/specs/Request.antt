@@ -5,7 +5,7 @@ use mathlib.Core.Option.{Option, none, some}
 use Prim.Native.Nat.{ℕ, _+_, _-_, _*_, _/_, _%_}
 use lib.Count.{onesIn}
 use lib.Dec.{leb, ltb, eqb}
-use Rattle.definition.specs.Base.{anyOf, firstOf, leastOf, Refusal, badInput, full, fixedNotAllowed, exhausted, conflict, Answer, accepted, refused, require, _then_}
+use Rattle.definition.specs.Base.{anyOf, firstOf, leastOf, badInput, full, fixedNotAllowed, exhausted, conflict, Answer, accepted, refused, require, _then_}
 use Rattle.definition.specs.Tables.{top, lastTrigger, shared, Dom, dom, sameDom, poolDom, Kind, mmio, pio, input, host, device, event, lpi, nature, Span, Row, meets, joins}
 use Rattle.definition.specs.Pools.{at-kind, Holders, Claim, room}
 

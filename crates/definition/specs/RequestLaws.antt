@@ -1,20 +1,19 @@
 -- What an accepted answer says of the tables, and when the same numbers, asked for by name, are accepted again. Assumes nothing.
-use mathlib.Core.Path.{_≡_, refl, sym, subst, ap, _∙_}
-use mathlib.Core.Logic.{_⊎_, inl, inr}
-use mathlib.Core.Bool.{Bool, true, false, not, _&&_, _||_}
-use mathlib.Core.List.{List, [], _∷_, _++_, List·Memᴰ, List·Memᴰ·head, List·Memᴰ·tail, List·Memᴰ·cases-cons, List·Memᴰ·eq-of-singleton}
+use mathlib.Core.Path.{_≡_, refl, _∙_}
+use mathlib.Core.Bool.{Bool, true, false, _&&_}
+use mathlib.Core.List.{List, List·Memᴰ}
 use mathlib.Core.Option.{Option, none, some}
-use Prim.Native.Nat.{ℕ, zero, suc, _+_, _-_, _*_, _%_, _/_, _^_, _≤_, _<_}
+use Prim.Native.Nat.{ℕ, zero, suc, _+_, _-_, _≤_, _<_}
 use native.Mathlib.Omega.{arith}
 use native.Mathlib.Nat.{zero-add}
 use lib.Count.{onesIn}
-use lib.Dec.{T, leb, ltb, eqb, leb→le, ltb→lt, eqb→eq, le→leb, lt→ltb, eqb-refl}
-use Rattle.definition.specs.Base.{anyOf, allOf, pairsOf, Refusal, badInput, full, fixedNotAllowed, Answer, accepted, refused, require, _then_}
-use Rattle.definition.specs.BaseLaws.{and-l, and-r, and-i, T-true, T-false, true-T, not-T→, →not-T, either, eq→eqb, any-in, in-any, all-in, LeastAll, none-at-all, least-of-all}
-use Rattle.definition.specs.Tables.{top, lastTrigger, shared, Dom, dom, sameDom, within, poolDom, Kind, mmio, pio, input, host, device, event, lpi, kinds, nature, sameKind, Span, Row, meets, clash, fits, ends, ifWired, goodRow}
-use Rattle.definition.specs.Pools.{at-kind, Holders, Claim, room}
-use Rattle.definition.specs.Request.{Choice, auto, at, Want, memory, ports, wire, irq, msi, Request, goodChoice, oneBit, goodWant, goodRequest, Need, rowAt, aligned, holds, free, lowest, allowed, obstacle, found, unopposed, Use, automatic, fixed, Pools, place, need, wireNeed, one, claims, resolve}
-use Rattle.definition.specs.Plan.{Grant, grant, baseAt, pinChoice, pinWant, pinned}
+use lib.Dec.{T, leb, leb→le, eqb→eq, le→leb, lt→ltb}
+use Rattle.definition.specs.Base.{anyOf, allOf, Refusal, fixedNotAllowed, Answer, accepted, refused, require, _then_}
+use Rattle.definition.specs.BaseLaws.{and-l, and-r, and-i, eq→eqb, any-in, in-any, all-in, LeastAll, none-at-all, least-of-all}
+use Rattle.definition.specs.Tables.{top, lastTrigger, shared, Dom, dom, sameDom, within, poolDom, Kind, input, kinds, nature, Span, Row, fits, ends, ifWired, goodRow}
+use Rattle.definition.specs.Pools.{Holders}
+use Rattle.definition.specs.Request.{Choice, auto, at, oneBit, Need, rowAt, aligned, holds, free, allowed, obstacle, found, unopposed, automatic, fixed, Pools, place, need, wireNeed}
+use Rattle.definition.specs.Plan.{pinChoice}
 use Rattle.definition.specs.RowLaws.{every-kind, dom-trans, clash-meets, Beside, beside-clear, Apart, obstacle-beside, good-fits}
 use Rattle.definition.specs.SearchLaws.{IsFree, free-says, lowest-says}
 

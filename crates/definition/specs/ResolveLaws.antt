@@ -1,18 +1,17 @@
 -- One accepted request: its rows are good, stand beside all others, fit, and are granted again when asked for by name. Assumes nothing.
-use mathlib.Core.Path.{_≡_, refl, sym, subst, ap, _∙_}
+use mathlib.Core.Path.{_≡_, refl, sym, subst, _∙_}
 use mathlib.Core.Logic.{_⊎_, inl, inr}
-use mathlib.Core.Bool.{Bool, true, false, not, _&&_, _||_}
-use mathlib.Core.List.{List, [], _∷_, _++_, List·Memᴰ, List·Memᴰ·head, List·Memᴰ·tail, List·Memᴰ·cases-cons, List·Memᴰ·eq-of-singleton}
-use Prim.Native.Nat.{ℕ, zero, suc, _+_, _≤_, _<_}
+use mathlib.Core.Bool.{not}
+use mathlib.Core.List.{List, [], _∷_, List·Memᴰ, List·Memᴰ·head, List·Memᴰ·tail, List·Memᴰ·cases-cons, List·Memᴰ·eq-of-singleton}
+use Prim.Native.Nat.{ℕ, _≤_, _<_}
 use native.Mathlib.Omega.{arith}
-use lib.ListN.{length}
-use lib.Dec.{T, leb, ltb, leb→le, ltb→lt, le→leb, lt→ltb}
-use Rattle.definition.specs.Base.{allOf, pairsOf, badInput, full, Answer, accepted, refused, require, _then_}
+use lib.Dec.{T, leb, ltb, leb→le, ltb→lt, le→leb}
+use Rattle.definition.specs.Base.{allOf, pairsOf, badInput, full, accepted, require}
 use Rattle.definition.specs.BaseLaws.{and-l, and-r, and-i, →not-T}
 use Rattle.definition.specs.Tables.{top, lastTrigger, shared, dom, within, Kind, mmio, pio, input, host, device, event, lpi, nature, sameKind, Row, clash, goodRow}
 use Rattle.definition.specs.Pools.{at-kind, Holders, Claim, _⊕_, room}
 use Rattle.definition.specs.Request.{Choice, auto, at, Want, memory, ports, wire, irq, msi, Request, goodChoice, oneBit, goodWant, goodRequest, Need, Pools, place, need, wireNeed, one, claims, resolve}
-use Rattle.definition.specs.Plan.{Grant, grant, baseAt, pinChoice, pinWant, pinned}
+use Rattle.definition.specs.Plan.{grant, pinChoice, pinWant, pinned}
 use Rattle.definition.specs.RowLaws.{clash-sym, Beside}
 use Rattle.definition.specs.ClaimLaws.{otherKind, goods-added, pairs-added, Fits, fits-one, fits-room, length-put, FreeOf}
 use Rattle.definition.specs.RequestLaws.{then-accepted, require-accepted, required, AutoInFixed, Wide, SoundRows, Makes, Placed, placed, oneBit-pos, range-made, wire-made}

@@ -1,15 +1,15 @@
 -- Laws of rows: domains, overlaps, rows that clash, and 01's wired rule (the first row on an input decides). Assumes nothing.
-use mathlib.Core.Path.{_≡_, refl, sym, subst, ap, _∙_}
+use mathlib.Core.Path.{_≡_, refl, sym, ap, _∙_}
 use mathlib.Core.Logic.{_⊎_, inl, inr}
-use mathlib.Core.Bool.{Bool, true, false, not, _&&_, _||_}
+use mathlib.Core.Bool.{Bool, true, false, not, _&&_}
 use mathlib.Core.Option.{Option, none, some}
-use mathlib.Core.List.{List, [], _∷_, _++_, List·Memᴰ, List·Memᴰ·head, List·Memᴰ·tail}
-use Prim.Native.Nat.{ℕ, zero, suc, _+_, _≤_, _<_}
+use mathlib.Core.List.{List, [], _∷_, List·Memᴰ, List·Memᴰ·head, List·Memᴰ·tail}
+use Prim.Native.Nat.{ℕ, zero, suc, _≤_, _<_}
 use native.Mathlib.Omega.{arith}
 use lib.Dec.{T, leb, ltb, eqb, ltb→lt, lt→ltb, eqb→eq, eqb-refl, leb→le}
 use Rattle.definition.specs.Base.{allOf, firstOf, pairsOf}
-use Rattle.definition.specs.BaseLaws.{and-l, and-r, and-i, T-true, T-false, true-T, not-T→, →not-T, either, eq→eqb, eqb-sym, eqb-trans, all-in, first-none, none-first, first-some, first-at, first-past}
-use Rattle.definition.specs.Tables.{top, shared, lastTrigger, Dom, dom, sameDom, within, Kind, mmio, pio, input, host, device, event, lpi, kinds, nature, sameKind, Span, sameSpan, Row, sameRow, overlap, meets, joins, clash, ends, ifWired, fits, goodRow}
+use Rattle.definition.specs.BaseLaws.{and-l, and-r, and-i, T-true, T-false, not-T→, →not-T, either, eqb-sym, eqb-trans, all-in, first-none, none-first, first-some, first-at, first-past}
+use Rattle.definition.specs.Tables.{top, shared, Dom, dom, sameDom, Kind, mmio, pio, input, host, device, event, lpi, kinds, nature, sameKind, Span, sameSpan, Row, sameRow, overlap, meets, joins, clash, ends, ifWired, fits, goodRow}
 use Rattle.definition.specs.Request.{unjoined, obstacle}
 
 -- ---- kinds

@@ -1,17 +1,16 @@
 -- `lowest` answers the least of ALL free bases, and nothing exactly when no base is free. Assumes nothing.
-use mathlib.Core.Path.{_≡_, refl, sym, subst, ap, _∙_}
+use mathlib.Core.Path.{_≡_, sym}
 use mathlib.Core.Logic.{_⊎_, inl, inr}
-use mathlib.Core.Bool.{Bool, true, false, not, _&&_, _||_}
-use mathlib.Core.List.{List, [], _∷_, _++_, map, List·Memᴰ, Memᴰ·append-left, Memᴰ·append-right, Memᴰ·map, Memᴰ·cast}
-use mathlib.Core.Option.{Option, none, some}
-use Prim.Native.Nat.{ℕ, zero, suc, _+_, _-_, _*_, _/_, _%_, _≤_, _<_}
+use mathlib.Core.Bool.{not}
+use mathlib.Core.List.{List, map, List·Memᴰ, Memᴰ·append-left, Memᴰ·append-right, Memᴰ·map, Memᴰ·cast}
+use Prim.Native.Nat.{ℕ, _+_, _-_, _*_, _/_, _%_, _≤_, _<_}
 use native.Mathlib.Omega.{arith}
 use native.Mathlib.Nat.{mod-eq-sub-mod, div-add-mod'}
 use lib.Arith.{digits-div}
-use lib.Dec.{T, leb, ltb, eqb, leb→le, nleb→lt, ltb→lt, nltb→le, eqb→eq, le→leb, lt→ltb, eqb-refl}
-use Rattle.definition.specs.Base.{anyOf, leastOf}
-use Rattle.definition.specs.BaseLaws.{and-l, and-r, and-i, not-T→, →not-T, either, eq→eqb, any-in, in-any, LeastAll, none-at-all, least-of-all, least-all, all-alike}
-use Rattle.definition.specs.Tables.{Dom, sameDom, poolDom, Span, Row, overlap, meets}
+use lib.Dec.{T, leb, ltb, eqb, leb→le, ltb→lt, nltb→le, eqb→eq, le→leb, lt→ltb}
+use Rattle.definition.specs.Base.{anyOf}
+use Rattle.definition.specs.BaseLaws.{and-l, and-r, and-i, not-T→, →not-T, either, eq→eqb, any-in, in-any, LeastAll, least-all, all-alike}
+use Rattle.definition.specs.Tables.{sameDom, poolDom, Span, Row, overlap, meets}
 use Rattle.definition.specs.Request.{Need, rowAt, aligned, holds, free, alignUp, candidates, lowest}
 
 -- the only multiple of a from x up to x + a

@@ -1,18 +1,16 @@
 -- Laws of a table as it is handed in: its used rows, its zero rows, rows pushed to its end, a table made anew. Assumes nothing.
-use mathlib.Core.Path.{_≡_, refl, sym, subst, ap, _∙_}
-use mathlib.Core.Logic.{_⊎_, inl, inr}
-use mathlib.Core.Bool.{Bool, true, false, not, _&&_, _||_}
-use mathlib.Core.List.{List, [], _∷_, _++_, append-assoc, append-nil, List·Memᴰ, List·Memᴰ·head, List·Memᴰ·tail}
-use Prim.Native.Nat.{ℕ, zero, suc, _+_, _-_, _≤_, _<_, min}
+use mathlib.Core.Path.{_≡_, refl, sym, ap, _∙_}
+use mathlib.Core.Bool.{Bool, _&&_}
+use mathlib.Core.List.{List, [], _∷_, _++_, append-assoc, append-nil}
+use Prim.Native.Nat.{ℕ, zero, suc, _+_, _-_, _≤_, _<_}
 use native.Mathlib.Omega.{arith}
 use lib.ListN.{length, take, drop, set, replicate, length-append, length-take, length-drop, length-set, length-replicate, take-append-drop}
-use lib.Dec.{T, leb, ltb, eqb, leb→le, le→leb, eqb→eq, eqb-refl}
+use lib.Dec.{T, leb, eqb, leb→le, le→leb, eqb→eq}
 use Rattle.definition.specs.Base.{allOf, pairsOf}
-use Rattle.definition.specs.BaseLaws.{and-l, and-r, and-i, eq→eqb, all-in, all-from}
-use Rattle.definition.specs.Tables.{poolLimit, Kind, Span, sameSpan, Table, used, tidy, blankSpan, goodSpan, inOrder, soundTable, soundPool}
+use Rattle.definition.specs.BaseLaws.{and-l, and-r, and-i, eq→eqb}
+use Rattle.definition.specs.Tables.{poolLimit, Kind, Span, sameSpan, Table, used, tidy, blankSpan, goodSpan, inOrder, soundTable}
 use Rattle.definition.specs.Calls.{zeros, pushAll, stored}
 use Rattle.definition.specs.RowLaws.{span-eq, span-refl}
-use Rattle.definition.specs.ClaimLaws.{all-append}
 
 -- ---- lists
 

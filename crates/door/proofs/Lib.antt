@@ -1,4 +1,1 @@
 pub mod Walk
-pub mod Again
-pub mod LendWalk
-pub mod PartWalk

@@ -7,7 +7,6 @@ use tables::State;
 ghost use mathlib.Core.Path.{_≡_};
 ghost use Rattle.definition.specs.Tables.{kinds};
 ghost use Rattle.definition.specs.Calls.{serve};
-ghost use Rattle.definition.specs.Plan.{lent, allocateInto};
 ghost use Rattle.tables.specs.Views.{stateView};
 ghost use Rattle.request.specs.Asked.{requestOf};
 ghost use Rattle.door.specs.Call.{callOf};
@@ -37,11 +36,4 @@ pub fn serve_in(state: &mut State, call: Call)
     ensures { λ _. ⌜ stateView (now (state .exit)) ≡ serve kinds (callOf call) (stateView (now (state .entry))) ⌝ }
 {
     *state = applied(*state, call);
-}
-
-// One request with its record written into the list lent: the same answer as `serve_in` gives where the list has room, else 11.
-pub fn allocate_in(state: &mut State, r: Request, out: &mut [u64])
-    ensures { λ _. ⌜ lent (stateView (now (state .exit))) (now (out .exit)) ≡ allocateInto kinds (requestOf r) (stateView (now (state .entry))) (now (out .entry)) ⌝ }
-{
-    *state = allocation::allocate_into(*state, r, out);
 }

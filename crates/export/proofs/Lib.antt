@@ -1,6 +1,6 @@
-pub mod LendThree
 pub mod SizeLaws
 pub mod FaceWalk
+pub mod PlanWalk
 pub mod ReadWalk
 pub mod FreshWalk
 pub mod FilledLaws

@@ -1,10 +1,10 @@
 // The planner for callers in C and Rust. The state is the caller's memory, lent with its size: a state of another size is not touched and answers 1.
 // Numbers come and go in lists. Nothing is required of them: whatever cannot be read gets its refusal.
-use face::lent::allocate_into;
 use face::lent::call_into;
 use face::lent::filled;
 use face::lent::number_of;
 use face::lent::read;
+use lent::Marks;
 use tables::State;
 use tables::fresh;
 use text::respond;
@@ -12,9 +12,9 @@ ghost use mathlib.Core.Path.{_≡_};
 ghost use lib.ListN.{length};
 ghost use Rattle.definition.specs.Plan.{lent};
 ghost use Rattle.tables.specs.Views.{stateView};
-ghost use Rattle.flat.specs.Flat.{flatPlan};
+ghost use Rattle.flat.specs.Flat.{flatPlan, flatAllocate};
 ghost use Rattle.face.specs.Rows.{told};
-ghost use Rattle.face.specs.Lent.{callTold, flatAllocate, readTold};
+ghost use Rattle.face.specs.Lent.{callTold, readTold, filledBy};
 ghost use Rattle.pin.specs.Pin.{pinnedNumbers};
 ghost use Rattle.text.specs.Respond.{respondsTo};
 ghost use Rattle.export.specs.Export.{stateSize, begun, sizedFresh, answered, sized, numbered, counted, sizedRead, bytesTold};
@@ -71,11 +71,18 @@ pub extern "C" fn planner_allocate(
     ensures { λ r. ⌜ answered (lent (stateView (now (state .exit))) (now (out .exit))) r ≡ sized size (stateView (now (state .entry))) (now (out .entry)) (numbered (flatAllocate (now (request .entry)) (stateView (now (state .entry))) (now (out .entry)))) ⌝ }
 {
     if size == STATE {
-        let next = allocate_into(*state, request, out);
-        *state = next;
-        return number_of(next, request);
+        plan::numbers::allocate_in(state, request, out);
+        let m = lent::peek(state);
+        return m.number;
     }
     1
+}
+
+// How many numbers a plan has filled, by what it leaves.
+fn filled_by(m: Marks, long: usize) -> u64
+    ensures { λ r. ⌜ r ≡ filledBy (m .number) (m .index) long ⌝ }
+{
+    filled(m.number, m.index, long)
 }
 
 // A plan of requests, twelve numbers each. It answers with how many numbers of `results` it has filled, nine for each request granted; the answer itself stands in the state.
@@ -91,9 +98,7 @@ pub extern "C" fn planner_plan(
     if size == STATE {
         plan::numbers::plan_in(state, requests, results);
         let m = lent::peek(state);
-        let number = m.number;
-        let index = m.index;
-        return filled(number, index, requests.len());
+        return filled_by(m, requests.len());
     }
     1
 }

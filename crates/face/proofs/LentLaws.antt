@@ -1,32 +1,19 @@
 -- Calls with lists lent beside the numbers: one law for each way out. Assumes nothing.
 use mathlib.Core.Path.{_≡_, sym, ap, _∙_}
-use mathlib.Core.Bool.{Bool}
 use mathlib.Core.List.{List}
 use Prim.Native.Nat.{ℕ, _≤_, _<_, _*_, _/_}
 use lib.ListN.{length}
 use borrow.Author.Tests.{le-leb, lt-leb, eq-eqb, ne-eqb}
-use Rattle.definition.specs.Tables.{kinds}
-use Rattle.definition.specs.Base.{malformed, short, refused, require}
-use Rattle.definition.specs.Request.{Request}
-use Rattle.definition.specs.Calls.{State, sound, settle}
-use Rattle.definition.specs.Plan.{Lent, lent, allocateInto}
-use Rattle.flat.specs.Flat.{requestAt}
+use Rattle.definition.specs.Calls.{State}
+use Rattle.definition.specs.Plan.{lent}
 use Rattle.face.specs.Face.{number, faceCall}
 use Rattle.face.specs.Rows.{Told, told, rowTold, answerTold}
-use Rattle.face.specs.Lent.{telling, callTold, flatAllocate, readTold, filledBy}
+use Rattle.face.specs.Lent.{telling, callTold, readTold, filledBy}
 
 pub call-told : (xs : List ℕ) (s t : State) (out zs : List ℕ) (y : ℕ) → t ≡ faceCall xs s → told y zs ≡ answerTold t out → lent t zs ≡ callTold xs s out
 call-told xs s t out zs y e a = ap (λ (w : Told). lent t (w .out)) a ∙ ap (λ (v : State). telling v out) e
 
 module _ (xs : List ℕ) (s : State) (out : List ℕ) where
-  pub alloc-long : 12 ≤ length xs → (v : Lent) (r : Request) → r ≡ requestAt xs 0 → v ≡ allocateInto kinds r s out → v ≡ flatAllocate xs s out
-  unfolding flatAllocate
-  alloc-long l v r e w = w ∙ ap (λ (x : Request). allocateInto kinds x s out) e ∙ rw (le-leb 12 (length xs) l, flatAllocate)
-
-  pub alloc-short : length xs < 12 → (t : State) (b : Bool) → b ≡ sound kinds s → t ≡ settle s (require b malformed (refused short)) → lent t out ≡ flatAllocate xs s out
-  unfolding flatAllocate
-  alloc-short l t b e w = ap (λ (v : State). lent v out) (w ∙ ap (λ (x : Bool). settle s (require x malformed (refused short))) e) ∙ rw (lt-leb 12 (length xs) l, flatAllocate)
-
   pub read-none : length xs ≡ 0 → told 11 out ≡ readTold xs s out
   unfolding readTold
   read-none e = rw (eq-eqb (length xs) 0 e, readTold)

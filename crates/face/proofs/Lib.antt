@@ -1,3 +1,4 @@
 pub mod CallLaws
+pub mod AskedLaws
 pub mod ReadLaws
 pub mod LentLaws

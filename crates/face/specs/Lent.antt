@@ -4,11 +4,10 @@ use mathlib.Core.List.{List}
 use Prim.Native.Nat.{ℕ, _*_, _/_}
 use lib.Dec.{leb, eqb}
 use lib.ListN.{length}
-use Rattle.definition.specs.Tables.{planLimit, recordSize, kinds}
-use Rattle.definition.specs.Base.{malformed, short, refused, require}
-use Rattle.definition.specs.Calls.{State, sound, settle}
-use Rattle.definition.specs.Plan.{Lent, lent, allocateInto}
-use Rattle.flat.specs.Flat.{requestSize, requestAt}
+use Rattle.definition.specs.Tables.{planLimit, recordSize}
+use Rattle.definition.specs.Calls.{State}
+use Rattle.definition.specs.Plan.{Lent, lent}
+use Rattle.flat.specs.Flat.{requestSize}
 use Rattle.face.specs.Face.{number, faceCall}
 use Rattle.face.specs.Rows.{Told, told, rowTold, answerTold}
 
@@ -18,14 +17,6 @@ telling t out = lent t (answerTold t out .out)
 
 abbrev pub callTold : List ℕ → State → List ℕ → Lent
 callTold xs s out = telling (faceCall xs s) out
-
--- one request of twelve numbers, with its record
-unfoldable pub flatAllocate : List ℕ → State → List ℕ → Lent
-flatAllocate xs s out =
-    elim (leb requestSize (length xs)) [
-      | true ↦ allocateInto kinds (requestAt xs 0) s out
-      | false ↦ lent (settle s (require (sound kinds s) malformed (refused short))) out
-    ]
 
 -- reading back: 0 is the last answer, all else a part, with a kind and a row; a list too short is 11
 unfoldable pub readTold : List ℕ → State → List ℕ → Told

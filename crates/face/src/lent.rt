@@ -1,14 +1,13 @@
-// The same calls with lists lent beside the numbers: the answer's five numbers, one request's record, what is read back. And what an exported call answers with.
+// The same calls with lists lent beside the numbers: the answer's five numbers, what is read back. And what an exported call answers with.
 use super::call;
 use super::number;
 use super::row;
-use super::too_short;
 use tables::State;
 ghost use mathlib.Core.Path.{_≡_};
 ghost use Rattle.definition.specs.Plan.{lent};
 ghost use Rattle.tables.specs.Views.{stateView};
 ghost use Rattle.face.specs.Rows.{told};
-ghost use Rattle.face.specs.Lent.{callTold, flatAllocate, readTold, filledBy};
+ghost use Rattle.face.specs.Lent.{callTold, readTold, filledBy};
 
 // A call, and its answer's five numbers where the list has room for them.
 pub fn call_into(s: State, numbers: &[u64], answer: &mut [u64]) -> State
@@ -17,18 +16,6 @@ pub fn call_into(s: State, numbers: &[u64], answer: &mut [u64]) -> State
     let t = call(s, numbers);
     let _room = row::answer(t, answer);
     t
-}
-
-// One request of twelve numbers, with its record: 1, 11, 2 and the rest.
-pub fn allocate_into(s: State, request: &[u64], out: &mut [u64]) -> State
-    ensures { λ t. ⌜ lent (stateView t) (now (out .exit)) ≡ flatAllocate (now (request .entry)) (stateView s) (now (out .entry)) ⌝ }
-{
-    if 12 <= request.len() {
-        let r = flat::request_at(request, 0);
-        return allocation::allocate_into(s, r, out);
-    }
-    let judged = sound::sound(s);
-    too_short(s, judged)
 }
 
 // Reading back: the last answer (0), or a row (part, kind, row).

@@ -2,13 +2,17 @@
 use choose::Refusal;
 use coding::adding_of;
 use coding::call_size;
+use plan::numbers::plan_by_value;
 use pool::Call;
 use tables::State;
 ghost use mathlib.Core.Path.{_≡_};
-ghost use lib.ListN.{getD};
+ghost use Prim.Native.Nat.{_≤_};
+ghost use lib.ListN.{length, getD};
 ghost use Rattle.definition.specs.Base.{malformed, short, refused, require};
-ghost use Rattle.definition.specs.Calls.{settle};
+ghost use Rattle.definition.specs.Tables.{kinds};
+ghost use Rattle.definition.specs.Calls.{settle, want, serve};
 ghost use Rattle.tables.specs.Views.{stateView};
+ghost use Rattle.flat.specs.Flat.{requestSize, requestAt};
 ghost use Rattle.pool.specs.Served.{callOf};
 ghost use Rattle.face.specs.Face.{addingAt, faceCall};
 
@@ -57,6 +61,15 @@ pub fn too_short(s: State, judged: bool) -> State
     allocation::refuse(s, Refusal::Malformed)
 }
 
+// One request of twelve numbers: a plan of one, whose record is not told.
+pub fn asked(s: State, request: &[u64]) -> State
+    requires { ⌜ requestSize ≤ length (now request) ⌝ }
+    ensures { λ t. ⌜ stateView t ≡ serve kinds (want (requestAt (now (request .entry)) 0)) (stateView s) ⌝ }
+{
+    let mut record = [0u64; 9];
+    plan_by_value(s, &request[..12], &mut record)
+}
+
 // A call that adds or starts, or one request, from its numbers: 1, 11, 2 and the rest.
 pub fn call(s: State, numbers: &[u64]) -> State
     ensures { λ t. ⌜ stateView t ≡ faceCall (now (numbers .entry)) (stateView s) ⌝ }
@@ -66,8 +79,7 @@ pub fn call(s: State, numbers: &[u64]) -> State
     let size = call_size(first, kind);
     if size <= numbers.len() {
         if first == 4 {
-            let r = flat::request_at(&numbers[1..], 0);
-            return allocation::allocate(s, r);
+            return asked(s, &numbers[1..]);
         }
         let c = adding_at(numbers);
         return pool::serve(s, c);

@@ -4,12 +4,13 @@ use mathlib.Core.Bool.{true, false}
 use mathlib.Core.List.{List, [], _∷_}
 use Prim.Native.Nat.{ℕ, zero, suc, _+_, _-_, _*_, _/_, _<_}
 use native.Mathlib.Omega.{arith}
+use lib.Dec.{leb}
 use lib.ListN.{length, getD}
 use Rattle.definition.specs.Tables.{kinds}
 use Rattle.definition.specs.Base.{malformed, short, refused, require}
 use Rattle.definition.specs.Calls.{State, sound, settle}
-use Rattle.definition.specs.Plan.{lent, plan}
-use Rattle.flat.specs.Flat.{requestSize, numberAt, requestIn, requestAt, requestsFrom, requestsOf, wholeRequests, flatPlan}
+use Rattle.definition.specs.Plan.{lent, allocateInto, plan}
+use Rattle.flat.specs.Flat.{requestSize, numberAt, requestIn, requestAt, requestsFrom, requestsOf, wholeRequests, flatPlan, flatAllocate}
 
 -- ---- reading
 
@@ -80,3 +81,13 @@ flat-whole rq s out e = rw (e, flatPlan)
 pub flat-torn : (rq : List ℕ) (s : State) (out : List ℕ) → wholeRequests rq ≡ false → flatPlan rq s out ≡ lent (settle s (require (sound kinds s) malformed (refused short))) out
 unfolding flatPlan
 flat-torn rq s out e = rw (e, flatPlan)
+
+-- ---- one request: twelve numbers, or 1 and 11
+
+pub flat-one : (xs : List ℕ) (s : State) (out : List ℕ) → leb requestSize (length xs) ≡ true → flatAllocate xs s out ≡ allocateInto kinds (requestAt xs 0) s out
+unfolding flatAllocate
+flat-one xs s out e = rw (e, flatAllocate)
+
+pub flat-too-short : (xs : List ℕ) (s : State) (out : List ℕ) → leb requestSize (length xs) ≡ false → flatAllocate xs s out ≡ lent (settle s (require (sound kinds s) malformed (refused short))) out
+unfolding flatAllocate
+flat-too-short xs s out e = rw (e, flatAllocate)

@@ -8,7 +8,7 @@ use Rattle.definition.specs.Tables.{top, kinds}
 use Rattle.definition.specs.Base.{malformed, short, refused, require}
 use Rattle.definition.specs.Request.{Choice, auto, at, Want, memory, ports, wire, irq, msi, Request}
 use Rattle.definition.specs.Calls.{State, sound, settle}
-use Rattle.definition.specs.Plan.{Lent, lent, plan}
+use Rattle.definition.specs.Plan.{Lent, lent, allocateInto, plan}
 
 -- the numbers of one request: kind, requester, slot, a, b, c, then three choices of two numbers each (a code and a number)
 abbrev pub requestSize : ℕ
@@ -108,5 +108,14 @@ unfoldable pub flatPlan : List ℕ → State → List ℕ → Lent
 flatPlan rq s out =
     elim (wholeRequests rq) [
       | true ↦ plan (requestsOf rq) s out
+      | false ↦ lent (settle s (require (sound kinds s) malformed (refused short))) out
+    ]
+
+-- ---- one of them, with its record
+
+unfoldable pub flatAllocate : List ℕ → State → List ℕ → Lent
+flatAllocate xs s out =
+    elim (leb requestSize (length xs)) [
+      | true ↦ allocateInto kinds (requestAt xs 0) s out
       | false ↦ lent (settle s (require (sound kinds s) malformed (refused short))) out
     ]

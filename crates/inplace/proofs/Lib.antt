@@ -2,4 +2,3 @@ pub mod Callees
 pub mod LendPart
 pub mod KeepWalk
 pub mod ResolveWalk
-pub mod AllocateWalk

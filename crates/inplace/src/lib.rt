@@ -1,4 +1,4 @@
-// One request on a lent state, in place: no table is copied. All but `allocate` take the tables to be sound.
+// One request on a lent state whose tables are sound, in place: no table is copied.
 use finding::Bases;
 use finding::Finding;
 use request::Request;
@@ -6,7 +6,7 @@ use tables::State;
 ghost use mathlib.Core.Path.{_≡_};
 ghost use lib.Dec.{T};
 ghost use Rattle.definition.specs.Tables.{kinds};
-ghost use Rattle.definition.specs.Calls.{sound, want, serve};
+ghost use Rattle.definition.specs.Calls.{sound};
 ghost use Rattle.tables.specs.Views.{stateView};
 ghost use Rattle.request.specs.Asked.{requestOf};
 ghost use Rattle.finding.specs.Outcome.{basesIn, after};
@@ -85,15 +85,4 @@ pub fn resolve(s: &mut State, r: Request) -> Bases
     let f = find(s, r);
     keep(s, f);
     f.bases
-}
-
-// One request of any kind on the state lent: where the tables are not sound the by-value call refuses, else as `resolve`.
-pub fn allocate(s: &mut State, r: Request)
-    ensures { λ _. ⌜ stateView (now (s .exit)) ≡ serve kinds (want (requestOf r)) (stateView (now (s .entry))) ⌝ }
-{
-    if sound::sound(*s) {
-        resolve(s, r);
-        return;
-    }
-    *s = allocation::allocate(*s, r);
 }

@@ -1,4 +1,4 @@
-// For tests and the measure: requests as an array by value, lent as a slice to the doors of the plans over a list. Nothing in the product leans on it.
+// For tests and the measure: requests as an array by value, lent as a slice to the doors of the plan over a list. Nothing in the product leans on it.
 use request::Request;
 use tables::State;
 ghost use mathlib.Core.Path.{_≡_};
@@ -13,17 +13,7 @@ ghost use Rattle.front.specs.Front.{filled};
 // One request more than a plan takes.
 pub const MOST: usize = 129;
 
-// The first n requests planned on a state by value.
-pub fn lend(s: State, list: [Request; MOST], n: usize, results: &mut [u64]) -> State
-    requires { ⌜ n ≤ 129 ⌝ }
-    ensures { λ t. ⌜ lent (stateView t) (now (results .exit)) ≡ plan (map requestOf (take n list)) (stateView s) (now (results .entry)) ⌝ }
-{
-    let mut t = s;
-    listed::plan_in(&mut t, &list[..n], results);
-    t
-}
-
-// The same plan, each request answered in place.
+// The first n requests planned, on a state by value.
 pub fn place(s: State, list: [Request; MOST], n: usize, results: &mut [u64]) -> State
     requires { ⌜ n ≤ 129 ⌝ }
     ensures { λ t. ⌜ lent (stateView t) (now (results .exit)) ≡ plan (map requestOf (take n list)) (stateView s) (now (results .entry)) ⌝ }
@@ -44,5 +34,5 @@ pub fn filled<'a>(
     ensures { λ r. ⌜ now r ≡ filled (map requestOf (take n list)) (stateView s) (now (results .entry)) ⌝ }
 {
     let mut t = s;
-    listed::plan(&mut t, &list[..n], results)
+    plan::list::plan(&mut t, &list[..n], results)
 }

@@ -6,10 +6,10 @@ use mathlib.Core.List.{List, [], _∷_}
 use Prim.Native.Nat.{ℕ, zero, suc, _+_, _-_, _≤_, _<_}
 use native.Mathlib.Omega.{arith}
 use lib.Dec.{leb, ltb, eqb}
-use lib.ListN.{length, getD, set}
+use lib.ListN.{getD, set}
 use lib.Seq.{getD-set-other, ext-getD}
 use borrow.Author.Tests.{ltb-true, ltb-false, leb-true, leb-false, eqb-true, eqb-false}
-use Rattle.definition.specs.Tables.{rowLimit, Kind, mmio, pio, input, host, device, event, lpi, Row, blankRow, rangeRow, wiredRow, dom}
+use Rattle.definition.specs.Tables.{rowLimit, Kind, mmio, pio, input, host, device, event, lpi, blankRow, rangeRow, wiredRow, dom}
 use Rattle.definition.specs.Calls as C
 use Rattle.tables.specs.Below.{listed}
 use Rattle.tables.specs.Views.{rangeOf, wireOf, rangeAt, wireAt, rangesView, wiresView, stateView}

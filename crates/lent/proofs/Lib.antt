@@ -1,4 +1,5 @@
 pub mod Acts
+pub mod LendThree
 pub mod Steps
 pub mod CutLaws
 pub mod Plain

@@ -14,7 +14,7 @@ use Rattle.definition.specs.Calls.{Call, givenAt, soundAt, given, sound, pushAl
 use Rattle.definition.specs.Plan.{recordOf, allocateInto}
 use Rattle.lines.specs.Base.{bytes, same, grow, split, when, _andThen_, _orElse_}
 use Rattle.lines.specs.Numbers.{valueFrom, plain, number, digitsUpTo, digits}
-use Rattle.lines.specs.Line.{behind, lineOf, entry, numbers, form, _gives_, poolOf, poolLine, holdIts, holdOf, holdLine, wantAtOf, wantAt, wantOf, wantLine, useOf, behindPool, behindHold, behindWant, byWord, byFields, readLine}
+use Rattle.lines.specs.Line.{behind, lineOf, entry, numbers, form, poolOf, poolLine, holdIts, holdOf, holdLine, wantAtOf, wantAt, wantOf, wantLine, useOf, behindPool, behindHold, behindWant, byWord, byFields, readLine, _gives_}
 use Rattle.lines.specs.Output.{carriedBy, gotLine, gotLines, endLine, noLine}
 use Rattle.lines.specs.Text.{setUp, opened, answered, ask, step, feedParts, feed, unfinished, close, answer, output}
 

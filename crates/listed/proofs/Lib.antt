@@ -1,3 +1,1 @@
-pub mod ListLaws
-pub mod ReadWalk
-pub mod LoopWalk
+pub mod TurnLaws

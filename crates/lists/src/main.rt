@@ -1,4 +1,4 @@
-// Runs the doors of the plans over a lent list of requests: listed::plan_in, plan::list::plan_in and listed::plan. One line for each case: `passed` where the answer, the records, every number behind them and the owner tables are as expected.
+// Runs the doors of the plan over a lent list of requests: plan::list::plan_in and plan::list::plan. One line for each case: `passed` where the answer, the records, every number behind them and the owner tables are as expected.
 mod expected;
 mod input;
 
@@ -86,27 +86,6 @@ pub fn in_place(c: Case, out: &mut [u64]) -> bool {
     let room = c.room;
     let list = input::requests(c.conflict);
     let s = given(c);
-    let t = lending::lend(s, list, c.n, &mut out[..room]);
-    if !expected::answer(t, c.number, c.accepted) {
-        return false;
-    }
-    if !expected::owners(t, c.number, c.accepted, c.damaged) {
-        return false;
-    }
-    expected::records(out, c.accepted)
-}
-
-// The same, each request answered in place.
-pub fn in_place_each(c: Case, out: &mut [u64]) -> bool {
-    if 129 < c.n {
-        return false;
-    }
-    if out.len() < c.room {
-        return false;
-    }
-    let room = c.room;
-    let list = input::requests(c.conflict);
-    let s = given(c);
     let t = lending::place(s, list, c.n, &mut out[..room]);
     if !expected::answer(t, c.number, c.accepted) {
         return false;
@@ -132,18 +111,9 @@ pub fn part(c: Case, out: &mut [u64]) -> bool {
     expected::front(front, c.accepted)
 }
 
-// The plan on the state lent, through both doors.
 pub fn tried(c: Case) -> bool {
     let mut out = [9u64; 1161];
-    if in_place(c, &mut out) {
-        return tried_each(c);
-    }
-    false
-}
-
-pub fn tried_each(c: Case) -> bool {
-    let mut out = [9u64; 1161];
-    in_place_each(c, &mut out)
+    in_place(c, &mut out)
 }
 
 pub fn handed(c: Case) -> bool {

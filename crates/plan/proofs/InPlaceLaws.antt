@@ -1,13 +1,13 @@
 -- A plan in place, turn by turn: what is left equals the whole, and cutting the tables back puts them back. Over views alone. Assumes nothing.
 --     Left          after i of t turns
 --     starts, goes-on, ends
-use mathlib.Core.Path.{_≡_, refl, sym, ap, ap₂, subst, _∙_}
+use mathlib.Core.Path.{_≡_, refl, sym, ap, subst, _∙_}
 use mathlib.Core.Bool.{Bool, true, false, _&&_}
-use mathlib.Core.List.{List, [], _∷_}
+use mathlib.Core.List.{List, []}
 use Prim.Native.Nat.{ℕ, _+_, _*_, _≤_, _<_}
 use native.Mathlib.Omega.{arith}
 use native.Mathlib.Numerals.{add-one}
-use lib.Dec.{T, leb, eqb}
+use lib.Dec.{T, leb}
 use lib.ListN.{length, getD, drop, drop-of-length-le}
 use lib.Seq.{drop-cons}
 use borrow.Author.Tests.{leb-true}
@@ -16,7 +16,7 @@ use Rattle.definition.specs.Base.{Refusal, malformed, short, Said, silence, tel
 use Rattle.definition.specs.Tables.{planLimit, recordSize, Kind, kinds}
 use Rattle.definition.specs.Request.{Request}
 use Rattle.definition.specs.Calls.{State, state, poolsOf, ownersOf, sound, saying, granting}
-use Rattle.definition.specs.StateLaws.{SoundFor, sound-for, sound-saying}
+use Rattle.definition.specs.StateLaws.{sound-for, sound-saying}
 use Rattle.definition.specs.Plan.{Run, done, stopped, run, Lent, lent, allRows, plan}
 use Rattle.definition.specs.PlanLaws.{tell-number}
 use Rattle.steps.specs.Steps.{clear, Steady, opened, turned, turns, settled, steps}
@@ -130,7 +130,11 @@ module _ (qs : List Request) (q : Request) (s : State) (zs₀ : List ℕ) (n : �
         let l : lent d zs ≡ whole = last t i d zs over left in
         ap (λ (x : State). lent x zs) u ∙ ap (λ (p : Lent). lent (cutBack counts (p .state)) (p .results)) l ∙ ap (λ (x : State). lent x (whole .results)) put-back
 
+-- what is left where n of qs are counted
+abbrev pub Ends : List Request → State → List ℕ → ℕ → Lent
+Ends qs s zs₀ n = let w : Lent = turns 0 qs (opened n (length zs₀) s) zs₀ in lent (settled s (w .state)) (w .results)
+
 -- .. which is the plan of so many requests
-pub ends-plan : (qs : List Request) (s : State) (zs₀ : List ℕ) → let p : Lent = turns 0 qs (opened (length qs) (length zs₀) s) zs₀ in lent (settled s (p .state)) (p .results) ≡ plan qs s zs₀
+pub ends-plan : (qs : List Request) (s : State) (zs₀ : List ℕ) → Ends qs s zs₀ (length qs) ≡ plan qs s zs₀
 unfolding steps
 ends-plan qs s zs₀ = steps-plan qs s zs₀

@@ -1,12 +1,12 @@
 -- What is judged before the first request, case by case. Assumes nothing.
 use mathlib.Core.Path.{_≡_, sym, ap, ap₂}
 use mathlib.Core.Bool.{Bool, true, false}
-use Prim.Native.Nat.{ℕ, _+_, _*_, _/_}
-use borrow.Author.Tests.{eq-eqb, ne-eqb}
+use Prim.Native.Nat.{ℕ, _+_, _*_, _/_, _≤_, _<_}
+use borrow.Author.Tests.{eq-eqb, ne-eqb, le-leb, lt-leb}
 use Rattle.definition.specs.Tables.{planLimit}
 use Rattle.definition.specs.Base.{malformed, short, Said, silence, tell}
 use Rattle.flat.specs.Flat.{requestSize}
-use Rattle.plan.specs.Turns.{fitsIn, judgedOf, turnsIn, wholeCount}
+use Rattle.plan.specs.Turns.{fitsIn, judgedOf, turnsIn, wholeCount, oneCount}
 
 abbrev judging : Bool → Bool → Said
 judging b c = elim b as (λ _. Said) [ false ↦ tell 0 malformed | true ↦ elim c as (λ _. Said) [ false ↦ tell 0 short | true ↦ silence ] ]
@@ -49,3 +49,11 @@ whole-is long e = sym (ap (counting long) (eq-eqb (requestSize * (long / request
 pub whole-not : (long : ℕ) → (requestSize * (long / requestSize) ≡ long → ⊥) → planLimit + 1 ≡ wholeCount long
 unfolding wholeCount
 whole-not long e = sym (ap (counting long) (ne-eqb (requestSize * (long / requestSize)) long e))
+
+pub one-is : (long : ℕ) → requestSize ≤ long → 1 ≡ oneCount long
+unfolding oneCount
+one-is long l = sym (ap (λ (b : Bool). elim b as (λ _. ℕ) [ true ↦ 1 | false ↦ planLimit + 1 ]) (le-leb requestSize long l))
+
+pub one-not : (long : ℕ) → long < requestSize → planLimit + 1 ≡ oneCount long
+unfolding oneCount
+one-not long l = sym (ap (λ (b : Bool). elim b as (λ _. ℕ) [ true ↦ 1 | false ↦ planLimit + 1 ]) (lt-leb requestSize long l))

@@ -41,3 +41,7 @@ backTo m t = elim (clear t) [ true ↦ t | false ↦ cutting (countsIn m) t ]
 -- numbers of whole requests, or more than a plan has
 unfoldable pub wholeCount : ℕ → ℕ
 wholeCount long = elim (eqb (requestSize * (long / requestSize)) long) [ true ↦ long / requestSize | false ↦ planLimit + 1 ]
+
+-- one request, or more than a plan has
+unfoldable pub oneCount : ℕ → ℕ
+oneCount long = elim (leb requestSize long) [ true ↦ 1 | false ↦ planLimit + 1 ]

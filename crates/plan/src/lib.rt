@@ -8,6 +8,7 @@ use tables::State;
 ghost use mathlib.Core.Path.{_≡_};
 ghost use lib.Dec.{eqb};
 ghost use Rattle.definition.specs.Tables.{kinds};
+ghost use Rattle.definition.specs.Calls.{want, serve};
 ghost use Rattle.definition.specs.Plan.{lent, allocateInto};
 ghost use Rattle.tables.specs.Views.{stateView};
 ghost use Rattle.request.specs.Asked.{requestOf, saidOf};
@@ -16,6 +17,9 @@ ghost use Rattle.plan.specs.Turns.{judgedOf, turnsIn, turnsAfter, Opens,
 
 pub mod list;
 pub mod numbers;
+
+// The numbers of a record.
+const RECORD: usize = 9;
 
 // ---- what is judged before the first request
 
@@ -104,4 +108,15 @@ pub fn allocate_into(s: &mut State, r: Request, out: &mut [u64])
 {
     let _turns = open(s, 1, out.len());
     turn(s, r, 0, out);
+}
+
+// One request without its record: 1 where the tables are not sound, else as `inplace::resolve`.
+pub fn allocate(s: &mut State, r: Request)
+    ensures { λ _. ⌜ stateView (now (s .exit)) ≡ serve kinds (want (requestOf r)) (stateView (now (s .entry))) ⌝ }
+{
+    let turns = open(s, 1, RECORD);
+    if turns == 0 {
+        return;
+    }
+    let _bases = inplace::resolve(s, r);
 }

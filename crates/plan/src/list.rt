@@ -11,7 +11,8 @@ ghost use lib.ListN.{length, getD};
 ghost use Rattle.definition.specs.Plan.{lent, plan};
 ghost use Rattle.tables.specs.Views.{stateView};
 ghost use Rattle.request.specs.Asked.{requestOf};
-ghost use Rattle.listed.specs.Nobody.{nobody};
+ghost use Rattle.front.specs.Front.{filled};
+ghost use Rattle.plan.specs.Nobody.{nobody};
 
 // How many requests a list of so many structs holds.
 pub fn count(long: usize) -> usize
@@ -42,4 +43,17 @@ pub fn plan_in(state: &mut State, requests: &[Request], results: &mut [u64])
         i += 1;
     }
     settle(state, m);
+}
+
+// The same plan, and its filled part is handed back: the caller's own first numbers, nine for each request accepted.
+pub fn plan<'a>(state: &mut State, requests: &[Request], results: &'a mut [u64]) -> &'a mut [u64]
+    ensures { λ r. ⌜ (stateView (now (state .exit)) ≡ plan (map requestOf (now (requests .entry))) (stateView (now (state .entry))) (now (results .entry)) .state)
+        × (now r ≡ filled (map requestOf (now (requests .entry))) (stateView (now (state .entry))) (now (results .entry))) × (r .ptr ≡ results .entry .ptr) ⌝ }
+{
+    plan_in(state, requests, results);
+    let m = lent::peek(state);
+    let number = m.number;
+    let index = m.index;
+    let n = count(requests.len());
+    front::front(results, number, index, n)
 }

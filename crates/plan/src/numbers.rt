@@ -6,12 +6,14 @@ use tables::State;
 ghost use mathlib.Core.Path.{_≡_};
 ghost use Rattle.definition.specs.Plan.{lent};
 ghost use Rattle.tables.specs.Views.{stateView};
-ghost use Rattle.flat.specs.Flat.{flatPlan};
-ghost use Rattle.plan.specs.Turns.{wholeCount};
+ghost use Rattle.flat.specs.Flat.{flatPlan, flatAllocate};
+ghost use Rattle.plan.specs.Filled.{flatFilled};
+ghost use Rattle.plan.specs.Turns.{wholeCount, oneCount};
 
 const REQUEST: usize = 12;
 
-const PLAN: usize = 128;
+// One more than any plan has.
+const MANY: usize = 129;
 
 // How many requests a list of so many numbers holds: where it ends within one, more than any plan has.
 pub fn count(long: usize) -> usize
@@ -21,7 +23,17 @@ pub fn count(long: usize) -> usize
     if REQUEST * n == long {
         return n;
     }
-    PLAN + 1
+    MANY
+}
+
+// How many requests a list of so many numbers starts with, where one is asked for: one, or more than any plan has.
+pub fn one(long: usize) -> usize
+    ensures { λ r. ⌜ r ≡ oneCount long ⌝ }
+{
+    if REQUEST <= long {
+        return 1;
+    }
+    MANY
 }
 
 // The plan on the state lent. The answer stands in the state afterwards; results past the accepted requests' records are as they were.
@@ -40,8 +52,37 @@ pub fn plan_in(state: &mut State, requests: &[u64], results: &mut [u64])
     settle(state, m);
 }
 
-// The same plan on a state by value: the state is lent from here.
-pub fn plan(s: State, requests: &[u64], results: &mut [u64]) -> State
+// The same plan, and its filled part is handed back: the caller's own first numbers, nine for each request accepted.
+pub fn plan<'a>(state: &mut State, requests: &[u64], results: &'a mut [u64]) -> &'a mut [u64]
+    ensures { λ r. ⌜ (stateView (now (state .exit)) ≡ flatPlan (now (requests .entry)) (stateView (now (state .entry))) (now (results .entry)) .state)
+        × (now r ≡ flatFilled (now (requests .entry)) (stateView (now (state .entry))) (now (results .entry))) × (r .ptr ≡ results .entry .ptr) ⌝ }
+{
+    plan_in(state, requests, results);
+    let m = lent::peek(state);
+    let number = m.number;
+    let index = m.index;
+    let n = count(requests.len());
+    front::front(results, number, index, n)
+}
+
+// One request, the first of the list, with its record: a plan of one.
+pub fn allocate_in(state: &mut State, request: &[u64], out: &mut [u64])
+    ensures { λ _. ⌜ lent (stateView (now (state .exit))) (now (out .exit)) ≡ flatAllocate (now (request .entry)) (stateView (now (state .entry))) (now (out .entry)) ⌝ }
+{
+    let n = one(request.len());
+    let m = lent::peek(state);
+    let turns = open(state, n, out.len());
+    let mut i: usize = 0;
+    while i < turns {
+        let r = flat::request_at(request, i);
+        turn(state, r, i, out);
+        i += 1;
+    }
+    settle(state, m);
+}
+
+// The plan on a state by value: the state is lent from here.
+pub fn plan_by_value(s: State, requests: &[u64], results: &mut [u64]) -> State
     ensures { λ t. ⌜ lent (stateView t) (now (results .exit)) ≡ flatPlan (now (requests .entry)) (stateView s) (now (results .entry)) ⌝ }
 {
     let mut t = s;

@@ -2,15 +2,15 @@
 use mathlib.Core.Path.{_≡_, refl, sym, _∙_, ap}
 use mathlib.Core.Bool.{Bool, true, false, _&&_}
 use mathlib.Core.List.{List, [], _∷_}
-use mathlib.Core.Option.{some, none}
+use mathlib.Core.Option.{Option, some, none}
 use Prim.Native.Nat.{ℕ, suc, _<_, _≤_}
 use native.Mathlib.Omega.{arith}
 use lib.Dec.{T, leb, ltb, eqb, ltb→lt}
 use lib.ListN.{length}
 use borrow.Author.Tests.{lt-ltb, le-ltb, le-leb, lt-leb, eq-eqb}
-use Rattle.definition.specs.Base.{allOf, firstOf, Refusal, badInput, badOwner, emptyRange, full, reserved, Answer, accepted, refused, require}
+use Rattle.definition.specs.Base.{allOf, firstOf, badOwner, emptyRange, full, reserved, Answer, accepted, refused, require}
 use Rattle.definition.specs.Tables.{rowLimit, top, lastTrigger, shared, dom, Kind, input, Row, wiredRow, sameDom, within, overlap, meets, Table, used, fits}
-use Rattle.definition.specs.Pools.{at-kind, Holders, Claim, rowsOf, room, unreserved, allUnreserved, reserve}
+use Rattle.definition.specs.Pools.{at-kind, Claim, rowsOf, room, unreserved, allUnreserved, reserve}
 use Rattle.definition.specs.Calls.{pushAll}
 use Rattle.definition.specs.BaseLaws.{and-l, and-r, and-true, and-false, T-true, T-false, true-T}
 use Rattle.definition.specs.RowLaws.{kind-same}
@@ -22,130 +22,127 @@ use Rattle.tables.specs.Below.{first}
 use Rattle.tables.specs.declared.Hit.the-variants.{At, Clear}
 use Rattle.tables.proofs.ListedLaws.{listed-length}
 use Rattle.tables.proofs.TableLaws.{table}
-use Rattle.range.specs.Answers.{telling, heard, pushedOr, reserveOne, Told, Held}
+use Rattle.range.specs.Answers.{telling, heard, pushedAny, pushedOr, reserveOne, reserveAny, HeldAny, Told, Held}
 use Rattle.range.specs.declared.Reply.{Reply}
 use Rattle.range.proofs.FirstLaws.{used-hit, used-clear}
 
--- ---- the turns of any reservation
+-- ---- one row, whatever its kind
 
-module _ (R : Holders) (cs : List Claim) where
-  abbrev pub Fitting : Bool
-  Fitting = allOf (λ c. fits (c .kind) (c .row)) cs
+module _ (r : Row) (rows : List Row) where
+  any-owner : r .owner ≡ 0 → reserveAny r rows ≡ refused badOwner
+  unfolding reserveAny require
+  any-owner e = rw e
 
-  abbrev pub Owned : Bool
-  Owned = allOf (λ c. ltb 0 (c .row .owner)) cs
+  module _ (own : 0 < r .owner) where
+    any-empty : r .end ≤ r .start → reserveAny r rows ≡ refused emptyRange
+    unfolding reserveAny require
+    any-empty l = rw (lt-ltb 0 (r .owner) own, le-ltb (r .start) (r .end) l)
 
-  abbrev pub Ranging : Bool
-  Ranging = allOf (λ c. ltb (c .row .start) (c .row .end)) cs
+    module _ (long : r .start < r .end) where
+      any-met : (x : Row) → firstOf (meets r) rows ≡ some x → reserveAny r rows ≡ refused (reserved (x .owner))
+      unfolding reserveAny require unreserved
+      any-met x e = rw (lt-ltb 0 (r .owner) own, lt-ltb (r .start) (r .end) long, e)
 
-  pub turn-input : Fitting ≡ false → reserve R cs ≡ refused badInput
-  unfolding reserve require
-  turn-input f = rw f
+      module _ (free : firstOf (meets r) rows ≡ none) where
+        any-full : rowLimit ≤ length rows → reserveAny r rows ≡ refused full
+        unfolding reserveAny require unreserved
+        any-full l = rw (lt-ltb 0 (r .owner) own, lt-ltb (r .start) (r .end) long, free, le-ltb (length rows) rowLimit l)
 
-  pub turn-owner : Fitting ≡ true → Owned ≡ false → reserve R cs ≡ refused badOwner
-  unfolding reserve require
-  turn-owner f o = rw (f, o)
+        any-taken : length rows < rowLimit → reserveAny r rows ≡ accepted tt
+        unfolding reserveAny require unreserved
+        any-taken l = rw (lt-ltb 0 (r .owner) own, lt-ltb (r .start) (r .end) long, free, lt-ltb (length rows) rowLimit l)
 
-  pub turn-empty : Fitting ≡ true → Owned ≡ true → Ranging ≡ false → reserve R cs ≡ refused emptyRange
-  unfolding reserve require
-  turn-empty f o g = rw (f, o, g)
+-- .. beside the used rows of a table: what is told
 
-  module _ (f : Fitting ≡ true) (o : Owned ≡ true) (g : Ranging ≡ true) where
-    pub turn-met : (x : Refusal) → allUnreserved R cs (require (room R cs) full (accepted cs)) ≡ refused x → reserve R cs ≡ refused x
-    unfolding reserve require
-    turn-met x m = rw (f, o, g) m
-
-    module _ (m : allUnreserved R cs (require (room R cs) full (accepted cs)) ≡ require (room R cs) full (accepted cs)) where
-      pub turn-full : room R cs ≡ false → reserve R cs ≡ refused full
-      unfolding reserve require
-      turn-full h = rw (f, o, g) (m ∙ rw h)
-
-      pub turn-taken : room R cs ≡ true → reserve R cs ≡ accepted cs
-      unfolding reserve require
-      turn-taken h = rw (f, o, g) (m ∙ rw h)
-
--- ---- one row
-
-module _ (k : Kind) (r : Row) (rows : List Row) where
-  fit-one : T (fits k r) → Fitting (λ j. rows) (at-kind k r ∷ []) ≡ true
-  unfolding allOf
-  fit-one t = rw (T-true (fits k r) t)
-
-  pub one-input : fits k r ≡ false → reserveOne k r rows ≡ refused badInput
-  unfolding allOf
-  one-input e = turn-input (λ j. rows) (at-kind k r ∷ []) (rw e)
-
-  module _ (ok : T (fits k r)) where
-    pub one-owner : r .owner ≡ 0 → reserveOne k r rows ≡ refused badOwner
-    unfolding allOf
-    one-owner e = turn-owner (λ j. rows) (at-kind k r ∷ []) (fit-one ok) (rw e)
-
-    module _ (own : 0 < r .owner) where
-      own-one : Owned (λ j. rows) (at-kind k r ∷ []) ≡ true
-      unfolding allOf
-      own-one = rw (lt-ltb 0 (r .owner) own)
-
-      pub one-empty : r .end ≤ r .start → reserveOne k r rows ≡ refused emptyRange
-      unfolding allOf
-      one-empty l = turn-empty (λ j. rows) (at-kind k r ∷ []) (fit-one ok) own-one (rw (le-ltb (r .start) (r .end) l))
-
-      module _ (long : r .start < r .end) where
-        range-one : Ranging (λ j. rows) (at-kind k r ∷ []) ≡ true
-        unfolding allOf
-        range-one = rw (lt-ltb (r .start) (r .end) long)
-
-        pub one-met : (x : Row) → firstOf (meets r) rows ≡ some x → reserveOne k r rows ≡ refused (reserved (x .owner))
-        unfolding allUnreserved unreserved
-        one-met x e = turn-met (λ j. rows) (at-kind k r ∷ []) (fit-one ok) own-one range-one (reserved (x .owner)) (rw e)
-
-        module _ (free : firstOf (meets r) rows ≡ none) where
-          unmet-one : {A : Type 0} (a : Answer A) → allUnreserved (λ j. rows) (at-kind k r ∷ []) a ≡ a
-          unfolding allUnreserved unreserved
-          unmet-one a = rw free
-
-          pub one-full : rowLimit ≤ length rows → reserveOne k r rows ≡ refused full
-          unfolding room allOf
-          one-full l = turn-full (λ j. rows) (at-kind k r ∷ []) (fit-one ok) own-one range-one (unmet-one _) (rw (le-ltb (length rows) rowLimit l))
-
-          pub one-taken : length rows < rowLimit → reserveOne k r rows ≡ accepted (at-kind k r ∷ [])
-          unfolding room allOf
-          one-taken l = turn-taken (λ j. rows) (at-kind k r ∷ []) (fit-one ok) own-one range-one (unmet-one _) (rw (lt-ltb (length rows) rowLimit l))
-
--- ---- .. beside the used rows of a table: what is told
-
-module _ (k : Kind) (r : Row) (f : ℕ → Row) (n : ℕ) (few : n ≤ rowLimit) where
-  told : (a : Reply) (x : Answer (List Claim)) → reserveOne k r (used (table rowLimit f n)) ≡ x → heard a ≡ telling x → Told k r (table rowLimit f n) a
-  told a x e h = record { said = h ∙ ap telling (sym e) }
+module _ (r : Row) (f : ℕ → Row) (n : ℕ) (few : n ≤ rowLimit) where
+  abbrev Tells : Reply → Type 0
+  Tells a = heard a ≡ telling (reserveAny r (used (table rowLimit f n)))
 
   count : length (used (table rowLimit f n)) ≡ n
   count = used-length (table rowLimit f n) (omega (arith, listed-length f rowLimit))
 
-  pub tell-input : fits k r ≡ false → Told k r (table rowLimit f n) (record { number = 2; owner = 0 })
-  tell-input e = told _ _ (one-input k r (used (table rowLimit f n)) e) refl
+  pub tell-owner : r .owner ≡ 0 → Tells (record { number = 3; owner = 0 })
+  tell-owner e = ap telling (sym (any-owner r (used (table rowLimit f n)) e))
 
-  module _ (ok : T (fits k r)) where
-    pub tell-owner : r .owner ≡ 0 → Told k r (table rowLimit f n) (record { number = 3; owner = 0 })
-    tell-owner e = told _ _ (one-owner k r (used (table rowLimit f n)) ok e) refl
+  module _ (own : r .owner ≡ 0 → ⊥) where
+    owner-above : 0 < r .owner
+    owner-above = omega arith
 
-    module _ (own : r .owner ≡ 0 → ⊥) where
-      owner-above : 0 < r .owner
-      owner-above = omega arith
+    pub tell-empty : r .end ≤ r .start → Tells (record { number = 4; owner = 0 })
+    tell-empty l = ap telling (sym (any-empty r (used (table rowLimit f n)) owner-above l))
 
-      pub tell-empty : r .end ≤ r .start → Told k r (table rowLimit f n) (record { number = 4; owner = 0 })
-      tell-empty l = told _ _ (one-empty k r (used (table rowLimit f n)) ok owner-above l) refl
+    module _ (long : r .start < r .end) where
+      pub tell-met : (i : ℕ) → At i ≡ first (λ j. meets r (f j)) n → Tells (record { number = 5; owner = f i .owner })
+      tell-met i e = ap telling (sym (any-met r (used (table rowLimit f n)) owner-above long (f i) (used-hit (meets r) rowLimit f n few i e)))
 
-      module _ (long : r .start < r .end) where
-        pub tell-met : (i : ℕ) → At i ≡ first (λ j. meets r (f j)) n → Told k r (table rowLimit f n) (record { number = 5; owner = f i .owner })
-        tell-met i e = told _ _ (one-met k r (used (table rowLimit f n)) ok owner-above long (f i) (used-hit (meets r) rowLimit f n few i e)) refl
+      module _ (free : Clear ≡ first (λ j. meets r (f j)) n) where
+        pub tell-full : rowLimit ≤ n → Tells (record { number = 9; owner = 0 })
+        tell-full l = ap telling (sym (any-full r (used (table rowLimit f n)) owner-above long (used-clear (meets r) rowLimit f n few free) (omega (arith, count))))
 
-        module _ (free : Clear ≡ first (λ j. meets r (f j)) n) where
-          pub tell-full : rowLimit ≤ n → Told k r (table rowLimit f n) (record { number = 9; owner = 0 })
-          tell-full l = told _ _ (one-full k r (used (table rowLimit f n)) ok owner-above long (used-clear (meets r) rowLimit f n few free) (omega (arith, count))) refl
+        pub tell-taken : n < rowLimit → Tells (record { number = 0; owner = 0 })
+        tell-taken l = ap telling (sym (any-taken r (used (table rowLimit f n)) owner-above long (used-clear (meets r) rowLimit f n few free) (omega (arith, count))))
 
-          pub tell-taken : n < rowLimit → Told k r (table rowLimit f n) (record { number = 0; owner = 0 })
-          tell-taken l = told _ _ (one-taken k r (used (table rowLimit f n)) ok owner-above long (used-clear (meets r) rowLimit f n few free) (omega (arith, count))) refl
+-- .. and the table afterwards
+
+module _ (r : Row) (t : Table Row) (a : Reply) (h : heard a ≡ telling (reserveAny r (used t))) where
+  pub any-refused : (a .number ≡ 0 → ⊥) → HeldAny r t t a
+  any-refused n = record { rows = go (reserveAny r (used t)) h; said = h }
+    where
+      go : (x : Answer (Unit {0})) → heard a ≡ telling x → t ≡ pushedAny r t x
+      go (accepted u) e = absurd (n (ap (λ s. s .number) e))
+      go (refused x) e = refl
+
+  pub any-accepted : (u : Table Row) → a .number ≡ 0 → u ≡ pushAll t (r ∷ []) → HeldAny r t u a
+  any-accepted u n e = record { rows = e ∙ go (reserveAny r (used t)) h; said = h }
+    where
+      go : (x : Answer (Unit {0})) → heard a ≡ telling x → pushAll t (r ∷ []) ≡ pushedAny r t x
+      go (accepted v) s = refl
+      go (refused x) s = absurd (tell-number 0 x (sym (ap (λ w. w .number) s) ∙ n))
+
+-- ---- a row that fits its kind is answered so
+
+rows-one : (k : Kind) (r : Row) → rowsOf k (at-kind k r ∷ []) ≡ r ∷ []
+unfolding rowsOf
+rows-one k r = rows-same k (at-kind k r) [] (kind-same k)
+
+abbrev claimed : Kind → Row → Answer (Unit {0}) → Answer (List Claim)
+claimed k r (accepted a) = accepted (at-kind k r ∷ [])
+claimed k r (refused x) = refused x
+
+module _ (k : Kind) (r : Row) where
+  turns : (o g : Bool) (m : Option Row) (l : Bool) → require (o && true) badOwner (require (g && true) emptyRange (unreserved m (require (l && true) full (accepted (at-kind k r ∷ [])))))
+      ≡ claimed k r (require o badOwner (require g emptyRange (unreserved m (require l full (accepted tt)))))
+  unfolding require unreserved
+  turns false g m l = refl
+  turns true false m l = refl
+  turns true true (some x) l = refl
+  turns true true none false = refl
+  turns true true none true = refl
+
+  module _ (t : Table Row) (ok : T (fits k r)) where
+    one-any : reserveOne k r (used t) ≡ claimed k r (reserveAny r (used t))
+    unfolding reserve reserveAny allOf allUnreserved room require
+    one-any = rw (T-true (fits k r) ok) (turns (ltb 0 (r .owner)) (ltb (r .start) (r .end)) (firstOf (meets r) (used t)) (ltb (length (used t)) rowLimit))
+
+    pub told-as : (a : Reply) → heard a ≡ telling (reserveAny r (used t)) → Told k r t a
+    told-as a h = record { said = h ∙ go (reserveAny r (used t)) ∙ ap telling (sym one-any) }
+      where
+        go : (x : Answer (Unit {0})) → telling x ≡ telling (claimed k r x)
+        go (accepted u) = refl
+        go (refused x) = refl
+
+    pub held-as : (u : Table Row) (a : Reply) → HeldAny r t u a → Held k r t u a
+    held-as u a h = record { rows = h .rows ∙ go (reserveAny r (used t)) ∙ ap (pushedOr k t) (sym one-any); said = told-as a (h .said) .said }
+      where
+        go : (x : Answer (Unit {0})) → pushedAny r t x ≡ pushedOr k t (claimed k r x)
+        go (accepted v) = ap (pushAll t) (sym (rows-one k r))
+        go (refused x) = refl
 
 -- ---- inputs
+
+pub tell-input : (r : Row) (t : Table Row) → fits input r ≡ false → Told input r t (record { number = 2; owner = 0 })
+unfolding reserve require allOf
+tell-input r t e = record { said = rw e }
 
 -- a wired row whose numbers keep to their types fits where its codes are known
 wire-fits : (c x t s o : ℕ) → c ≤ top 32 → x ≤ top 64 → o ≤ top 32 → fits input (wiredRow c x t s o) ≡ leb t lastTrigger && leb s shared
@@ -181,10 +178,6 @@ module _ (c x t s o c′ x′ t′ s′ o′ : ℕ) where
       rw (lt-ltb x (suc x′) (omega arith), lt-ltb x′ (suc x) (omega arith)) (and-true (eqb c c′ && true) ∙ and-true (eqb c c′))
 
 -- ---- the table afterwards
-
-rows-one : (k : Kind) (r : Row) → rowsOf k (at-kind k r ∷ []) ≡ r ∷ []
-unfolding rowsOf
-rows-one k r = rows-same k (at-kind k r) [] (kind-same k)
 
 module _ (k : Kind) (r : Row) (t : Table Row) (a : Reply) (h : Told k r t a) where
   pub held-refused : (a .number ≡ 0 → ⊥) → Held k r t t a

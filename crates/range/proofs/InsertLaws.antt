@@ -8,7 +8,7 @@ use native.Mathlib.Omega.{arith}
 use lib.Dec.{T}
 use lib.ListN.{length}
 use borrow.Author.Tests.{lt-ltb, le-ltb}
-use Rattle.definition.specs.Tables.{poolLimit, Kind, Span, sameSpan, used, blankSpan, tidy, fitsSpan}
+use Rattle.definition.specs.Tables.{poolLimit, Kind, Span, sameSpan, Table, used, blankSpan, tidy, fitsSpan}
 use Rattle.definition.specs.Base.{says, Answer, accepted, refused, emptyRange, full, require}
 use Rattle.definition.specs.Pools.{insert, unlessThere, addRange}
 use Rattle.definition.specs.Calls.{stored}
@@ -23,7 +23,7 @@ use Rattle.tables.specs.declared.PoolRow.{PoolRow}
 use Rattle.tables.proofs.ListedLaws.{listed-length, listed-ext, drop-out, drop-in}
 use Rattle.tables.proofs.TableLaws.{table, used-is}
 use Rattle.range.specs.Places.{before, placeOf, Opened}
-use Rattle.range.specs.Answers.{Entered, telling, storedOr}
+use Rattle.range.specs.Answers.{addAny, Entered, telling, storedOr}
 use Rattle.range.specs.declared.Inserted.{Inserted}
 use Rattle.tables.proofs.IndexLaws.{FirstIs, first-is}
 use Rattle.range.proofs.FirstLaws.{used-any, used-none}
@@ -114,9 +114,13 @@ module _ (t u : Pool) (at : ℕ) (r : PoolRow) (room : t .n < poolLimit) (o : Op
 
 -- ---- the ways out of `insert_range`
 
-entered : (k : Kind) (p : Span) (t : Pool) (x : Inserted) (a : Answer (List Span)) → addRange k p (used (poolView t)) ≡ a
-    → poolView (x .pool) ≡ storedOr (poolView t) a → says 0 (x .number) 0 0 0 ≡ telling a → Entered k p (poolView t) x
-entered k p t x a e rows said = record { rows = rows ∙ ap (storedOr (poolView t)) (sym e); said = said ∙ ap telling (sym e) }
+entered : (t : Pool) (x : Inserted) (b a : Answer (List Span)) → b ≡ a → poolView (x .pool) ≡ storedOr (poolView t) a → says 0 (x .number) 0 0 0 ≡ telling a → Entered b (poolView t) x
+entered t x b a e rows said = record { rows = rows ∙ ap (storedOr (poolView t)) (sym e); said = said ∙ ap telling (sym e) }
+
+-- a range that fits its kind is answered so
+pub add-as : (k : Kind) (p : Span) (t : Table Span) (x : Inserted) → T (fitsSpan k p) → Entered (addAny p (used t)) t x → Entered (addRange k p (used t)) t x
+unfolding addRange addAny require
+add-as k p t x ok h = rw (T-true (fitsSpan k p) ok) h
 
 module _ (t : Pool) (r : PoolRow) (good : T (tidy poolLimit (sameSpan blankSpan) (poolView t))) where
   pub tidy-within : t .n ≤ poolLimit
@@ -125,30 +129,32 @@ module _ (t : Pool) (r : PoolRow) (good : T (tidy poolLimit (sameSpan blankSpan)
   used-count : length (used (poolView t)) ≡ t .n
   used-count = used-length (poolView t) (omega (arith, tidy-within, listed-length (λ k. spanOf (poolAt t k)) poolLimit))
 
-  module _ (k : Kind) (ok : T (fitsSpan k (spanOf r))) where
-    pub enter-empty : r .end ≤ r .start → Entered k (spanOf r) (poolView t) (record { pool = t; number = 4 })
-    unfolding addRange require
-    enter-empty l = entered k (spanOf r) t _ (refused emptyRange) (rw (T-true (fitsSpan k (spanOf r)) ok, le-ltb (r .start) (r .end) l)) refl refl
+  abbrev Enters : Inserted → Type 0
+  Enters x = Entered (addAny (spanOf r) (used (poolView t))) (poolView t) x
 
-    module _ (l : r .start < r .end) where
-      pub enter-there : (i : ℕ) → At i ≡ first (λ j. sameSpan (spanOf r) (spanOf (poolAt t j))) (t .n) → Entered k (spanOf r) (poolView t) (record { pool = t; number = 0 })
-      unfolding addRange require unlessThere
-      enter-there i e =
-          entered k (spanOf r) t _ (accepted (used (poolView t)))
-          (rw (T-true (fitsSpan k (spanOf r)) ok, lt-ltb (r .start) (r .end) l, used-any (sameSpan (spanOf r)) poolLimit (λ j. spanOf (poolAt t j)) (t .n) tidy-within i e))
-          (sym (stored-same (poolView t) (tidy-says poolLimit (sameSpan blankSpan) (poolView t) good))) refl
+  pub enter-empty : r .end ≤ r .start → Enters (record { pool = t; number = 4 })
+  unfolding addAny require
+  enter-empty l = entered t _ _ (refused emptyRange) (rw (le-ltb (r .start) (r .end) l)) refl refl
 
-      module _ (e : Clear ≡ first (λ j. sameSpan (spanOf r) (spanOf (poolAt t j))) (t .n)) where
-        pub enter-full : poolLimit ≤ t .n → Entered k (spanOf r) (poolView t) (record { pool = t; number = 9 })
-        unfolding addRange require unlessThere
-        enter-full f =
-            entered k (spanOf r) t _ (refused full)
-            (rw (T-true (fitsSpan k (spanOf r)) ok, lt-ltb (r .start) (r .end) l, used-none (sameSpan (spanOf r)) poolLimit (λ j. spanOf (poolAt t j)) (t .n) tidy-within e, used-count, le-ltb (t .n) poolLimit f)) refl refl
+  module _ (l : r .start < r .end) where
+    pub enter-there : (i : ℕ) → At i ≡ first (λ j. sameSpan (spanOf r) (spanOf (poolAt t j))) (t .n) → Enters (record { pool = t; number = 0 })
+    unfolding addAny require unlessThere
+    enter-there i e =
+        entered t _ _ (accepted (used (poolView t)))
+        (rw (lt-ltb (r .start) (r .end) l, used-any (sameSpan (spanOf r)) poolLimit (λ j. spanOf (poolAt t j)) (t .n) tidy-within i e))
+        (sym (stored-same (poolView t) (tidy-says poolLimit (sameSpan blankSpan) (poolView t) good))) refl
 
-        pub enter-new : (u : Pool) (at : ℕ) → t .n < poolLimit → at ≡ placeOf (first (λ j. before (spanOf r) (spanOf (poolAt t j))) (t .n)) (t .n) → Opened t u at r
-            → Entered k (spanOf r) (poolView t) (record { pool = u; number = 0 })
-        unfolding addRange require unlessThere
-        enter-new u at f q o =
-            entered k (spanOf r) t _ (accepted (insert (spanOf r) (used (poolView t))))
-            (rw (T-true (fitsSpan k (spanOf r)) ok, lt-ltb (r .start) (r .end) l, used-none (sameSpan (spanOf r)) poolLimit (λ j. spanOf (poolAt t j)) (t .n) tidy-within e, used-count, lt-ltb (t .n) poolLimit f))
-            (opened-stored t u at r f o good q) refl
+    module _ (e : Clear ≡ first (λ j. sameSpan (spanOf r) (spanOf (poolAt t j))) (t .n)) where
+      pub enter-full : poolLimit ≤ t .n → Enters (record { pool = t; number = 9 })
+      unfolding addAny require unlessThere
+      enter-full f =
+          entered t _ _ (refused full)
+          (rw (lt-ltb (r .start) (r .end) l, used-none (sameSpan (spanOf r)) poolLimit (λ j. spanOf (poolAt t j)) (t .n) tidy-within e, used-count, le-ltb (t .n) poolLimit f)) refl refl
+
+      pub enter-new : (u : Pool) (at : ℕ) → t .n < poolLimit → at ≡ placeOf (first (λ j. before (spanOf r) (spanOf (poolAt t j))) (t .n)) (t .n) → Opened t u at r
+          → Enters (record { pool = u; number = 0 })
+      unfolding addAny require unlessThere
+      enter-new u at f q o =
+          entered t _ _ (accepted (insert (spanOf r) (used (poolView t))))
+          (rw (lt-ltb (r .start) (r .end) l, used-none (sameSpan (spanOf r)) poolLimit (λ j. spanOf (poolAt t j)) (t .n) tidy-within e, used-count, lt-ltb (t .n) poolLimit f))
+          (opened-stored t u at r f o good q) refl

@@ -3,9 +3,10 @@ use mathlib.Core.Path.{_≡_}
 use mathlib.Core.Bool.{Bool, true, false}
 use mathlib.Core.List.{List, [], _∷_}
 use lib.Dec.{eqb, ltb}
-use Rattle.definition.specs.Tables.{Kind, Span, Row, Table, used}
-use Rattle.definition.specs.Base.{Said, says, silence, tell, Answer, accepted, refused}
-use Rattle.definition.specs.Pools.{at-kind, addRange, Claim, rowsOf, reserve}
+use lib.ListN.{length}
+use Rattle.definition.specs.Tables.{rowLimit, Kind, Span, Row, sameSpan, meets, Table, used}
+use Rattle.definition.specs.Base.{anyOf, firstOf, Said, says, silence, tell, badOwner, emptyRange, full, Answer, accepted, refused, require}
+use Rattle.definition.specs.Pools.{at-kind, unlessThere, Claim, rowsOf, unreserved, reserve}
 use Rattle.definition.specs.Calls.{pushAll, stored}
 use Rattle.tables.specs.Views.{poolView}
 use Rattle.range.specs.declared.Reply.{Reply}
@@ -25,20 +26,44 @@ abbrev pub storedOr : Table Span → Answer (List Span) → Table Span
 storedOr t (accepted ps) = stored ps
 storedOr t (refused r) = t
 
--- a reservation table after an answer: its rows pushed, or none
+-- a reservation table after an answer: the row pushed, or none
+abbrev pub pushedAny : Row → Table Row → Answer (Unit {0}) → Table Row
+pushedAny r t (accepted a) = pushAll t (r ∷ [])
+pushedAny r t (refused x) = t
+
+-- .. the rows of claims pushed
 abbrev pub pushedOr : Kind → Table Row → Answer (List Claim) → Table Row
 pushedOr k t (accepted cs) = pushAll t (rowsOf k cs)
 pushedOr k t (refused r) = t
 
--- range p was added to the pool table t of kind k
-pub record Entered (k : Kind) (p : Span) (t : Table Span) (x : Inserted) : Type 0 where
-  pub rows : poolView (x .pool) ≡ storedOr t (addRange k p (used t))
-  pub said : says 0 (x .number) 0 0 0 ≡ telling (addRange k p (used t))
+-- the pool table t after an answer, and its number
+pub record Entered (a : Answer (List Span)) (t : Table Span) (x : Inserted) : Type 0 where
+  pub rows : poolView (x .pool) ≡ storedOr t a
+  pub said : says 0 (x .number) 0 0 0 ≡ telling a
+
+-- what adding a range answers whatever its kind: a kind limits its numbers and decides nothing else
+unfoldable pub addAny : Span → List Span → Answer (List Span)
+addAny p ps = require (ltb (p .start) (p .end)) emptyRange (unlessThere (anyOf (sameSpan p) ps) p ps)
 
 -- the answer to a reservation of one row, judged by the one table that it reads
 abbrev pub reserveOne : Kind → Row → List Row → Answer (List Claim)
 reserveOne k r rows = reserve (λ j. rows) (at-kind k r ∷ [])
 
+-- .. whatever the row's kind
+unfoldable pub reserveAny : Row → List Row → Answer (Unit {0})
+reserveAny r rows =
+    require (ltb 0 (r .owner)) badOwner
+    (require (ltb (r .start) (r .end)) emptyRange
+    (unreserved (firstOf (meets r) rows)
+    (require (ltb (length rows) rowLimit) full
+    (accepted tt))))
+
+-- .. and the table afterwards
+pub record HeldAny (r : Row) (t u : Table Row) (a : Reply) : Type 0 where
+  pub rows : u ≡ pushedAny r t (reserveAny r (used t))
+  pub said : heard a ≡ telling (reserveAny r (used t))
+
+-- .. and what is told of a row of kind k
 pub record Told (k : Kind) (r : Row) (t : Table Row) (a : Reply) : Type 0 where
   pub said : heard a ≡ telling (reserveOne k r (used t))
 

@@ -10,11 +10,11 @@ ghost use mathlib.Core.Path.{_≡_};
 ghost use mathlib.Core.Bool.{true, false};
 ghost use Prim.Native.Nat.{_+_, _≤_, _<_};
 ghost use lib.Dec.{T};
-ghost use Rattle.definition.specs.Tables.{poolLimit, rowLimit, top, Kind, sameSpan, blankSpan, tidy, fits, fitsSpan};
+ghost use Rattle.definition.specs.Tables.{poolLimit, rowLimit, top, sameSpan, blankSpan, used, tidy};
 ghost use Rattle.tables.specs.Below.{first};
 ghost use Rattle.tables.specs.Views.{pool, ranges, spanOf, rangeOf, poolAt, poolView, rangesView};
 ghost use Rattle.range.specs.Places.{stops, placeOf, Opened};
-ghost use Rattle.range.specs.Answers.{Entered, Told, Held};
+ghost use Rattle.range.specs.Answers.{telling, heard, addAny, Entered, reserveAny, HeldAny};
 
 pub mod wired;
 
@@ -133,7 +133,7 @@ fn open_row(t: Pool, at: usize, r: PoolRow) -> Pool
 // One pool range more. An exact duplicate adds no row, even to a full table; an empty range is 4, and a row more than there are is 9.
 pub fn insert_range(t: Pool, r: PoolRow) -> Inserted
     requires { ⌜ T (tidy poolLimit (sameSpan blankSpan) (poolView t)) ⌝ }
-    ensures { λ x. ⌜ ((k : Kind) → T (fitsSpan k (spanOf r)) → Entered k (spanOf r) (poolView t) x) ⌝ }
+    ensures { λ x. ⌜ Entered (addAny (spanOf r) (used (poolView t))) (poolView t) x ⌝ }
 {
     if r.end <= r.start {
         return Inserted { pool: t, number: 4 };
@@ -168,7 +168,7 @@ pub fn refuse_range<'a>(
     r: RangeRow,
 ) -> Reply
     requires { ⌜ n ≤ rowLimit ⌝ }
-    ensures told { λ a. ⌜ ((k : Kind) → T (fits k (rangeOf r)) → Told k (rangeOf r) (rangesView (ranges n (now (controller .entry)) (now (its .entry)) (now (device .entry)) (now (start .entry)) (now (end .entry)) (now (owner .entry)))) a) ⌝ }
+    ensures told { λ a. ⌜ heard a ≡ telling (reserveAny (rangeOf r) (used (rangesView (ranges n (now (controller .entry)) (now (its .entry)) (now (device .entry)) (now (start .entry)) (now (end .entry)) (now (owner .entry)))))) ⌝ }
     ensures room { λ a. ⌜ (a .number ≡ 0 → n < rowLimit) ⌝ }
 {
     if r.owner == 0 {
@@ -206,7 +206,7 @@ pub fn refuse_range<'a>(
 // One reservation more, at the end of the table. A refused one changes no row.
 pub fn reserve_range(t: Ranges, r: RangeRow) -> Reserved
     requires { ⌜ t .n ≤ rowLimit ⌝ }
-    ensures { λ x. ⌜ ((k : Kind) → T (fits k (rangeOf r)) → Held k (rangeOf r) (rangesView t) (rangesView (x .table)) (x .reply)) ⌝ }
+    ensures { λ x. ⌜ HeldAny (rangeOf r) (rangesView t) (rangesView (x .table)) (x .reply) ⌝ }
 {
     let n = t.n;
     let reply = refuse_range(

@@ -4,9 +4,8 @@ use mathlib.Core.Bool.{true}
 use mathlib.Core.List.{List, [], _∷_}
 use mathlib.Core.Option.{some}
 use Prim.Native.Nat.{ℕ, _+_, _<_, _≤_}
-use lib.Dec.{T}
 use lib.ListN.{length, drop}
-use Rattle.definition.specs.Tables.{rowLimit, Kind, input, kinds, Row, fits}
+use Rattle.definition.specs.Tables.{rowLimit, Kind, input, kinds, Row, used}
 use Rattle.definition.specs.Pools.{Pool, spans, Claim, at-kind}
 use Rattle.definition.specs.Request.{automatic, fixed}
 use Rattle.definition.specs.Calls.{given, pool, hold}
@@ -25,9 +24,9 @@ use Rattle.tables.specs.declared.RangeRow.{RangeRow}
 use Rattle.tables.specs.declared.WireRow.{WireRow}
 use Rattle.tables.proofs.FreshLaws.{fresh-sized}
 use Rattle.tables.proofs.PushLaws.{push-range-view, push-wire-view, push-range-sized, push-wire-sized}
-use Rattle.range.specs.Answers.{Told}
+use Rattle.range.specs.Answers.{telling, heard, reserveAny, Told}
 use Rattle.range.specs.declared.Reply.{Reply}
-use Rattle.range.proofs.HoldLaws.{held-accepted, held-refused}
+use Rattle.range.proofs.HoldLaws.{told-as, held-accepted, held-refused}
 use Rattle.adding.specs.Kinds.{rangeKind}
 use Rattle.adding.specs.Whole.{TidyPools, Filling, rangesOf, putRanges, putWires, heldAfter, Keeping}
 use Rattle.adding.specs.declared.reserve.RangeKind.{RangeKind}
@@ -112,21 +111,21 @@ module _ (text : List ℕ) (a f : Pools) (h : Holders) (w : Reply) (at n : ℕ) 
     }
 
     module _ (k : RangeKind) (r : RangeRow) (s : Fitting (readLine (lineAt text at e)) (rangeKind k) (rangeOf r)) (b : Reply)
-        (told : (j : Kind) → T (fits j (rangeOf r)) → Told j (rangeOf r) (rangesView (rangesOf h k)) b) where
+        (said : heard b ≡ telling (reserveAny (rangeOf r) (used (rangesView (rangesOf h k))))) where
       pub keep-range : b .number ≡ 0 → rangesOf h k .n < rowLimit → Going text a f (putRanges h k (pushedRange (rangesOf h k) (rangeOf r))) b (e + 1) (n + 1)
       keep-range z l =
           let t : Ranges = rangesOf h k in
           let u : Ranges = pushedRange t (rangeOf r) in
           let y : SizedRanges t = sized-at h (g .sized) k in
           take-row (rangeKind k) (rangeOf r) (s .reserves) (putRanges h k u) (sized-put h (g .sized) k u (push-range-sized t (rangeOf r) y)) b
-          (range-held h b k (rangeOf r) u (held-accepted (rangeKind k) (rangeOf r) (rangesView t) b (told (rangeKind k) (s .fit)) (rangesView u) z
+          (range-held h b k (rangeOf r) u (held-accepted (rangeKind k) (rangeOf r) (rangesView t) b (told-as (rangeKind k) (rangeOf r) (rangesView t) (s .fit) b said) (rangesView u) z
           (push-range-view t (rangeOf r .dom) (r .start) (r .end) (r .owner) y l)))
 
       pub refuse-range : (b .number ≡ 0 → ⊥) → Going text a f (putRanges h k (rangesOf h k)) b (e + 1) (n + 1)
       refuse-range z =
           let t : Ranges = rangesOf h k in
           take-row (rangeKind k) (rangeOf r) (s .reserves) (putRanges h k t) (sized-put h (g .sized) k t (sized-at h (g .sized) k)) b
-          (range-held h b k (rangeOf r) t (held-refused (rangeKind k) (rangeOf r) (rangesView t) b (told (rangeKind k) (s .fit)) z))
+          (range-held h b k (rangeOf r) t (held-refused (rangeKind k) (rangeOf r) (rangesView t) b (told-as (rangeKind k) (rangeOf r) (rangesView t) (s .fit) b said) z))
 
     module _ (r : WireRow) (s : Reserves (readLine (lineAt text at e)) input (wireOf r)) (b : Reply) (told : Told input (wireOf r) (wiresView (h .input)) b) where
       pub keep-input : b .number ≡ 0 → h .input .n < rowLimit → Going text a f (putWires h (pushedWire (h .input) (wireOf r))) b (e + 1) (n + 1)

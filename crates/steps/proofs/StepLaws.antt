@@ -1,20 +1,17 @@
 -- What the steps' code does, in the words of Steps.antt. Assumes nothing.
-use mathlib.Core.Path.{_≡_, refl, ap, ap₂, sym, _∙_}
+use mathlib.Core.Path.{_≡_, refl, ap, ap₂, sym}
 use mathlib.Core.Bool.{Bool, true, false, _&&_}
-use mathlib.Core.List.{List, [], _++_, append-nil}
-use Prim.Native.Nat.{ℕ, _*_, _/_, _-_, _<_}
-use native.Mathlib.Omega.{arith}
+use mathlib.Core.List.{List}
+use Prim.Native.Nat.{ℕ, _*_, _/_, _<_}
 use lib.Dec.{leb, ltb, eqb, eqb→eq}
-use lib.ListN.{length, take, drop, length-drop, drop-of-length-le}
-use lib.Seq.{take-all}
+use lib.ListN.{length}
 use borrow.Author.Tests.{lt-ltb}
-use borrow.Rule.Slice.PartMut.{putMid}
 use Rattle.definition.specs.BaseLaws.{T-false}
 use Rattle.definition.specs.Tables.{planLimit, recordSize, kinds}
 use Rattle.definition.specs.Base.{malformed, short, silence, tell, Answer, accepted, refused, require}
 use Rattle.definition.specs.Request.{Request}
 use Rattle.definition.specs.Calls.{State, sound, saying}
-use Rattle.definition.specs.Plan.{Lent, lent, allocateInto}
+use Rattle.definition.specs.Plan.{lent}
 use Rattle.definition.specs.Pools.{Claim}
 use Rattle.steps.specs.Steps.{putFrom, clear, opened, indexed, numbered, answered, turned, recorded, writtenAt, settled}
 use Rattle.request.specs.Asked.{requestOf}
@@ -73,16 +70,3 @@ module _ (i : ℕ) (r : Request) (s : State) (out : List ℕ) where
   pub turned-answers : s .said .number ≡ 0 → i < length out / recordSize → answered i r s out ≡ turned i r s out
   unfolding turned
   turned-answers e l = sym (ap (λ (b : Bool). elim b [ true ↦ answered i r s out | false ↦ lent s out ]) (ap₂ _&&_ (is-clear s e) (lt-ltb i (length out / recordSize) l)))
-
-  -- the part of the list from its own record on is lent and handed back
-  pub part-answers : (t t′ : State) (ys : List ℕ) → s .said .number ≡ 0 → i < length out / recordSize
-      → lent t ys ≡ allocateInto kinds r s (take (length out - recordSize * i) (drop (recordSize * i) out)) → t′ ≡ numbered i t
-      → lent t′ (putMid (recordSize * i) (length out - recordSize * i) out ys) ≡ turned i r s out
-  unfolding answered
-  part-answers t t′ ys e l p n =
-      let a : ℕ = recordSize * i in
-      let whole : take (length out - a) (drop a out) ≡ drop a out = take-all (length out - a) (drop a out) (simp length-drop (omega arith)) in
-      let none : drop (length out - a) (drop a out) ≡ [] = drop-of-length-le (drop a out) {i = length out - a} (simp length-drop (omega arith)) in
-      let q : lent t ys ≡ allocateInto kinds r s (drop a out) = p ∙ ap (allocateInto kinds r s) whole in
-      ap₂ (λ (u : State) (z : List ℕ). lent u (take a out ++ (ys ++ z))) n none ∙ ap (λ z. lent (numbered i t) (take a out ++ z)) (append-nil ys)
-      ∙ ap (λ (m : Lent). lent (numbered i (m .state)) (take a out ++ m .results)) q ∙ turned-answers e l

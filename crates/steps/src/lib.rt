@@ -1,19 +1,13 @@
-// The steps of a plan over requests that come one by one: what is judged before the first, one request in its turn, and what is handed back after the last.
+// The parts of a plan's turns, over plain values: whether the plan fits, whether a request has its turn, the index of its answer, and its record in the results.
 use finding::Bases;
 use request::Request;
-use tables::State;
 ghost use mathlib.Core.Path.{_≡_};
 ghost use mathlib.Core.Bool.{_&&_};
 ghost use Prim.Native.Nat.{_+_, _*_, _/_, _≤_};
 ghost use lib.Dec.{leb, ltb, eqb};
 ghost use lib.ListN.{length};
 ghost use Rattle.definition.specs.Tables.{planLimit, recordSize};
-ghost use Rattle.definition.specs.Base.{says};
-ghost use Rattle.definition.specs.Calls.{saying};
-ghost use Rattle.definition.specs.Plan.{lent};
-ghost use Rattle.tables.specs.Views.{stateView};
-ghost use Rattle.request.specs.Asked.{requestOf};
-ghost use Rattle.steps.specs.Steps.{opened, numbered, turned, settled, indexFor, writtenAt};
+ghost use Rattle.steps.specs.Steps.{indexFor, writtenAt};
 
 const PLAN: usize = 128;
 
@@ -28,59 +22,6 @@ pub fn fits(n: usize, room: usize) -> bool
     }
     RECORD * n <= room
 }
-
-// Other numbers beside the tables.
-pub fn answer(s: State, index: u64, number: u64, namespace: u64, owner: u64, detail: u64) -> State
-    ensures { λ r. ⌜ stateView r ≡ saying (says index number namespace owner detail) (stateView s) ⌝ }
-{
-    let mut next = s;
-    next.number = number;
-    next.index = index;
-    next.namespace = namespace;
-    next.owner = owner;
-    next.detail = detail;
-    next
-}
-
-// What is judged before the first request: 1, 11, or five zeros beside the tables.
-pub fn open(s: State, n: usize, room: usize) -> State
-    ensures { λ t. ⌜ stateView t ≡ opened n room (stateView s) ⌝ }
-{
-    if sound::sound(s) {
-        if fits(n, room) {
-            return answer(s, 0, 0, 0, 0, 0);
-        }
-        return answer(s, 0, 11, 0, 0, 0);
-    }
-    answer(s, 0, 1, 0, 0, 0)
-}
-
-// A refusal names its request.
-pub fn number(t: State, i: usize) -> State
-    ensures { λ r. ⌜ stateView r ≡ numbered i (stateView t) ⌝ }
-{
-    if t.number == 0 {
-        return t;
-    }
-    answer(t, i as u64, t.number, t.namespace, t.owner, t.detail)
-}
-
-// One request in its turn: after a refusal nothing is done; else it is lent the part of the results that begins at its own record.
-pub fn turn(s: State, r: Request, i: usize, results: &mut [u64]) -> State
-    ensures { λ t. ⌜ lent (stateView t) (now (results .exit)) ≡ turned i (requestOf r) (stateView s) (now (results .entry)) ⌝ }
-{
-    if s.number == 0 {
-        if i < results.len() / RECORD {
-            let to = RECORD * i;
-            let t = allocation::allocate_into(s, r, &mut results[to..]);
-            return number(t, i);
-        }
-        return s;
-    }
-    s
-}
-
-// ---- the same turn on a state that is lent: its parts
 
 // Whether a request has its turn: none was refused so far, and its record has room.
 pub fn goes(number: u64, i: usize, room: usize) -> bool
@@ -112,14 +53,4 @@ pub fn write(results: &mut [u64], i: usize, r: Request, b: Bases)
         let line = allocation::record_of(r, b);
         allocation::write_record(&mut results[place..], line);
     }
-}
-
-// After the last: a refusal hands back the tables as they were at the plan's start, with its own numbers.
-pub fn settle(s: State, t: State) -> State
-    ensures { λ r. ⌜ stateView r ≡ settled (stateView s) (stateView t) ⌝ }
-{
-    if t.number == 0 {
-        return t;
-    }
-    answer(s, t.index, t.number, t.namespace, t.owner, t.detail)
 }

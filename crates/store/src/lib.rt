@@ -39,12 +39,12 @@ pub fn wire(t: &mut Wires, put: WirePut)
     ensures { λ _. ⌜ now (t .exit) ≡ putWire (now (t .entry)) put ⌝ }
 {
     if put.go {
-        let at = t.n;
-        t.controller[at] = put.row.controller;
-        t.input[at] = put.row.input;
-        t.trigger[at] = put.row.trigger;
-        t.sharing[at] = put.row.sharing;
-        t.owner[at] = put.row.owner;
-        t.n = at + 1;
+        let to = t.n;
+        t.controller[to] = put.row.controller;
+        t.input[to] = put.row.input;
+        t.trigger[to] = put.row.trigger;
+        t.sharing[to] = put.row.sharing;
+        t.owner[to] = put.row.owner;
+        t.n = to + 1;
     }
 }

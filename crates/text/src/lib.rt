@@ -1,5 +1,5 @@
 // The text call: a plan's text is answered by the bytes of 01's lines.
-use plan::numbers::plan;
+use plan::numbers::plan_by_value;
 use pool::start;
 use setup::Setup;
 use setup::set_up;
@@ -86,7 +86,7 @@ pub fn answer(text: &[u8], head: Setup, out: &mut [u8]) -> usize
     let w = read_wants(text, at, &mut numbers);
     let n = 12 * w.count;
     let mut results = [0u64; 1152];
-    let t = plan(start(s), &numbers[..n], &mut results);
+    let t = plan_by_value(start(s), &numbers[..n], &mut results);
     if t.number != 0 {
         let line = lines as u64 + t.index + 1;
         return refuse(out, line, t);

@@ -4,3 +4,5 @@ pub mod Passing
 pub mod Prelude
 pub mod StateParts
 pub mod Straight
+pub mod Row
+pub mod Again

@@ -1,2 +1,3 @@
 pub mod AskedLaws
 pub mod ReadLaws
+pub mod StoredLaws

@@ -6,7 +6,7 @@ ghost use mathlib.Core.Path.{_≡_};
 ghost use Prim.Native.Nat.{_+_, _≤_};
 ghost use lib.ListN.{length};
 ghost use lib.Seq.{sets};
-ghost use Rattle.wants.specs.Wants.{flatLimit, Reads};
+ghost use Rattle.wants.specs.Wants.{flatLimit, Reads, reading, readFrom};
 
 // How many wants were read, and the number of the refusal of the line behind them, or 0 at the text's end.
 pub struct Wants {
@@ -30,7 +30,8 @@ pub fn store(numbers: &mut [u64; 1536], at: usize, n: [u64; 12])
 // One `want` line after the other, each stored behind the ones before it. A line of any other kind is 10, a 129th want 11.
 pub fn read_wants(text: &[u8], from: usize, numbers: &mut [u64; 1536]) -> Wants
     requires { ⌜ (from ≤ length (now text)) × (length (now numbers) ≡ flatLimit) ⌝ }
-    ensures { λ r. ⌜ Reads (now (text .entry)) from (now (numbers .exit)) r ⌝ }
+    ensures asks { λ r. ⌜ Reads (now (text .entry)) from (now (numbers .exit)) r ⌝ }
+    ensures stores { λ r. ⌜ reading (now (numbers .exit)) (r .count) (r .number) ≡ readFrom (now (text .entry)) from (now (numbers .entry)) ⌝ }
 {
     let n = text.len();
     let mut at = from;

@@ -1,13 +1,14 @@
 // What a `want` line asks for, as twelve numbers: kind, requester, slot, the kind's own, and its choices.
 use reader::line::Line;
 ghost use mathlib.Core.Path.{_≡_};
+ghost use mathlib.Core.List.{[], _∷_};
 ghost use mathlib.Core.Option.{some, none};
 ghost use Prim.Native.Nat.{_≤_};
 ghost use Rattle.definition.specs.Request.{memory, ports, wire, irq, msi};
 ghost use Rattle.flat.specs.Flat.{choiceAt};
 ghost use Rattle.reader.specs.Says.{lineSays};
 ghost use Rattle.asking.specs.Asking.{wanted};
-ghost use Rattle.wants.specs.Wants.{askedBy, asking};
+ghost use Rattle.wants.specs.Wants.{askedBy, asking, numbersFor};
 
 // `good`: the line is a want.
 pub struct Asked {
@@ -17,7 +18,8 @@ pub struct Asked {
 
 // A line that asks for nothing.
 pub fn nothing() -> Asked
-    ensures { λ r. ⌜ askedBy r ≡ none ⌝ }
+    ensures asks { λ r. ⌜ askedBy r ≡ none ⌝ }
+    ensures stores { λ r. ⌜ r .n ≡ numbersFor none ⌝ }
 {
     Asked {
         good: false,
@@ -28,7 +30,8 @@ pub fn nothing() -> Asked
 // MMIO. Code 0 leaves the choice to the planner, code 1 asks for the number beside it; so for every kind.
 pub fn mmio(requester: u32, slot: u32, size: u64, alignment: u64, code: u64, base: u64) -> Asked
     requires { ⌜ code ≤ 1 ⌝ }
-    ensures { λ r. ⌜ askedBy r ≡ some (asking requester slot (memory size alignment (choiceAt code base))) ⌝ }
+    ensures asks { λ r. ⌜ askedBy r ≡ some (asking requester slot (memory size alignment (choiceAt code base))) ⌝ }
+    ensures stores { λ r. ⌜ r .n ≡ 1 ∷ requester ∷ slot ∷ size ∷ alignment ∷ 0 ∷ code ∷ base ∷ 0 ∷ 0 ∷ 0 ∷ 0 ∷ [] ⌝ }
 {
     let q = requester as u64;
     let s = slot as u64;
@@ -40,7 +43,8 @@ pub fn mmio(requester: u32, slot: u32, size: u64, alignment: u64, code: u64, bas
 
 pub fn pio(requester: u32, slot: u32, size: u16, alignment: u16, code: u64, base: u16) -> Asked
     requires { ⌜ code ≤ 1 ⌝ }
-    ensures { λ r. ⌜ askedBy r ≡ some (asking requester slot (ports size alignment (choiceAt code base))) ⌝ }
+    ensures asks { λ r. ⌜ askedBy r ≡ some (asking requester slot (ports size alignment (choiceAt code base))) ⌝ }
+    ensures stores { λ r. ⌜ r .n ≡ 2 ∷ requester ∷ slot ∷ size ∷ alignment ∷ 0 ∷ code ∷ base ∷ 0 ∷ 0 ∷ 0 ∷ 0 ∷ [] ⌝ }
 {
     let q = requester as u64;
     let s = slot as u64;
@@ -63,7 +67,8 @@ pub fn input(
     number: u64,
 ) -> Asked
     requires { ⌜ code ≤ 1 ⌝ }
-    ensures { λ r. ⌜ askedBy r ≡ some (asking requester slot (wire controller trigger sharing (choiceAt code number))) ⌝ }
+    ensures asks { λ r. ⌜ askedBy r ≡ some (asking requester slot (wire controller trigger sharing (choiceAt code number))) ⌝ }
+    ensures stores { λ r. ⌜ r .n ≡ 3 ∷ requester ∷ slot ∷ controller ∷ trigger ∷ sharing ∷ code ∷ number ∷ 0 ∷ 0 ∷ 0 ∷ 0 ∷ [] ⌝ }
 {
     let q = requester as u64;
     let s = slot as u64;
@@ -78,7 +83,8 @@ pub fn input(
 
 pub fn host(requester: u32, slot: u32, code: u64, number: u64) -> Asked
     requires { ⌜ code ≤ 1 ⌝ }
-    ensures { λ r. ⌜ askedBy r ≡ some (asking requester slot (irq (choiceAt code number))) ⌝ }
+    ensures asks { λ r. ⌜ askedBy r ≡ some (asking requester slot (irq (choiceAt code number))) ⌝ }
+    ensures stores { λ r. ⌜ r .n ≡ 4 ∷ requester ∷ slot ∷ 0 ∷ 0 ∷ 0 ∷ code ∷ number ∷ 0 ∷ 0 ∷ 0 ∷ 0 ∷ [] ⌝ }
 {
     let q = requester as u64;
     let s = slot as u64;
@@ -101,7 +107,8 @@ pub fn messages(
     lpi: u32,
 ) -> Asked
     requires { ⌜ code ≤ 1 ⌝ }
-    ensures { λ r. ⌜ askedBy r ≡ some (asking requester slot (msi controller its count (choiceAt code device) (choiceAt code event) (choiceAt code lpi))) ⌝ }
+    ensures asks { λ r. ⌜ askedBy r ≡ some (asking requester slot (msi controller its count (choiceAt code device) (choiceAt code event) (choiceAt code lpi))) ⌝ }
+    ensures stores { λ r. ⌜ r .n ≡ 5 ∷ requester ∷ slot ∷ controller ∷ its ∷ count ∷ code ∷ device ∷ code ∷ event ∷ code ∷ lpi ∷ [] ⌝ }
 {
     let q = requester as u64;
     let s = slot as u64;
@@ -119,7 +126,8 @@ pub fn messages(
 
 // What a line asks for.
 pub fn asked_of(line: Line) -> Asked
-    ensures { λ r. ⌜ askedBy r ≡ wanted (lineSays line) ⌝ }
+    ensures asks { λ r. ⌜ askedBy r ≡ wanted (lineSays line) ⌝ }
+    ensures stores { λ r. ⌜ r .n ≡ numbersFor (wanted (lineSays line)) ⌝ }
 {
     match line {
         Line::Bad => nothing(),

@@ -1,4 +1,4 @@
-//! What the tests share: the exported functions themselves, for lists and sizes which the wrapper never hands in; a stack of 1 MiB; random numbers. No test uses all of it.
+//! What the tests share: the exported functions themselves, for lists and sizes which the wrapper never hands in; small stacks; a stand with plans for it; random numbers. No test uses all of it.
 #![allow(dead_code)]
 
 #[path = "../../src/exported.rs"]
@@ -6,9 +6,16 @@ mod exported;
 
 pub use exported::*;
 
+use thurgoleo::{Choice, Hold, Plan, Planner, Pool, Request, Use, Want};
+
 pub fn small_stack(run: impl FnOnce() + Send + 'static) {
+    on_stack(1 << 20, run);
+}
+
+/// On a thread whose stack has so many bytes, its own frames among them.
+pub fn on_stack(bytes: usize, run: impl FnOnce() + Send + 'static) {
     std::thread::Builder::new()
-        .stack_size(1 << 20)
+        .stack_size(bytes)
         .spawn(run)
         .unwrap()
         .join()
@@ -30,4 +37,120 @@ impl Rng {
     pub fn below(&mut self, n: usize) -> usize {
         (self.next() % n as u64) as usize
     }
+}
+
+/// A stand with pools of all kinds, each automatic range a fixed one too, and two reservations; started.
+pub fn stand() -> Box<Planner> {
+    let mut p = Box::new(Planner::new());
+    for used in [Use::Automatic, Use::Fixed] {
+        p.add_pool(
+            used,
+            Pool::Mmio {
+                start: 0x1000,
+                end: 0x100_0000,
+            },
+        )
+        .unwrap();
+        p.add_pool(
+            used,
+            Pool::Pio {
+                start: 0x100,
+                end: 0xf000,
+            },
+        )
+        .unwrap();
+        p.add_pool(
+            used,
+            Pool::Input {
+                controller: 0,
+                start: 16,
+                end: 200,
+            },
+        )
+        .unwrap();
+        p.add_pool(
+            used,
+            Pool::Host {
+                start: 32,
+                end: 400,
+            },
+        )
+        .unwrap();
+        p.add_pool(
+            used,
+            Pool::Msi {
+                controller: 0,
+                its: 0,
+                devices: 0..64,
+                events: 0..256,
+                lpis: 8192..9000,
+            },
+        )
+        .unwrap();
+    }
+    p.reserve(
+        9,
+        Hold::Mmio {
+            start: 0x2000,
+            end: 0x3000,
+        },
+    )
+    .unwrap();
+    p.reserve(9, Hold::Host { start: 33, end: 35 }).unwrap();
+    p.start().unwrap();
+    p
+}
+
+/// So many automatic requests, the kinds in turn.
+pub fn mixed(n: u32) -> Vec<Request> {
+    (0..n)
+        .map(|i| {
+            let want = match i % 5 {
+                0 => Want::Mmio {
+                    size: 0x1000 << (i % 3),
+                    alignment: 0x1000,
+                    choice: Choice::Auto,
+                },
+                1 => Want::Pio {
+                    size: 8,
+                    alignment: 8,
+                    choice: Choice::Auto,
+                },
+                2 => Want::Input {
+                    controller: 0,
+                    trigger: 1,
+                    sharing: 0,
+                    choice: Choice::Auto,
+                },
+                3 => Want::HostIrq {
+                    choice: Choice::Auto,
+                },
+                _ => Want::Msi {
+                    controller: 0,
+                    its: 0,
+                    count: 1 + i % 4,
+                    device: Choice::Auto,
+                    event: Choice::Auto,
+                    lpi: Choice::Auto,
+                },
+            };
+            Request {
+                requester: 100 + i,
+                slot: i,
+                want,
+            }
+        })
+        .collect()
+}
+
+/// Twelve numbers a request.
+pub fn numbers(requests: &[Request]) -> Vec<u64> {
+    let mut plan = Box::new(Plan::new());
+    let mut all = Vec::new();
+    for part in requests.chunks(128) {
+        *plan = Plan::new();
+        part.iter().for_each(|r| plan.push(r).unwrap());
+        all.extend_from_slice(plan.requests());
+    }
+    all
 }

@@ -53,16 +53,5 @@ returns-4 c = ap (λ x. lent x (c .before .before .before .before .args .out .no
 
 pub allocate-into-spec : {M : Type 1} → statement M
 allocate-into-spec =
-    tie.close
-    (tie.spec
-    sound-requires
-    resolve-requires
-    record-of-requires
-    write-record-requires
-    same-length
-    returns
-    returns-2
-    refuse-requires
-    returns-3
-    refuse-requires-2
-    returns-4)
+    tie.close (tie.spec sound-requires resolve-requires record-of-requires write-record-requires same-length returns returns-2 refuse-requires returns-3
+    refuse-requires-2 returns-4)

@@ -66,22 +66,6 @@ returns c = rw (c .verdict .ensures, c .before .before .before .before .before .
 
 pub find-spec : {M : Type 1} → statement M
 find-spec =
-    tie.close
-    (tie.spec
-    queried-requires
-    ask-requires
-    see-range-requires
-    ask-requires-2
-    see-range-requires-2
-    ask-wire-requires
-    see-wire-requires
-    ask-requires-3
-    see-range-requires-3
-    ask-device-requires
-    see-range-requires-4
-    ask-event-requires
-    see-range-requires-5
-    ask-lpi-requires
-    see-range-requires-6
-    verdict-requires
+    tie.close (tie.spec queried-requires ask-requires see-range-requires ask-requires-2 see-range-requires-2 ask-wire-requires see-wire-requires ask-requires-3
+    see-range-requires-3 ask-device-requires see-range-requires-4 ask-event-requires see-range-requires-5 ask-lpi-requires see-range-requires-6 verdict-requires
     returns)

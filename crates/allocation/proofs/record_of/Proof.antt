@@ -83,31 +83,6 @@ returns-5 c = rw (c .line5 .ensures, c .before .before .before .before .before .
 
 pub record-of-spec : {M : Type 1} → statement M
 record-of-spec =
-    tie.close
-    (tie.spec
-    cast-q
-    cast-slot
-    enum-known-want
-    line-requires
-    enum-known-want-2
-    line-requires-2
-    enum-known-want-3
-    cast-line
-    cast-line-2
-    cast-line-3
-    line-requires-3
-    enum-told
-    line-requires-4
-    enum-known-want-4
-    cast-line-4
-    cast-line-5
-    cast-line-6
-    cast-line-7
-    cast-line-8
-    cast-line-9
-    line-requires-5
-    returns
-    returns-2
-    returns-3
-    returns-4
-    returns-5)
+    tie.close (tie.spec cast-q cast-slot enum-known-want line-requires enum-known-want-2 line-requires-2 enum-known-want-3 cast-line cast-line-2 cast-line-3
+    line-requires-3 enum-told line-requires-4 enum-known-want-4 cast-line-4 cast-line-5 cast-line-6 cast-line-7 cast-line-8 cast-line-9 line-requires-5 returns
+    returns-2 returns-3 returns-4 returns-5)

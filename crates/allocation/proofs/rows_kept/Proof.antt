@@ -55,20 +55,5 @@ returns c = let h = c .before .before .before .before .before .before .before .b
 
 pub rows-kept-spec : {M : Type 1} → statement M
 rows-kept-spec =
-    tie.close
-    (tie.spec
-    put-requires
-    put-range-requires
-    put-requires-2
-    put-range-requires-2
-    put-wire-requires
-    put-wire-requires-2
-    put-requires-3
-    put-range-requires-3
-    put-requires-4
-    put-range-requires-4
-    put-event-requires
-    put-range-requires-5
-    put-lpi-requires
-    put-range-requires-6
-    returns)
+    tie.close (tie.spec put-requires put-range-requires put-requires-2 put-range-requires-2 put-wire-requires put-wire-requires-2 put-requires-3
+    put-range-requires-3 put-requires-4 put-range-requires-4 put-event-requires put-range-requires-5 put-lpi-requires put-range-requires-6 returns)

@@ -41,16 +41,5 @@ returns c = nine-stores _ _ _ _ _ _ _ _ _ (c .args .out .now) (c .pre)
 
 pub write-record-spec : {M : Type 1} → statement M
 write-record-spec =
-    tie.close
-    (tie.spec
-    slice-write-out
-    slice-write-out-2
-    slice-write-out-3
-    slice-write-out-4
-    slice-write-out-5
-    slice-write-out-6
-    slice-write-out-7
-    slice-write-out-8
-    slice-write-out-9
-    same-length
-    returns)
+    tie.close (tie.spec slice-write-out slice-write-out-2 slice-write-out-3 slice-write-out-4 slice-write-out-5 slice-write-out-6 slice-write-out-7
+    slice-write-out-8 slice-write-out-9 same-length returns)

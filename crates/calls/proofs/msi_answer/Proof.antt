@@ -46,13 +46,4 @@ returns-3 c = record { answer = served-malformed _ _ _ (sym (c .before .msi-set 
 
 pub msi-answer-spec : {M : Type 1} → statement M
 msi-answer-spec =
-    tie.close
-    (tie.spec
-    msi-set-requires
-    grant-msi-requires
-    with-owners-requires
-    with-owners-requires-2
-    with-owners-requires-3
-    returns
-    returns-2
-    returns-3)
+    tie.close (tie.spec msi-set-requires grant-msi-requires with-owners-requires with-owners-requires-2 with-owners-requires-3 returns returns-2 returns-3)

@@ -38,14 +38,5 @@ returns-3 c = rw (sym (rw (c .before .before .before .before .before .before .be
 
 pub msi-set-spec : {M : Type 1} → statement M
 msi-set-spec =
-    tie.close
-    (tie.spec
-    device-limits-requires
-    ranges-set-requires
-    returns
-    event-limits-requires
-    ranges-set-requires-2
-    returns-2
-    lpi-limits-requires
-    ranges-set-requires-3
-    returns-3)
+    tie.close (tie.spec device-limits-requires ranges-set-requires returns event-limits-requires ranges-set-requires-2 returns-2 lpi-limits-requires
+    ranges-set-requires-3 returns-3)

@@ -53,17 +53,5 @@ returns-4 c = rw (c .before .before .c3 .given .1) (c .allocate .ensures)
 
 pub applied-spec : {M : Type 1} → statement M
 applied-spec =
-    tie.close
-    (tie.spec
-    enum-known-c
-    serve-requires
-    enum-known-c-2
-    serve-requires-2
-    enum-told
-    serve-requires-3
-    enum-known-c-3
-    allocate-requires
-    returns
-    returns-2
-    returns-3
-    returns-4)
+    tie.close (tie.spec enum-known-c serve-requires enum-known-c-2 serve-requires-2 enum-told serve-requires-3 enum-known-c-3 allocate-requires returns
+    returns-2 returns-3 returns-4)

@@ -27,13 +27,4 @@ returns-2 : tie.Need-returns-2
 returns-2 c = comes-line (c .before .before .before .before .before .args .text .now) (c .before .before .before .before .before .args .at) (c .before .before .before .before .before .args .end) (c .before .before .before .before .before .pre .1) (omega arith) (c .entry-of .result) (rw (c .before .read-line .ensures) at (c .entry-of .ensures))
 
 pub entry-at-spec : {M : Type 1} → statement M
-entry-at-spec =
-    tie.close
-    (tie.spec
-    returns
-    sub-read-line
-    part-read-line-start
-    part-read-line-end
-    read-line-requires
-    entry-of-requires
-    returns-2)
+entry-at-spec = tie.close (tie.spec returns sub-read-line part-read-line-start part-read-line-end read-line-requires entry-of-requires returns-2)

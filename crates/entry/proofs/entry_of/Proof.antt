@@ -181,49 +181,8 @@ returns-13 c = other (c .before .args .line) (c .match .keys13)
 
 pub entry-of-spec : {M : Type 1} → statement M
 entry-of-spec =
-    tie.close
-    (tie.spec
-    enum-known-line
-    pooled-requires
-    enum-known-line-2
-    pooled-requires-2
-    enum-known-line-3
-    pooled-requires-3
-    enum-known-line-4
-    pooled-requires-4
-    enum-known-line-5
-    pooled-requires-5
-    enum-known-line-6
-    row-requires
-    enum-known-line-7
-    wide16-requires
-    wide16-requires-2
-    row-requires-2
-    enum-known-line-8
-    row-requires-3
-    enum-known-line-9
-    enum-known-line-10
-    wide-requires
-    wide-requires-2
-    row-requires-4
-    enum-known-line-11
-    wide-requires-3
-    wide-requires-4
-    row-requires-5
-    enum-known-line-12
-    wide-requires-5
-    wide-requires-6
-    row-requires-6
-    returns
-    returns-2
-    returns-3
-    returns-4
-    returns-5
-    returns-6
-    returns-7
-    returns-8
-    returns-9
-    returns-10
-    returns-11
-    returns-12
-    returns-13)
+    tie.close (tie.spec enum-known-line pooled-requires enum-known-line-2 pooled-requires-2 enum-known-line-3 pooled-requires-3 enum-known-line-4
+    pooled-requires-4 enum-known-line-5 pooled-requires-5 enum-known-line-6 row-requires enum-known-line-7 wide16-requires wide16-requires-2 row-requires-2
+    enum-known-line-8 row-requires-3 enum-known-line-9 enum-known-line-10 wide-requires wide-requires-2 row-requires-4 enum-known-line-11 wide-requires-3
+    wide-requires-4 row-requires-5 enum-known-line-12 wide-requires-5 wide-requires-6 row-requires-6 returns returns-2 returns-3 returns-4 returns-5 returns-6
+    returns-7 returns-8 returns-9 returns-10 returns-11 returns-12 returns-13)

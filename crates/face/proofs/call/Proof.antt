@@ -1,5 +1,6 @@
 -- The length, then the first number. Assumes nothing.
 use borrow.Author.Needs.{needs}
+use mathlib.Core.Path.{refl}
 use Rattle.face.proofs.CallLaws.{room-to-ask, served-want, served-adding, short-want, short-adding, long-to-ask}
 use native.Mathlib.Omega.{arith}
 use Rattle.face.proofs.call.Statement.{statement}
@@ -14,23 +15,20 @@ number-requires-2 c κs = search needs
 call-size-requires : tie.Need-call-size-requires
 call-size-requires c κs = search needs
 
-sub-request-at : tie.Need-sub-request-at
-sub-request-at c = omega (arith, long-to-ask (c .before .before .before .before .before .before .args .numbers .now) _ _ _ (c .before .before .before .before .number .ensures) (c .before .before .before .number2 .ensures) (c .before .before .call-size .ensures) (omega arith) (c .if2 .taken))
+sub-asked : tie.Need-sub-asked
+sub-asked c = omega (arith, long-to-ask (c .before .before .before .before .before .before .args .numbers .now) _ _ _ (c .before .before .before .before .number .ensures) (c .before .before .before .number2 .ensures) (c .before .before .call-size .ensures) (omega arith) (c .if2 .taken))
 
-part-request-at-start : tie.Need-part-request-at-start
-part-request-at-start c = omega (arith, long-to-ask (c .before .before .before .before .before .before .args .numbers .now) _ _ _ (c .before .before .before .before .number .ensures) (c .before .before .before .number2 .ensures) (c .before .before .call-size .ensures) (omega arith) (c .if2 .taken))
+part-asked-start : tie.Need-part-asked-start
+part-asked-start c = omega (arith, long-to-ask (c .before .before .before .before .before .before .args .numbers .now) _ _ _ (c .before .before .before .before .number .ensures) (c .before .before .before .number2 .ensures) (c .before .before .call-size .ensures) (omega arith) (c .if2 .taken))
 
-part-request-at-end : tie.Need-part-request-at-end
-part-request-at-end c = search needs
+part-asked-end : tie.Need-part-asked-end
+part-asked-end c = search needs
 
-request-at-requires : tie.Need-request-at-requires
-request-at-requires c κs = room-to-ask (c .before .before .before .before .before .before .before .args .numbers .now) _ _ _ (c .before .before .before .before .before .number .ensures) (c .before .before .before .before .number2 .ensures) (c .before .before .before .call-size .ensures) (omega arith) (c .before .if2 .taken)
-
-allocate-requires : tie.Need-allocate-requires
-allocate-requires c κs = search needs
+asked-requires : tie.Need-asked-requires
+asked-requires c κs = room-to-ask (c .before .before .before .before .before .before .before .args .numbers .now) _ _ _ (c .before .before .before .before .before .number .ensures) (c .before .before .before .before .number2 .ensures) (c .before .before .before .call-size .ensures) (omega arith) (c .before .if2 .taken)
 
 returns : tie.Need-returns
-returns c = served-want (c .before .before .before .before .before .before .before .before .before .args .numbers .now) _ _ _ (c .before .before .before .before .before .before .before .number .ensures) (c .before .before .before .before .before .before .number2 .ensures) (c .before .before .before .before .before .call-size .ensures) _ _ (omega arith) (c .before .before .before .if2 .taken) _ (c .before .request-at .ensures) (c .allocate .ensures)
+returns c = served-want (c .before .before .before .before .before .before .before .before .args .numbers .now) _ _ _ (c .before .before .before .before .before .before .number .ensures) (c .before .before .before .before .before .number2 .ensures) (c .before .before .before .before .call-size .ensures) _ _ (omega arith) (c .before .before .if2 .taken) _ refl (c .asked .ensures)
 
 adding-at-requires : tie.Need-adding-at-requires
 adding-at-requires c κs = search needs
@@ -61,23 +59,6 @@ returns-4 c = short-adding (c .before .before .before .before .before .before .b
 
 pub call-spec : {M : Type 1} → statement M
 call-spec =
-    tie.close
-    (tie.spec
-    number-requires
-    number-requires-2
-    call-size-requires
-    sub-request-at
-    part-request-at-start
-    part-request-at-end
-    request-at-requires
-    allocate-requires
-    returns
-    adding-at-requires
-    serve-requires
-    returns-2
-    sound-requires
-    too-short-requires
-    returns-3
-    given-requires
-    too-short-requires-2
+    tie.close (tie.spec number-requires number-requires-2 call-size-requires sub-asked part-asked-start part-asked-end asked-requires
+    returns adding-at-requires serve-requires returns-2 sound-requires too-short-requires returns-3 given-requires too-short-requires-2
     returns-4)

@@ -25,13 +25,4 @@ returns-2 : tie.Need-returns-2
 returns-2 c = rw (c .event-need2 .ensures, c .before .before .before .of-event .ensures, c .before .enum-told .given .1)
 
 pub event-ask-spec : {M : Type 1} → statement M
-event-ask-spec =
-    tie.close
-    (tie.spec
-    of-event-requires
-    enum-known-first
-    event-need-requires
-    enum-told
-    event-need-requires-2
-    returns
-    returns-2)
+event-ask-spec = tie.close (tie.spec of-event-requires enum-known-first event-need-requires enum-told event-need-requires-2 returns returns-2)

@@ -37,15 +37,5 @@ returns-2 c = c .three .ensures ∙ ap (msiGiven (c .before .before .before .bef
 
 pub msi-verdict-spec : {M : Type 1} → statement M
 msi-verdict-spec =
-    tie.close
-    (tie.spec
-    device-requires
-    event-requires
-    lpi-requires
-    chain-requires
-    enum-known-chosen
-    refused-requires
-    enum-known-chosen-2
-    three-requires
-    returns
+    tie.close (tie.spec device-requires event-requires lpi-requires chain-requires enum-known-chosen refused-requires enum-known-chosen-2 three-requires returns
     returns-2)

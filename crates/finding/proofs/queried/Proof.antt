@@ -62,23 +62,5 @@ returns-6 c = c .nothing .ensures ∙ sym (bad-query (c .before .before .before 
 
 pub queried-spec : {M : Type 1} → statement M
 queried-spec =
-    tie.close
-    (tie.spec
-    good-request-requires
-    enum-known-want
-    of-range-requires
-    enum-known-want-2
-    of-range-requires-2
-    enum-known-want-3
-    of-wire-requires
-    enum-known-want-4
-    of-range-requires-3
-    enum-known-want-5
-    of-msi-requires
-    nothing-requires
-    returns
-    returns-2
-    returns-3
-    returns-4
-    returns-5
-    returns-6)
+    tie.close (tie.spec good-request-requires enum-known-want of-range-requires enum-known-want-2 of-range-requires-2 enum-known-want-3 of-wire-requires
+    enum-known-want-4 of-range-requires-3 enum-known-want-5 of-msi-requires nothing-requires returns returns-2 returns-3 returns-4 returns-5 returns-6)

@@ -43,17 +43,5 @@ returns-2 c = let q = c .before .before .before .before .before .before .before 
 
 pub range-verdict-spec : {M : Type 1} → statement M
 range-verdict-spec =
-    tie.close
-    (tie.spec
-    standing-requires
-    enum-known-chosen
-    refused-requires
-    enum-known-chosen-2
-    row-requires
-    one-base-requires
-    no-row-requires
-    no-row-requires-2
-    no-wire-row-requires
-    granted-requires
-    returns
-    returns-2)
+    tie.close (tie.spec standing-requires enum-known-chosen refused-requires enum-known-chosen-2 row-requires one-base-requires no-row-requires
+    no-row-requires-2 no-wire-row-requires granted-requires returns returns-2)

@@ -43,17 +43,5 @@ returns-6 c = let q = c .before .before .before .before .before .before .before 
 
 pub verdict-spec : {M : Type 1} → statement M
 verdict-spec =
-    tie.close
-    (tie.spec
-    range-verdict-requires
-    returns
-    range-verdict-requires-2
-    returns-2
-    wire-verdict-requires
-    returns-3
-    range-verdict-requires-3
-    returns-4
-    msi-verdict-requires
-    returns-5
-    refused-requires
-    returns-6)
+    tie.close (tie.spec range-verdict-requires returns range-verdict-requires-2 returns-2 wire-verdict-requires returns-3 range-verdict-requires-3 returns-4
+    msi-verdict-requires returns-5 refused-requires returns-6)

@@ -40,16 +40,5 @@ returns-2 c = rw (c .granted .ensures, c .before .no-row3 .ensures, c .before .b
 
 pub wire-verdict-spec : {M : Type 1} → statement M
 wire-verdict-spec =
-    tie.close
-    (tie.spec
-    standing-requires
-    enum-known-chosen
-    refused-requires
-    enum-known-chosen-2
-    one-base-requires
-    no-row-requires
-    no-row-requires-2
-    no-row-requires-3
-    granted-requires
-    returns
-    returns-2)
+    tie.close (tie.spec standing-requires enum-known-chosen refused-requires enum-known-chosen-2 one-base-requires no-row-requires no-row-requires-2
+    no-row-requires-3 granted-requires returns returns-2)

@@ -26,13 +26,4 @@ returns : tie.Need-returns
 returns c = rw (c .before .before .device-of .ensures, c .before .event-of .ensures, c .lpi-of .ensures)
 
 pub messages-spec : {M : Type 1} → statement M
-messages-spec =
-    tie.close
-    (tie.spec
-    device-of-requires
-    event-of-requires
-    lpi-of-requires
-    cast-t13
-    cast-t14
-    cast-t15
-    returns)
+messages-spec = tie.close (tie.spec device-of-requires event-of-requires lpi-of-requires cast-t13 cast-t14 cast-t15 returns)

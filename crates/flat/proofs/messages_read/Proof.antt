@@ -36,13 +36,4 @@ returns-4 c = rw (sym (c .before .before .before .before .before .before .all-fi
 
 pub messages-read-spec : {M : Type 1} → statement M
 messages-read-spec =
-    tie.close
-    (tie.spec
-    all-fit-requires
-    returns
-    number-reads-requires
-    returns-2
-    number-reads-requires-2
-    returns-3
-    number-reads-requires-3
-    returns-4)
+    tie.close (tie.spec all-fit-requires returns number-reads-requires returns-2 number-reads-requires-2 returns-3 number-reads-requires-3 returns-4)

@@ -31,13 +31,4 @@ returns-5 : tie.Need-returns-5
 returns-5 c = readable-plain _ _ _ _ _ _ _ _ _ _ (omega arith) (omega arith) (c .before .if3 .left) (c .if4 .left)
 
 pub readable-spec : {M : Type 1} → statement M
-readable-spec =
-    tie.close
-    (tie.spec
-    returns
-    returns-2
-    wired-reads-requires
-    returns-3
-    messages-read-requires
-    returns-4
-    returns-5)
+readable-spec = tie.close (tie.spec returns returns-2 wired-reads-requires returns-3 messages-read-requires returns-4 returns-5)

@@ -121,43 +121,9 @@ returns c = c .request-of .ensures ∙ sym (request-at-is _ _)
 
 pub request-at-spec : {M : Type 1} → statement M
 request-at-spec =
-    tie.close
-    (tie.spec
-    mul-at
-    mul-request-of
-    shared-slice-read-request-of
-    add-request-of
-    mul-request-of-2
-    shared-slice-read-request-of-2
-    add-request-of-2
-    mul-request-of-3
-    shared-slice-read-request-of-3
-    add-request-of-3
-    mul-request-of-4
-    shared-slice-read-request-of-4
-    add-request-of-4
-    mul-request-of-5
-    shared-slice-read-request-of-5
-    add-request-of-5
-    mul-request-of-6
-    shared-slice-read-request-of-6
-    add-request-of-6
-    mul-request-of-7
-    shared-slice-read-request-of-7
-    add-request-of-7
-    mul-request-of-8
-    shared-slice-read-request-of-8
-    add-request-of-8
-    mul-request-of-9
-    shared-slice-read-request-of-9
-    add-request-of-9
-    mul-request-of-10
-    shared-slice-read-request-of-10
-    add-request-of-10
-    mul-request-of-11
-    shared-slice-read-request-of-11
-    add-request-of-11
-    mul-request-of-12
-    shared-slice-read-request-of-12
-    request-of-requires
-    returns)
+    tie.close (tie.spec mul-at mul-request-of shared-slice-read-request-of add-request-of mul-request-of-2 shared-slice-read-request-of-2 add-request-of-2
+    mul-request-of-3 shared-slice-read-request-of-3 add-request-of-3 mul-request-of-4 shared-slice-read-request-of-4 add-request-of-4 mul-request-of-5
+    shared-slice-read-request-of-5 add-request-of-5 mul-request-of-6 shared-slice-read-request-of-6 add-request-of-6 mul-request-of-7
+    shared-slice-read-request-of-7 add-request-of-7 mul-request-of-8 shared-slice-read-request-of-8 add-request-of-8 mul-request-of-9
+    shared-slice-read-request-of-9 add-request-of-9 mul-request-of-10 shared-slice-read-request-of-10 add-request-of-10 mul-request-of-11
+    shared-slice-read-request-of-11 add-request-of-11 mul-request-of-12 shared-slice-read-request-of-12 request-of-requires returns)

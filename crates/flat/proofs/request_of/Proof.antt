@@ -47,16 +47,4 @@ returns-4 c = rw (le-leb (c .before .before .before .before .before .args .reque
 
 pub request-of-spec : {M : Type 1} → statement M
 request-of-spec =
-    tie.close
-    (tie.spec
-    bad-requires
-    returns
-    bad-requires-2
-    returns-2
-    readable-requires
-    bad-requires-3
-    returns-3
-    want-of-requires
-    cast-t16
-    cast-t17
-    returns-4)
+    tie.close (tie.spec bad-requires returns bad-requires-2 returns-2 readable-requires bad-requires-3 returns-3 want-of-requires cast-t16 cast-t17 returns-4)

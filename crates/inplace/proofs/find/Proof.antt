@@ -1,14 +1,6 @@
 -- `inplace::find` meets its contract: straight code over the covered functions of `finding` and the two that look into tables. Assumes nothing.
-use Rattle.walks.proofs.Prelude.{_≡_, refl, [], _∷_, List, none, ℕ, _+_, URA, named, SProp, emp, id⊢, Lft, Share, Memory, Routine, Heap, Calls, WpFn, Tables, Atoms, fmOf, Fun, factI, AllOutlive, givenOf, tables, tablesOf, Given, Item, ‵, owns, flat, Is, ptr-vals, shr-tells, typesAt, Args, Vals, Meets, tripleOf, Triple, entered, cited}
-use Prim.Native.Nat.{_^_}
-use lib.Dec.{T as Holds, ltb, ltb→lt}
-use mir.Syntax.{w64}
-use mir.Val.{vint}
-use base.Fml.{GName}
-use denote.Laws.{Makes}
-use denote.Plain.{uint-makes}
+use Rattle.walks.proofs.Prelude.{_≡_, refl, [], _∷_, List, none, ℕ, _+_, URA, named, SProp, emp, id⊢, Lft, Share, Memory, Routine, Heap, Calls, WpFn, Tables, Atoms, fmOf, Fun, factI, AllOutlive, givenOf, tables, tablesOf, Given, Item, ‵, owns, flat, Is, ptr-vals, shr-tells, typesAt, Args, Vals, Meets, tripleOf, Triple, entered, cited, _^_, T as Holds, ltb, ltb→lt, w64, vint, GName, Makes, uint-makes, Parts}
 use denote.Struct.Laws as LL
-use borrow.Struct.Share.{Parts}
 use Rattle.definition.specs.Tables.{kinds}
 use Rattle.definition.specs.Calls.{sound as sound-state}
 use Rattle.tables.specs.Views.{stateView}
@@ -39,36 +31,18 @@ use Rattle.look.proofs.WireAsk.Laws as X′
 use Rattle.look.proofs.Seen as S
 use Rattle.look.proofs.Seen.Laws as S′
 use Rattle.look.proofs.range as range
-use Rattle.look.proofs.range.Symbol as range-def
-use Rattle.look.proofs.range.Met as range-thm
 use Rattle.look.proofs.wire as wire
-use Rattle.look.proofs.wire.Symbol as wire-def
-use Rattle.look.proofs.wire.Met as wire-thm
 use Rattle.finding.proofs.Query as Q
 use Rattle.finding.proofs.Query.Laws as Q′
 use Rattle.finding.proofs.Finding as F
 use Rattle.finding.proofs.Finding.Laws as F′
 use Rattle.finding.proofs.queried as queried
-use Rattle.finding.proofs.queried.Symbol as queried-def
-use Rattle.finding.proofs.queried.Met as queried-thm
 use Rattle.finding.proofs.ask as ask
-use Rattle.finding.proofs.ask.Symbol as ask-def
-use Rattle.finding.proofs.ask.Met as ask-thm
 use Rattle.finding.proofs.ask_wire as ask-wire
-use Rattle.finding.proofs.ask_wire.Symbol as ask-wire-def
-use Rattle.finding.proofs.ask_wire.Met as ask-wire-thm
 use Rattle.finding.proofs.ask_device as ask-device
-use Rattle.finding.proofs.ask_device.Symbol as ask-device-def
-use Rattle.finding.proofs.ask_device.Met as ask-device-thm
 use Rattle.finding.proofs.ask_event as ask-event
-use Rattle.finding.proofs.ask_event.Symbol as ask-event-def
-use Rattle.finding.proofs.ask_event.Met as ask-event-thm
 use Rattle.finding.proofs.ask_lpi as ask-lpi
-use Rattle.finding.proofs.ask_lpi.Symbol as ask-lpi-def
-use Rattle.finding.proofs.ask_lpi.Met as ask-lpi-thm
 use Rattle.finding.proofs.verdict as verdict
-use Rattle.finding.proofs.verdict.Symbol as verdict-def
-use Rattle.finding.proofs.verdict.Met as verdict-thm
 use Rattle.finding.specs.Tables.{AllAsk}
 use Rattle.finding.proofs.AskLaws.{asks}
 use Rattle.finding.proofs.FindingLaws.{finds}
@@ -77,25 +51,22 @@ use Rattle.walks.proofs.Passing.{Plain, declaredAs, valueAs, Arg, plainly, slot
 use Rattle.walks.proofs.Columns.{Into}
 use Rattle.walks.proofs.StateParts.{Table, mmio, pio, input, host, device, event, lpi, auto-at, fixed-at, owners-at, pool-at, holder-at, mmio-pool, pio-pool, input-pool, host-pool, device-pool, event-pool, lpi-pool, mmio-holder, pio-holder, input-holder, host-holder, device-holder, event-holder, lpi-holder, auto-table, fixed-table, owners-table}
 use Rattle.walks.proofs.Frame.{mine, After, ends, frame}
-use Rattle.inplace.proofs.find.Key.{name as #f}
 use Rattle.inplace.proofs.find as f
-use Rattle.inplace.proofs.find.Statement as stated
-use Rattle.inplace.proofs.find.Code as code
 
 abbrev Sound : State → Type 0
 Sound h = Holds (sound-state kinds (stateView h))
 
 -- what is known of the callees
 record Known {M : Type 1} (𝓤 : URA M) (H : Heap 𝓤) (A : Atoms 𝓤) (at-mem : Memory → SProp 𝓤) (run : Routine → Fun 𝓤) (C : Calls 𝓤 H) : Type 1 where
-  k-queried : Triple 𝓤 (C queried-def.name) (tripleOf 𝓤 H A queried.signature (queried.spec 𝓤 H A at-mem run))
-  k-ask : Triple 𝓤 (C ask-def.name) (tripleOf 𝓤 H A ask.signature (ask.spec 𝓤 H A at-mem run))
-  k-ask-wire : Triple 𝓤 (C ask-wire-def.name) (tripleOf 𝓤 H A ask-wire.signature (ask-wire.spec 𝓤 H A at-mem run))
-  k-ask-device : Triple 𝓤 (C ask-device-def.name) (tripleOf 𝓤 H A ask-device.signature (ask-device.spec 𝓤 H A at-mem run))
-  k-ask-event : Triple 𝓤 (C ask-event-def.name) (tripleOf 𝓤 H A ask-event.signature (ask-event.spec 𝓤 H A at-mem run))
-  k-ask-lpi : Triple 𝓤 (C ask-lpi-def.name) (tripleOf 𝓤 H A ask-lpi.signature (ask-lpi.spec 𝓤 H A at-mem run))
-  k-range : Triple 𝓤 (C range-def.name) (tripleOf 𝓤 H A range.signature (range.spec 𝓤 H A at-mem run))
-  k-wire : Triple 𝓤 (C wire-def.name) (tripleOf 𝓤 H A wire.signature (wire.spec 𝓤 H A at-mem run))
-  k-verdict : Triple 𝓤 (C verdict-def.name) (tripleOf 𝓤 H A verdict.signature (verdict.spec 𝓤 H A at-mem run))
+  k-queried : Triple 𝓤 (C queried.Symbol.name) (tripleOf 𝓤 H A queried.signature (queried.spec 𝓤 H A at-mem run))
+  k-ask : Triple 𝓤 (C ask.Symbol.name) (tripleOf 𝓤 H A ask.signature (ask.spec 𝓤 H A at-mem run))
+  k-ask-wire : Triple 𝓤 (C ask-wire.Symbol.name) (tripleOf 𝓤 H A ask-wire.signature (ask-wire.spec 𝓤 H A at-mem run))
+  k-ask-device : Triple 𝓤 (C ask-device.Symbol.name) (tripleOf 𝓤 H A ask-device.signature (ask-device.spec 𝓤 H A at-mem run))
+  k-ask-event : Triple 𝓤 (C ask-event.Symbol.name) (tripleOf 𝓤 H A ask-event.signature (ask-event.spec 𝓤 H A at-mem run))
+  k-ask-lpi : Triple 𝓤 (C ask-lpi.Symbol.name) (tripleOf 𝓤 H A ask-lpi.signature (ask-lpi.spec 𝓤 H A at-mem run))
+  k-range : Triple 𝓤 (C range.Symbol.name) (tripleOf 𝓤 H A range.signature (range.spec 𝓤 H A at-mem run))
+  k-wire : Triple 𝓤 (C wire.Symbol.name) (tripleOf 𝓤 H A wire.signature (wire.spec 𝓤 H A at-mem run))
+  k-verdict : Triple 𝓤 (C verdict.Symbol.name) (tripleOf 𝓤 H A verdict.signature (verdict.spec 𝓤 H A at-mem run))
 
 module _ {M : Type 1} (𝓤 : URA M) (H : Heap 𝓤) (A : Atoms 𝓤) (W : Given 𝓤 H A) (at-mem : Memory → SProp 𝓤) (run : Routine → Fun 𝓤) (𝓣 : Tables 𝓤 H) (known : Known 𝓤 H A at-mem run (𝓣 .C)) where
   abbrev Fo : Plain
@@ -152,41 +123,41 @@ module _ {M : Type 1} (𝓤 : URA M) (H : Heap 𝓤) (A : Atoms 𝓤) (W : Given
     may = asks h (a .1 .0) ok
 
     -- ---- the covered callees
-    query-made : Gives 𝓤 H A W (𝓣 .C) hold queried-def.name (LL.val R.the-type R′.the-laws (a .1 .0) ∷ []) (valueAs Qu) (λ d. d ≡ y)
+    query-made : Gives 𝓤 H A W (𝓣 .C) hold queried.Symbol.name (LL.val R.the-type R′.the-laws (a .1 .0) ∷ []) (valueAs Qu) (λ d. d ≡ y)
     query-made =
-        covered 𝓤 H A W (𝓣 .C) (fmOf 𝓤 H (W .laws) 𝓣) hold queried-def.name Qu (λ d. d ≡ y) (queried.signature .params) (queried.ended .kept) (queried.clauses 𝓤 H A at-mem run) (known .k-queried) (a .1 .0, tt) (LL.vals R.the-type R′.the-laws (a .1 .0), tt) tt
+        covered 𝓤 H A W (𝓣 .C) (fmOf 𝓤 H (W .laws) 𝓣) hold queried.Symbol.name Qu (λ d. d ≡ y) (queried.signature .params) (queried.ended .kept) (queried.clauses 𝓤 H A at-mem run) (known .k-queried) (a .1 .0, tt) (LL.vals R.the-type R′.the-laws (a .1 .0), tt) tt
         (LL.makes R.the-type R′.the-plain 𝓤 H A, tt) (r-is, tt) (id⊢ 𝓤 (emp 𝓤)) (λ d e. id⊢ 𝓤 _)
 
     module _ (y-is : Is Q.the-row y (Qu .val y ∷ [])) where
-      ask-made : (k : ℕ) → Holds (ltb k (2 ^ 64)) → Gives 𝓤 H A W (𝓣 .C) hold ask-def.name (Qu .val y ∷ vint w64 k ∷ []) (valueAs As) (λ d. d ≡ askOf y k)
+      ask-made : (k : ℕ) → Holds (ltb k (2 ^ 64)) → Gives 𝓤 H A W (𝓣 .C) hold ask.Symbol.name (Qu .val y ∷ vint w64 k ∷ []) (valueAs As) (λ d. d ≡ askOf y k)
       ask-made k low =
-          covered 𝓤 H A W (𝓣 .C) (fmOf 𝓤 H (W .laws) 𝓣) hold ask-def.name As (λ d. d ≡ askOf y k) (ask.signature .params) (ask.ended .kept) (ask.clauses 𝓤 H A at-mem run) (known .k-ask) (y, (k, tt)) (Qu .val y ∷ [], (vint w64 k ∷ [], tt)) tt
+          covered 𝓤 H A W (𝓣 .C) (fmOf 𝓤 H (W .laws) 𝓣) hold ask.Symbol.name As (λ d. d ≡ askOf y k) (ask.signature .params) (ask.ended .kept) (ask.clauses 𝓤 H A at-mem run) (known .k-ask) (y, (k, tt)) (Qu .val y ∷ [], (vint w64 k ∷ [], tt)) tt
           (make-query, (uint-makes 𝓤 H A W w64, tt)) (y-is, ((refl, ltb→lt k (2 ^ 64) low), tt)) (id⊢ 𝓤 (emp 𝓤)) (λ d e. id⊢ 𝓤 _)
 
-      wire-made : Gives 𝓤 H A W (𝓣 .C) hold ask-wire-def.name (Qu .val y ∷ []) (valueAs Xs) (λ d. d ≡ wireAskOf y)
+      wire-made : Gives 𝓤 H A W (𝓣 .C) hold ask-wire.Symbol.name (Qu .val y ∷ []) (valueAs Xs) (λ d. d ≡ wireAskOf y)
       wire-made =
-          covered 𝓤 H A W (𝓣 .C) (fmOf 𝓤 H (W .laws) 𝓣) hold ask-wire-def.name Xs (λ d. d ≡ wireAskOf y) (ask-wire.signature .params) (ask-wire.ended .kept) (ask-wire.clauses 𝓤 H A at-mem run) (known .k-ask-wire) (y, tt) (Qu .val y ∷ [], tt) tt
+          covered 𝓤 H A W (𝓣 .C) (fmOf 𝓤 H (W .laws) 𝓣) hold ask-wire.Symbol.name Xs (λ d. d ≡ wireAskOf y) (ask-wire.signature .params) (ask-wire.ended .kept) (ask-wire.clauses 𝓤 H A at-mem run) (known .k-ask-wire) (y, tt) (Qu .val y ∷ [], tt) tt
           (make-query, tt) (y-is, tt) (id⊢ 𝓤 (emp 𝓤)) (λ d e. id⊢ 𝓤 _)
 
-      device-made : Gives 𝓤 H A W (𝓣 .C) hold ask-device-def.name (Qu .val y ∷ []) (valueAs As) (λ d. d ≡ deviceAskOf y)
+      device-made : Gives 𝓤 H A W (𝓣 .C) hold ask-device.Symbol.name (Qu .val y ∷ []) (valueAs As) (λ d. d ≡ deviceAskOf y)
       device-made =
-          covered 𝓤 H A W (𝓣 .C) (fmOf 𝓤 H (W .laws) 𝓣) hold ask-device-def.name As (λ d. d ≡ deviceAskOf y) (ask-device.signature .params) (ask-device.ended .kept) (ask-device.clauses 𝓤 H A at-mem run) (known .k-ask-device) (y, tt) (Qu .val y ∷ [], tt) tt
+          covered 𝓤 H A W (𝓣 .C) (fmOf 𝓤 H (W .laws) 𝓣) hold ask-device.Symbol.name As (λ d. d ≡ deviceAskOf y) (ask-device.signature .params) (ask-device.ended .kept) (ask-device.clauses 𝓤 H A at-mem run) (known .k-ask-device) (y, tt) (Qu .val y ∷ [], tt) tt
           (make-query, tt) (y-is, tt) (id⊢ 𝓤 (emp 𝓤)) (λ d e. id⊢ 𝓤 _)
 
-      event-made : (d : Seen) → Is S.the-row d (Se .val d ∷ []) → Gives 𝓤 H A W (𝓣 .C) hold ask-event-def.name (Qu .val y ∷ Se .val d ∷ []) (valueAs As) (λ z. z ≡ eventAskOf y d)
+      event-made : (d : Seen) → Is S.the-row d (Se .val d ∷ []) → Gives 𝓤 H A W (𝓣 .C) hold ask-event.Symbol.name (Qu .val y ∷ Se .val d ∷ []) (valueAs As) (λ z. z ≡ eventAskOf y d)
       event-made d d-is =
-          covered 𝓤 H A W (𝓣 .C) (fmOf 𝓤 H (W .laws) 𝓣) hold ask-event-def.name As (λ z. z ≡ eventAskOf y d) (ask-event.signature .params) (ask-event.ended .kept) (ask-event.clauses 𝓤 H A at-mem run) (known .k-ask-event) (y, (d, tt)) (Qu .val y ∷ [], (Se .val d ∷ [], tt)) tt
+          covered 𝓤 H A W (𝓣 .C) (fmOf 𝓤 H (W .laws) 𝓣) hold ask-event.Symbol.name As (λ z. z ≡ eventAskOf y d) (ask-event.signature .params) (ask-event.ended .kept) (ask-event.clauses 𝓤 H A at-mem run) (known .k-ask-event) (y, (d, tt)) (Qu .val y ∷ [], (Se .val d ∷ [], tt)) tt
           (make-query, (make-seen, tt)) (y-is, (d-is, tt)) (id⊢ 𝓤 (emp 𝓤)) (λ z e. id⊢ 𝓤 _)
 
-      lpi-made : (e : Seen) → Is S.the-row e (Se .val e ∷ []) → Gives 𝓤 H A W (𝓣 .C) hold ask-lpi-def.name (Qu .val y ∷ Se .val e ∷ []) (valueAs As) (λ z. z ≡ lpiAskOf y e)
+      lpi-made : (e : Seen) → Is S.the-row e (Se .val e ∷ []) → Gives 𝓤 H A W (𝓣 .C) hold ask-lpi.Symbol.name (Qu .val y ∷ Se .val e ∷ []) (valueAs As) (λ z. z ≡ lpiAskOf y e)
       lpi-made e e-is =
-          covered 𝓤 H A W (𝓣 .C) (fmOf 𝓤 H (W .laws) 𝓣) hold ask-lpi-def.name As (λ z. z ≡ lpiAskOf y e) (ask-lpi.signature .params) (ask-lpi.ended .kept) (ask-lpi.clauses 𝓤 H A at-mem run) (known .k-ask-lpi) (y, (e, tt)) (Qu .val y ∷ [], (Se .val e ∷ [], tt)) tt
+          covered 𝓤 H A W (𝓣 .C) (fmOf 𝓤 H (W .laws) 𝓣) hold ask-lpi.Symbol.name As (λ z. z ≡ lpiAskOf y e) (ask-lpi.signature .params) (ask-lpi.ended .kept) (ask-lpi.clauses 𝓤 H A at-mem run) (known .k-ask-lpi) (y, (e, tt)) (Qu .val y ∷ [], (Se .val e ∷ [], tt)) tt
           (make-query, (make-seen, tt)) (y-is, (e-is, tt)) (id⊢ 𝓤 (emp 𝓤)) (λ z e. id⊢ 𝓤 _)
 
       verdict-made : (m p w j d e l : Seen) → Is S.the-row m (Se .val m ∷ []) → Is S.the-row p (Se .val p ∷ []) → Is S.the-row w (Se .val w ∷ []) → Is S.the-row j (Se .val j ∷ []) → Is S.the-row d (Se .val d ∷ []) → Is S.the-row e (Se .val e ∷ []) → Is S.the-row l (Se .val l ∷ [])
-          → Gives 𝓤 H A W (𝓣 .C) hold verdict-def.name (Qu .val y ∷ Se .val m ∷ Se .val p ∷ Se .val w ∷ Se .val j ∷ Se .val d ∷ Se .val e ∷ Se .val l ∷ []) (valueAs Fo) (λ v. v ≡ verdictOf y m p w j d e l)
+          → Gives 𝓤 H A W (𝓣 .C) hold verdict.Symbol.name (Qu .val y ∷ Se .val m ∷ Se .val p ∷ Se .val w ∷ Se .val j ∷ Se .val d ∷ Se .val e ∷ Se .val l ∷ []) (valueAs Fo) (λ v. v ≡ verdictOf y m p w j d e l)
       verdict-made m p w j d e l m-is p-is w-is j-is d-is e-is l-is =
-          covered 𝓤 H A W (𝓣 .C) (fmOf 𝓤 H (W .laws) 𝓣) hold verdict-def.name Fo (λ v. v ≡ verdictOf y m p w j d e l) (verdict.signature .params) (verdict.ended .kept) (verdict.clauses 𝓤 H A at-mem run) (known .k-verdict) (y, (m, (p, (w, (j, (d, (e, (l, tt))))))))
+          covered 𝓤 H A W (𝓣 .C) (fmOf 𝓤 H (W .laws) 𝓣) hold verdict.Symbol.name Fo (λ v. v ≡ verdictOf y m p w j d e l) (verdict.signature .params) (verdict.ended .kept) (verdict.clauses 𝓤 H A at-mem run) (known .k-verdict) (y, (m, (p, (w, (j, (d, (e, (l, tt))))))))
           (Qu .val y ∷ [], (Se .val m ∷ [], (Se .val p ∷ [], (Se .val w ∷ [], (Se .val j ∷ [], (Se .val d ∷ [], (Se .val e ∷ [], (Se .val l ∷ [], tt)))))))) tt
           (make-query, (make-seen, (make-seen, (make-seen, (make-seen, (make-seen, (make-seen, (make-seen, tt)))))))) (y-is, (m-is, (p-is, (w-is, (j-is, (d-is, (e-is, (l-is, tt)))))))) (id⊢ 𝓤 (emp 𝓤)) (λ v e. id⊢ 𝓤 _)
 
@@ -197,8 +168,8 @@ module _ {M : Type 1} (𝓤 : URA M) (H : Heap 𝓤) (A : Atoms 𝓤) (W : Given
           auto-table 𝓤 H A W κ q r b o γ h into k pl pool ∷ fixed-table 𝓤 H A W κ q r b o γ h into k pl pool ∷ owners-table 𝓤 H A W κ q r b o γ h into Ra.the-row k own table ∷
           plainly K.the-row x (As .val x) (LL.makes K.the-type K′.the-plain 𝓤 H A x _ x-is) ∷ []
 
-      range-seen : Asks (pl (h .auto)) (pl (h .fixed)) (own (h .owners)) x → Gives 𝓤 H A W (𝓣 .C) hold range-def.name (flat (typesAt (slots 𝓤 H A W κ q r looked) (κ, tt)) (valsOf 𝓤 H A W κ q r looked)) (valueAs Se) (Sees (pl (h .auto)) (pl (h .fixed)) (own (h .owners)) x)
-      range-seen asked = passing 𝓤 H A W κ q r (𝓣 .C) (fmOf 𝓤 H (W .laws) 𝓣) range-def.name Se (Sees (pl (h .auto)) (pl (h .fixed)) (own (h .owners)) x) looked (range.ended .kept) (range.clauses 𝓤 H A at-mem run) (known .k-range) (λ γs. tt) (λ γs. factI 𝓤 _ (emp 𝓤) asked) (λ γs d e. id⊢ 𝓤 _)
+      range-seen : Asks (pl (h .auto)) (pl (h .fixed)) (own (h .owners)) x → Gives 𝓤 H A W (𝓣 .C) hold range.Symbol.name (flat (typesAt (slots 𝓤 H A W κ q r looked) (κ, tt)) (valsOf 𝓤 H A W κ q r looked)) (valueAs Se) (Sees (pl (h .auto)) (pl (h .fixed)) (own (h .owners)) x)
+      range-seen asked = passing 𝓤 H A W κ q r (𝓣 .C) (fmOf 𝓤 H (W .laws) 𝓣) range.Symbol.name Se (Sees (pl (h .auto)) (pl (h .fixed)) (own (h .owners)) x) looked (range.ended .kept) (range.clauses 𝓤 H A at-mem run) (known .k-range) (λ γs. tt) (λ γs. factI 𝓤 _ (emp 𝓤) asked) (λ γs d e. id⊢ 𝓤 _)
 
     module _ (x : WireAsk) (x-is : Is X.the-row x (Xs .val x ∷ [])) where
       abbrev wired : List (Arg 𝓤 H A W κ q r)
@@ -206,10 +177,10 @@ module _ {M : Type 1} (𝓤 : URA M) (H : Heap 𝓤) (A : Atoms 𝓤) (W : Given
           auto-table 𝓤 H A W κ q r b o γ h into input (λ p. p .input) (input-pool 𝓤 H A W) ∷ fixed-table 𝓤 H A W κ q r b o γ h into input (λ p. p .input) (input-pool 𝓤 H A W) ∷
           owners-table 𝓤 H A W κ q r b o γ h into Wi.the-row input (λ p. p .input) (input-holder 𝓤 H A W) ∷ plainly X.the-row x (Xs .val x) (LL.makes X.the-type X′.the-plain 𝓤 H A x _ x-is) ∷ []
 
-      wire-seen : WireAsks (h .auto .input) (h .fixed .input) (h .owners .input) x → Gives 𝓤 H A W (𝓣 .C) hold wire-def.name (flat (typesAt (slots 𝓤 H A W κ q r wired) (κ, tt)) (valsOf 𝓤 H A W κ q r wired)) (valueAs Se) (SeesWire (h .auto .input) (h .fixed .input) (h .owners .input) x)
-      wire-seen asked = passing 𝓤 H A W κ q r (𝓣 .C) (fmOf 𝓤 H (W .laws) 𝓣) wire-def.name Se (SeesWire (h .auto .input) (h .fixed .input) (h .owners .input) x) wired (wire.ended .kept) (wire.clauses 𝓤 H A at-mem run) (known .k-wire) (λ γs. tt) (λ γs. factI 𝓤 _ (emp 𝓤) asked) (λ γs d e. id⊢ 𝓤 _)
+      wire-seen : WireAsks (h .auto .input) (h .fixed .input) (h .owners .input) x → Gives 𝓤 H A W (𝓣 .C) hold wire.Symbol.name (flat (typesAt (slots 𝓤 H A W κ q r wired) (κ, tt)) (valsOf 𝓤 H A W κ q r wired)) (valueAs Se) (SeesWire (h .auto .input) (h .fixed .input) (h .owners .input) x)
+      wire-seen asked = passing 𝓤 H A W κ q r (𝓣 .C) (fmOf 𝓤 H (W .laws) 𝓣) wire.Symbol.name Se (SeesWire (h .auto .input) (h .fixed .input) (h .owners .input) x) wired (wire.ended .kept) (wire.clauses 𝓤 H A at-mem run) (known .k-wire) (λ γs. tt) (λ γs. factI 𝓤 _ (emp 𝓤) asked) (λ γs d e. id⊢ 𝓤 _)
 
-    walk : Runs W (𝓣 .C) hold (code.function .locals) (After 𝓤 H A W (f.signature .params) (f.ended .kept) Fo (f.clauses 𝓤 H A at-mem run) κ q bounds a vss tt) (none ∷ given W (flat (typesAt (f.signature .params) (κ, tt)) vss)) (code.function .body)
+    walk : Runs W (𝓣 .C) hold (f.Code.function .locals) (After 𝓤 H A W (f.signature .params) (f.ended .kept) Fo (f.clauses 𝓤 H A at-mem run) κ q bounds a vss tt) (none ∷ given W (flat (typesAt (f.signature .params) (κ, tt)) vss)) (f.Code.function .body)
     walk =
         make (valueAs Qu) y (arg refl tt nil) query-made tt refl (λ y-is.
         point {b = b} {o = o} {a = (o + auto-at) + pool-at mmio} refl refl tt tt (tt, tt) (point {b = b} {o = o} {a = (o + fixed-at) + pool-at mmio} refl refl tt tt (tt, tt) (point {b = b} {o = o} {a = (o + owners-at) + holder-at mmio} refl refl tt tt (tt, tt) (make (valueAs As) (askOf y 1) (arg refl tt (num tt nil)) (ask-made y-is 1 tt) tt refl (λ x-is.
@@ -230,25 +201,25 @@ module _ {M : Type 1} (𝓤 : URA M) (H : Heap 𝓤) (A : Atoms 𝓤) (W : Given
         (ends 𝓤 H A W (f.signature .params) (f.ended .kept) Fo (f.clauses 𝓤 H A at-mem run) (LL.makes F.the-type F′.the-plain 𝓤 H A) κ q bounds a vss tt (verdictOf y m p w j d e l) v-is (tt, (tt, tt))
         (factI 𝓤 _ (emp 𝓤) (finds h (a .1 .0) m p w j d e l ok (record { mmio = m-seen; pio = p-seen; input = w-seen; host = j-seen; device = d-seen; event = e-seen; lpi = l-seen })))))))))))))))))))))))))))))))))))))))))
 
-  f-meets : Meets 𝓤 H A f.signature (WpFn 𝓤 H (𝓣 .C) (𝓣 .Λ) code.function) (f.spec 𝓤 H A at-mem run)
+  f-meets : Meets 𝓤 H A f.signature (WpFn 𝓤 H (𝓣 .C) (𝓣 .Λ) f.Code.function) (f.spec 𝓤 H A at-mem run)
   f-meets =
-      frame 𝓤 H A W (f.signature .params) (f.ended .kept) Fo (f.clauses 𝓤 H A at-mem run) 𝓣 code.function (first (code.function .locals)) (others (code.function .locals)) refl
+      frame 𝓤 H A W (f.signature .params) (f.ended .kept) Fo (f.clauses 𝓤 H A at-mem run) 𝓣 f.Code.function (first (f.Code.function .locals)) (others (f.Code.function .locals)) refl
       (λ κs. (ptr-vals, (LL.vals R.the-type R′.the-laws, tt))) (λ κs. (shr-tells (named 0) (κs .0) T.the-row, (LL.tells R.the-type R′.the-laws, tt))) ((λ κs x f. refl), ((λ κs x f. refl), tt))
       (λ κ a. Sound (a .0 .now)) (λ κ a g. id⊢ 𝓤 _) (λ κ q bounds a g ok are. (((tt, tt), (LL.lawful R.the-type R′.the-laws 𝓤 H A W .typed (a .1 .0) _ (are .1 .0) .0, tt)), walk κ q bounds a ok (are .1 .0)))
 
-pub find-spec : {M : Type 1} → stated.statement M
-unfolding code.routine tablesOf
+pub find-spec : {M : Type 1} → f.Statement.statement M
+unfolding f.Code.routine tablesOf
 find-spec 𝓤 H 𝓜 𝓖 𝓡 =
     entered 𝓤 H (tripleOf 𝓤 H (𝓖 .A) f.signature (f.spec 𝓤 H (𝓖 .A) (𝓜 .mem) (𝓡 .run)))
-    (tables 𝓤 H 𝓜 𝓡 code.env .C) (tables 𝓤 H 𝓜 𝓡 code.env .Λ) #f code.function (code.unfolded 𝓤 H 𝓜 𝓡)
-    (f-meets 𝓤 H (𝓖 .A) (givenOf 𝓤 H 𝓜 𝓖) (𝓜 .mem) (𝓡 .run) (tablesOf 𝓤 H 𝓜 (tables 𝓤 H 𝓜 𝓡 code.env)) (record {
-      k-queried = cited 𝓤 H (tripleOf 𝓤 H (𝓖 .A) queried.signature (queried.spec 𝓤 H (𝓖 .A) (𝓜 .mem) (𝓡 .run))) 𝓜 𝓡 code.env queried-def.name queried-def.routine code.calls-finding·queried (queried-thm.met 𝓤 H 𝓜 𝓖 𝓡);
-      k-ask = cited 𝓤 H (tripleOf 𝓤 H (𝓖 .A) ask.signature (ask.spec 𝓤 H (𝓖 .A) (𝓜 .mem) (𝓡 .run))) 𝓜 𝓡 code.env ask-def.name ask-def.routine code.calls-finding·ask (ask-thm.met 𝓤 H 𝓜 𝓖 𝓡);
-      k-ask-wire = cited 𝓤 H (tripleOf 𝓤 H (𝓖 .A) ask-wire.signature (ask-wire.spec 𝓤 H (𝓖 .A) (𝓜 .mem) (𝓡 .run))) 𝓜 𝓡 code.env ask-wire-def.name ask-wire-def.routine code.calls-finding·ask-wire (ask-wire-thm.met 𝓤 H 𝓜 𝓖 𝓡);
-      k-ask-device = cited 𝓤 H (tripleOf 𝓤 H (𝓖 .A) ask-device.signature (ask-device.spec 𝓤 H (𝓖 .A) (𝓜 .mem) (𝓡 .run))) 𝓜 𝓡 code.env ask-device-def.name ask-device-def.routine code.calls-finding·ask-device (ask-device-thm.met 𝓤 H 𝓜 𝓖 𝓡);
-      k-ask-event = cited 𝓤 H (tripleOf 𝓤 H (𝓖 .A) ask-event.signature (ask-event.spec 𝓤 H (𝓖 .A) (𝓜 .mem) (𝓡 .run))) 𝓜 𝓡 code.env ask-event-def.name ask-event-def.routine code.calls-finding·ask-event (ask-event-thm.met 𝓤 H 𝓜 𝓖 𝓡);
-      k-ask-lpi = cited 𝓤 H (tripleOf 𝓤 H (𝓖 .A) ask-lpi.signature (ask-lpi.spec 𝓤 H (𝓖 .A) (𝓜 .mem) (𝓡 .run))) 𝓜 𝓡 code.env ask-lpi-def.name ask-lpi-def.routine code.calls-finding·ask-lpi (ask-lpi-thm.met 𝓤 H 𝓜 𝓖 𝓡);
-      k-range = cited 𝓤 H (tripleOf 𝓤 H (𝓖 .A) range.signature (range.spec 𝓤 H (𝓖 .A) (𝓜 .mem) (𝓡 .run))) 𝓜 𝓡 code.env range-def.name range-def.routine code.calls-look·range (range-thm.met 𝓤 H 𝓜 𝓖 𝓡);
-      k-wire = cited 𝓤 H (tripleOf 𝓤 H (𝓖 .A) wire.signature (wire.spec 𝓤 H (𝓖 .A) (𝓜 .mem) (𝓡 .run))) 𝓜 𝓡 code.env wire-def.name wire-def.routine code.calls-look·wire (wire-thm.met 𝓤 H 𝓜 𝓖 𝓡);
-      k-verdict = cited 𝓤 H (tripleOf 𝓤 H (𝓖 .A) verdict.signature (verdict.spec 𝓤 H (𝓖 .A) (𝓜 .mem) (𝓡 .run))) 𝓜 𝓡 code.env verdict-def.name verdict-def.routine code.calls-finding·verdict (verdict-thm.met 𝓤 H 𝓜 𝓖 𝓡);
+    (tables 𝓤 H 𝓜 𝓡 f.Code.env .C) (tables 𝓤 H 𝓜 𝓡 f.Code.env .Λ) f.Key.name f.Code.function (f.Code.unfolded 𝓤 H 𝓜 𝓡)
+    (f-meets 𝓤 H (𝓖 .A) (givenOf 𝓤 H 𝓜 𝓖) (𝓜 .mem) (𝓡 .run) (tablesOf 𝓤 H 𝓜 (tables 𝓤 H 𝓜 𝓡 f.Code.env)) (record {
+      k-queried = cited 𝓤 H (tripleOf 𝓤 H (𝓖 .A) queried.signature (queried.spec 𝓤 H (𝓖 .A) (𝓜 .mem) (𝓡 .run))) 𝓜 𝓡 f.Code.env queried.Symbol.name queried.Symbol.routine f.Code.calls-finding·queried (queried.Met.met 𝓤 H 𝓜 𝓖 𝓡);
+      k-ask = cited 𝓤 H (tripleOf 𝓤 H (𝓖 .A) ask.signature (ask.spec 𝓤 H (𝓖 .A) (𝓜 .mem) (𝓡 .run))) 𝓜 𝓡 f.Code.env ask.Symbol.name ask.Symbol.routine f.Code.calls-finding·ask (ask.Met.met 𝓤 H 𝓜 𝓖 𝓡);
+      k-ask-wire = cited 𝓤 H (tripleOf 𝓤 H (𝓖 .A) ask-wire.signature (ask-wire.spec 𝓤 H (𝓖 .A) (𝓜 .mem) (𝓡 .run))) 𝓜 𝓡 f.Code.env ask-wire.Symbol.name ask-wire.Symbol.routine f.Code.calls-finding·ask-wire (ask-wire.Met.met 𝓤 H 𝓜 𝓖 𝓡);
+      k-ask-device = cited 𝓤 H (tripleOf 𝓤 H (𝓖 .A) ask-device.signature (ask-device.spec 𝓤 H (𝓖 .A) (𝓜 .mem) (𝓡 .run))) 𝓜 𝓡 f.Code.env ask-device.Symbol.name ask-device.Symbol.routine f.Code.calls-finding·ask-device (ask-device.Met.met 𝓤 H 𝓜 𝓖 𝓡);
+      k-ask-event = cited 𝓤 H (tripleOf 𝓤 H (𝓖 .A) ask-event.signature (ask-event.spec 𝓤 H (𝓖 .A) (𝓜 .mem) (𝓡 .run))) 𝓜 𝓡 f.Code.env ask-event.Symbol.name ask-event.Symbol.routine f.Code.calls-finding·ask-event (ask-event.Met.met 𝓤 H 𝓜 𝓖 𝓡);
+      k-ask-lpi = cited 𝓤 H (tripleOf 𝓤 H (𝓖 .A) ask-lpi.signature (ask-lpi.spec 𝓤 H (𝓖 .A) (𝓜 .mem) (𝓡 .run))) 𝓜 𝓡 f.Code.env ask-lpi.Symbol.name ask-lpi.Symbol.routine f.Code.calls-finding·ask-lpi (ask-lpi.Met.met 𝓤 H 𝓜 𝓖 𝓡);
+      k-range = cited 𝓤 H (tripleOf 𝓤 H (𝓖 .A) range.signature (range.spec 𝓤 H (𝓖 .A) (𝓜 .mem) (𝓡 .run))) 𝓜 𝓡 f.Code.env range.Symbol.name range.Symbol.routine f.Code.calls-look·range (range.Met.met 𝓤 H 𝓜 𝓖 𝓡);
+      k-wire = cited 𝓤 H (tripleOf 𝓤 H (𝓖 .A) wire.signature (wire.spec 𝓤 H (𝓖 .A) (𝓜 .mem) (𝓡 .run))) 𝓜 𝓡 f.Code.env wire.Symbol.name wire.Symbol.routine f.Code.calls-look·wire (wire.Met.met 𝓤 H 𝓜 𝓖 𝓡);
+      k-verdict = cited 𝓤 H (tripleOf 𝓤 H (𝓖 .A) verdict.signature (verdict.spec 𝓤 H (𝓖 .A) (𝓜 .mem) (𝓡 .run))) 𝓜 𝓡 f.Code.env verdict.Symbol.name verdict.Symbol.routine f.Code.calls-finding·verdict (verdict.Met.met 𝓤 H 𝓜 𝓖 𝓡);
     }))

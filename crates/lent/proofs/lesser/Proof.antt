@@ -1,11 +1,8 @@
 -- `lent::lesser` meets its contract. Assumes nothing.
 use native.Mathlib.Omega.{arith}
-use borrow.Author.Tests.{leb-true, leb-false}
 use Rattle.lent.proofs.CutLaws.{lesser-low, lesser-high}
 use Rattle.lent.proofs.lesser.Statement.{statement}
 use Rattle.lent.proofs.lesser.Tie as tie
-use Rattle.lent.proofs.lesser.Reads as reads
-use Rattle.lent.proofs.lesser.Lts as lts
 
 -- src/lib.rt:33:9
 returns : tie.Need-returns

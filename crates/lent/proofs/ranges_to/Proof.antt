@@ -1,6 +1,6 @@
 -- `lent::ranges_to` meets its contract: after k turns the rows from m on, k - m of them, are zero. Assumes nothing.
 use mathlib.Core.Path.{_≡_}
-use Prim.Native.Nat.{ℕ, _-_, _≤_}
+use Prim.Native.Nat.{_-_, _≤_}
 use native.Mathlib.Omega.{arith}
 use borrow.Author.Needs.{needs}
 use Rattle.definition.specs.Tables.{rowLimit}
@@ -8,9 +8,6 @@ use Rattle.lent.specs.Cut.{zeroRanges}
 use Rattle.lent.proofs.CutLaws.{lesser-most, zero-none, zero-more, cut-done}
 use Rattle.lent.proofs.ranges_to.Statement.{statement}
 use Rattle.lent.proofs.ranges_to.Tie as tie
-use Rattle.lent.proofs.ranges_to.Reads as reads
-use Rattle.lent.proofs.ranges_to.Lts as lts
-use Rattle.lent.proofs.lesser.Reads as lesser-reads
 
 abbrev Inv-loop : tie.InvT-loop
 Inv-loop m end next₀ k₀ next k = (m ≤ k) × ((k - m ≤ end - m) × ((end ≤ rowLimit) × (next ≡ zeroRanges (next₀ .n) m next₀ (k - m))))
@@ -92,25 +89,5 @@ returns c = cut-done _ _ _ _ _ (c .before .before .lesser .ensures) (omega arith
 
 pub ranges-to-spec : {M : Type 1} → statement M
 ranges-to-spec =
-    tie.close
-    (tie.spec
-    Inv-loop
-    μ-loop
-    lesser-requires
-    loop-holds
-    mul-next
-    element-write-next
-    mul-next-2
-    element-write-next-2
-    mul-next-3
-    element-write-next-3
-    mul-next-4
-    element-write-next-4
-    mul-next-5
-    element-write-next-5
-    mul-next-6
-    element-write-next-6
-    add-k
-    loop-less
-    loop-again
-    returns)
+    tie.close (tie.spec Inv-loop μ-loop lesser-requires loop-holds mul-next element-write-next mul-next-2 element-write-next-2 mul-next-3 element-write-next-3
+    mul-next-4 element-write-next-4 mul-next-5 element-write-next-5 mul-next-6 element-write-next-6 add-k loop-less loop-again returns)

@@ -5,14 +5,6 @@ use lib.Seq.{length-take-le}
 use borrow.Author.Needs.{needs}
 use Rattle.lists.proofs.in_place.Statement.{statement}
 use Rattle.lists.proofs.in_place.Tie as tie
-use Rattle.lists.proofs.in_place.Reads as reads
-use Rattle.lists.proofs.in_place.Lts as lts
-use Rattle.lending.proofs.lend.Reads as lend-reads
-use Rattle.lists.proofs.expected.answer.Reads as answer-reads
-use Rattle.lists.proofs.expected.owners.Reads as owners-reads
-use Rattle.lists.proofs.expected.records.Reads as records-reads
-use Rattle.lists.proofs.given.Reads as given-reads
-use Rattle.lists.proofs.input.requests.Reads as requests-reads
 
 returns : tie.Need-returns
 returns c = search needs
@@ -26,14 +18,14 @@ requests-requires c κs = search needs
 given-requires : tie.Need-given-requires
 given-requires c κs = search needs
 
-slice-relend-prefix-lend : tie.Need-slice-relend-prefix-lend
-slice-relend-prefix-lend c = search needs
+slice-relend-prefix-place : tie.Need-slice-relend-prefix-place
+slice-relend-prefix-place c = search needs
 
-slice-aggregate-lend : tie.Need-slice-aggregate-lend
-slice-aggregate-lend c = sym (length-take-le _ _ (omega arith))
+slice-aggregate-place : tie.Need-slice-aggregate-place
+slice-aggregate-place c = sym (length-take-le _ _ (omega arith))
 
-lend-requires : tie.Need-lend-requires
-lend-requires c κs = search needs
+place-requires : tie.Need-place-requires
+place-requires c κs = search needs
 
 answer-requires : tie.Need-answer-requires
 answer-requires c κs = search needs
@@ -64,21 +56,5 @@ returns-5 c = search needs
 
 pub in-place-spec : {M : Type 1} → statement M
 in-place-spec =
-    tie.close
-    (tie.spec
-    returns
-    returns-2
-    requests-requires
-    given-requires
-    slice-relend-prefix-lend
-    slice-aggregate-lend
-    lend-requires
-    answer-requires
-    same-length
-    returns-3
-    owners-requires
-    same-length-2
-    returns-4
-    records-requires
-    same-length-3
-    returns-5)
+    tie.close (tie.spec returns returns-2 requests-requires given-requires slice-relend-prefix-place slice-aggregate-place place-requires answer-requires
+    same-length returns-3 owners-requires same-length-2 returns-4 records-requires same-length-3 returns-5)

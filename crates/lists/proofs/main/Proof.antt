@@ -4,13 +4,6 @@ use native.Mathlib.Omega.{arith}
 use borrow.Author.Needs.{needs}
 use Rattle.lists.proofs.main.Statement.{statement}
 use Rattle.lists.proofs.main.Tie as tie
-use Rattle.lists.proofs.main.Reads as reads
-use Rattle.lists.proofs.main.Lts as lts
-use Rattle.io.proofs.print_decimal.Reads as print-decimal-reads
-use Rattle.io.proofs.write_all.Reads as write-all-reads
-use Rattle.lists.proofs.case_at.Reads as case-at-reads
-use Rattle.lists.proofs.tried.Reads as tried-reads
-use Rattle.lists.proofs.handed.Reads as handed-reads
 
 abbrev Inv-loop : tie.InvT-loop
 Inv-loop k₀ t3 t4 t5 k = k ≤ 8
@@ -65,22 +58,5 @@ returns c = search needs
 
 pub main-spec : {M : Type 1} → statement M
 main-spec =
-    tie.close
-    (tie.spec
-    Inv-loop
-    μ-loop
-    loop-holds
-    case-at-requires
-    print-decimal-requires
-    tried-requires
-    handed-requires
-    slice-aggregate-write-all
-    write-all-requires
-    slice-aggregate-write-all-2
-    write-all-requires-2
-    slice-aggregate-write-all-3
-    write-all-requires-3
-    add-k
-    loop-less
-    loop-again
-    returns)
+    tie.close (tie.spec Inv-loop μ-loop loop-holds case-at-requires print-decimal-requires tried-requires handed-requires slice-aggregate-write-all
+    write-all-requires slice-aggregate-write-all-2 write-all-requires-2 slice-aggregate-write-all-3 write-all-requires-3 add-k loop-less loop-again returns)

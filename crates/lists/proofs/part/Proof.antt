@@ -5,12 +5,6 @@ use lib.Seq.{length-take-le}
 use borrow.Author.Needs.{needs}
 use Rattle.lists.proofs.part.Statement.{statement}
 use Rattle.lists.proofs.part.Tie as tie
-use Rattle.lists.proofs.part.Reads as reads
-use Rattle.lists.proofs.part.Lts as lts
-use Rattle.lending.proofs.filled.Reads as filled-reads
-use Rattle.lists.proofs.expected.front.Reads as front-reads
-use Rattle.lists.proofs.given.Reads as given-reads
-use Rattle.lists.proofs.input.requests.Reads as requests-reads
 
 returns : tie.Need-returns
 returns c = search needs
@@ -44,15 +38,5 @@ returns-3 c = search needs
 
 pub part-spec : {M : Type 1} → statement M
 part-spec =
-    tie.close
-    (tie.spec
-    returns
-    returns-2
-    requests-requires
-    given-requires
-    slice-relend-prefix-filled
-    slice-aggregate-filled
-    filled-requires
-    front-requires
-    same-length
-    returns-3)
+    tie.close (tie.spec returns returns-2 requests-requires given-requires slice-relend-prefix-filled slice-aggregate-filled filled-requires front-requires
+    same-length returns-3)

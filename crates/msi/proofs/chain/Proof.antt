@@ -38,16 +38,5 @@ returns-4 c = rw (c .with-room .ensures, c .before .before .before .before .befo
 
 pub chain-spec : {M : Type 1} → statement M
 chain-spec =
-    tie.close
-    (tie.spec
-    enum-known-first
-    enum-known-first-2
-    enum-known-second
-    enum-known-second-2
-    enum-known-third
-    enum-known-third-2
-    with-room-requires
-    returns
-    returns-2
-    returns-3
-    returns-4)
+    tie.close (tie.spec enum-known-first enum-known-first-2 enum-known-second enum-known-second-2 enum-known-third enum-known-third-2 with-room-requires returns
+    returns-2 returns-3 returns-4)

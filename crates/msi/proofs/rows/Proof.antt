@@ -30,13 +30,4 @@ returns : tie.Need-returns
 returns c = rw (c .before .before .before .before .row .ensures, c .before .before .row2 .ensures, c .row3 .ensures, c .before .before .before .before .before .device-need .ensures, c .before .before .before .event-need .ensures, c .before .lpi-need .ensures)
 
 pub rows-spec : {M : Type 1} → statement M
-rows-spec =
-    tie.close
-    (tie.spec
-    device-need-requires
-    row-requires
-    event-need-requires
-    row-requires-2
-    lpi-need-requires
-    row-requires-3
-    returns)
+rows-spec = tie.close (tie.spec device-need-requires row-requires event-need-requires row-requires-2 lpi-need-requires row-requires-3 returns)

@@ -43,16 +43,4 @@ returns c =
     sym (from-end _ _ _ _ (omega arith)) ∙ c .before .loop .inv .2 ∙ ap (λ (k : ℕ). pinFrom (a .results .now) 0 k (a .requests .now)) (c .before .before .lesser .ensures)
 
 pub pin-spec : {M : Type 1} → statement M
-pin-spec =
-    tie.close
-    (tie.spec
-    Inv-loop
-    μ-loop
-    lesser-requires
-    loop-holds
-    pin-one-requires
-    add-i
-    loop-less
-    loop-again
-    same-length
-    returns)
+pin-spec = tie.close (tie.spec Inv-loop μ-loop lesser-requires loop-holds pin-one-requires add-i loop-less loop-again same-length returns)

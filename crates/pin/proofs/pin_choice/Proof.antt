@@ -39,15 +39,5 @@ returns-2 c = sym (pin-auto _ _ _ (omega arith))
 
 pub pin-choice-spec : {M : Type 1} → statement M
 pin-choice-spec =
-    tie.close
-    (tie.spec
-    mul-code
-    slice-read-code
-    returns
-    mul-requests
-    slice-write-requests
-    add-requests
-    mul-requests-2
-    slice-write-requests-2
-    same-length
+    tie.close (tie.spec mul-code slice-read-code returns mul-requests slice-write-requests add-requests mul-requests-2 slice-write-requests-2 same-length
     returns-2)

@@ -119,42 +119,8 @@ returns-5 c = c .before .before .pin-choice5 .ensures ∙ one-plain _ _ _ (c .be
 
 pub pin-one-spec : {M : Type 1} → statement M
 pin-one-spec =
-    tie.close
-    (tie.spec
-    mul-to
-    mul-from
-    mul-kind
-    slice-read-kind
-    returns
-    returns-2
-    add-pin-choice
-    add-pin-choice-2
-    mul-pin-choice
-    shared-slice-read-pin-choice
-    pin-choice-requires
-    same-length
-    returns-3
-    add-pin-choice-3
-    add-pin-choice-4
-    mul-pin-choice-2
-    shared-slice-read-pin-choice-2
-    pin-choice-requires-2
-    add-pin-choice-5
-    add-pin-choice-6
-    mul-pin-choice-3
-    shared-slice-read-pin-choice-3
-    pin-choice-requires-3
-    add-pin-choice-7
-    add-pin-choice-8
-    mul-pin-choice-4
-    shared-slice-read-pin-choice-4
-    pin-choice-requires-4
-    same-length-2
-    returns-4
-    add-pin-choice-9
-    add-pin-choice-10
-    mul-pin-choice-5
-    shared-slice-read-pin-choice-5
-    pin-choice-requires-5
-    same-length-3
-    returns-5)
+    tie.close (tie.spec mul-to mul-from mul-kind slice-read-kind returns returns-2 add-pin-choice add-pin-choice-2 mul-pin-choice shared-slice-read-pin-choice
+    pin-choice-requires same-length returns-3 add-pin-choice-3 add-pin-choice-4 mul-pin-choice-2 shared-slice-read-pin-choice-2 pin-choice-requires-2
+    add-pin-choice-5 add-pin-choice-6 mul-pin-choice-3 shared-slice-read-pin-choice-3 pin-choice-requires-3 add-pin-choice-7 add-pin-choice-8 mul-pin-choice-4
+    shared-slice-read-pin-choice-4 pin-choice-requires-4 same-length-2 returns-4 add-pin-choice-9 add-pin-choice-10 mul-pin-choice-5
+    shared-slice-read-pin-choice-5 pin-choice-requires-5 same-length-3 returns-5)

@@ -35,13 +35,4 @@ returns-3 : tie.Need-returns-3
 returns-3 c = ap saidOf (c .plain3 .ensures) ∙ judged-unsound _ _ _ (c .before .if1 .left)
 
 pub judged-spec : {M : Type 1} → statement M
-judged-spec =
-    tie.close
-    (tie.spec
-    fits-requires
-    plain-requires
-    returns
-    plain-requires-2
-    returns-2
-    plain-requires-3
-    returns-3)
+judged-spec = tie.close (tie.spec fits-requires plain-requires returns plain-requires-2 returns-2 plain-requires-3 returns-3)

@@ -42,16 +42,5 @@ returns-2 c = search needs
 
 pub main-spec : {M : Type 1} → statement M
 main-spec =
-    tie.close
-    (tie.spec
-    slice-aggregate-read-input
-    read-input-requires
-    returns
-    array-share-prefix-text
-    slice-aggregate-respond
-    slice-aggregate-respond-2
-    respond-requires
-    array-share-prefix-out
-    slice-aggregate-write-all
-    write-all-requires
-    returns-2)
+    tie.close (tie.spec slice-aggregate-read-input read-input-requires returns array-share-prefix-text slice-aggregate-respond slice-aggregate-respond-2
+    respond-requires array-share-prefix-out slice-aggregate-write-all write-all-requires returns-2)

@@ -33,14 +33,4 @@ returns-2 : tie.Need-returns-2
 returns-2 c = rw (c .before .before .before .before .enum-told2 .given .1) (ap stateView (c .answered2 .ensures) ∙ sym (c .before .before .add-pool2 .ensures .adds fixed (c .before .before .before .before .before .before .args .s .auto) _ _ _))
 
 pub pooled-spec : {M : Type 1} → statement M
-pooled-spec =
-    tie.close
-    (tie.spec
-    enum-told
-    add-pool-requires
-    answered-requires
-    returns
-    enum-told-2
-    add-pool-requires-2
-    answered-requires-2
-    returns-2)
+pooled-spec = tie.close (tie.spec enum-told add-pool-requires answered-requires returns enum-told-2 add-pool-requires-2 answered-requires-2 returns-2)

@@ -48,17 +48,5 @@ returns-4 c = rw (c .before .enum-told .given .1) (c .started .ensures ∙ sym (
 
 pub serve-spec : {M : Type 1} → statement M
 serve-spec =
-    tie.close
-    (tie.spec
-    given-requires
-    answered-requires
-    returns
-    enum-known-c
-    pooled-requires
-    enum-known-c-2
-    kept-requires
-    enum-told
-    started-requires
-    returns-2
-    returns-3
-    returns-4)
+    tie.close (tie.spec given-requires answered-requires returns enum-known-c pooled-requires enum-known-c-2 kept-requires enum-told started-requires returns-2
+    returns-3 returns-4)

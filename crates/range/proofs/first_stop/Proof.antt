@@ -42,16 +42,4 @@ returns-2 : tie.Need-returns-2 Inv-loop μ-loop
 returns-2 c = let e : c .before .loop .k ≡ c .before .before .args .n = omega arith in sym (rw e at (c .before .loop .inv .1))
 
 pub first-stop-spec : {M : Type 1} → statement M
-first-stop-spec =
-    tie.close
-    (tie.spec
-    Inv-loop
-    μ-loop
-    loop-holds
-    pool-at-requires
-    row-stops-requires
-    returns
-    add-k
-    loop-less
-    loop-again
-    returns-2)
+first-stop-spec = tie.close (tie.spec Inv-loop μ-loop loop-holds pool-at-requires row-stops-requires returns add-k loop-less loop-again returns-2)

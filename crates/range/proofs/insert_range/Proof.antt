@@ -7,7 +7,7 @@ use Rattle.range.proofs.insert_range.Statement.{statement}
 use Rattle.range.proofs.insert_range.Tie as tie
 
 returns : tie.Need-returns
-returns c = λ k ok. enter-empty (c .before .before .args .t1) (c .before .before .args .r) (c .before .before .pre) k ok (c .if1 .taken)
+returns c = enter-empty (c .before .before .args .t1) (c .before .before .args .r) (c .before .before .pre) (c .if1 .taken)
 
 first-stop-requires : tie.Need-first-stop-requires
 first-stop-requires c κs = tidy-within (c .before .before .before .before .before .before .before .args .t1) (c .before .before .before .before .before .before .before .args .r) (c .before .before .before .before .before .before .before .pre)
@@ -16,13 +16,13 @@ enum-told : tie.Need-enum-told
 enum-told c = search needs
 
 returns-2 : tie.Need-returns-2
-returns-2 c = λ k ok. enter-there (c .before .before .before .before .before .before .before .before .before .before .args .t1) (c .before .before .before .before .before .before .before .before .before .before .args .r) (c .before .before .before .before .before .before .before .before .before .before .pre) k ok (c .before .before .before .before .before .before .before .before .if1 .left) _ (sym (c .enum-told .given .1) ∙ c .before .before .first-stop .ensures)
+returns-2 c = enter-there (c .before .before .before .before .before .before .before .before .before .before .args .t1) (c .before .before .before .before .before .before .before .before .before .before .args .r) (c .before .before .before .before .before .before .before .before .before .before .pre) (c .before .before .before .before .before .before .before .before .if1 .left) _ (sym (c .enum-told .given .1) ∙ c .before .before .first-stop .ensures)
 
 enum-told-2 : tie.Need-enum-told-2
 enum-told-2 c = search needs
 
 returns-3 : tie.Need-returns-3
-returns-3 c = λ k ok. enter-full (c .before .before .before .before .before .before .before .before .before .before .before .args .t1) (c .before .before .before .before .before .before .before .before .before .before .before .args .r) (c .before .before .before .before .before .before .before .before .before .before .before .pre) k ok (c .before .before .before .before .before .before .before .before .before .if1 .left) (sym (c .before .enum-told2 .given .1) ∙ c .before .before .before .first-stop .ensures) (c .if2 .taken)
+returns-3 c = enter-full (c .before .before .before .before .before .before .before .before .before .before .before .args .t1) (c .before .before .before .before .before .before .before .before .before .before .before .args .r) (c .before .before .before .before .before .before .before .before .before .before .before .pre) (c .before .before .before .before .before .before .before .before .before .if1 .left) (sym (c .before .enum-told2 .given .1) ∙ c .before .before .before .first-stop .ensures) (c .if2 .taken)
 
 place-requires : tie.Need-place-requires
 place-requires c κs = tidy-within (c .before .before .before .before .before .before .before .before .before .before .before .before .before .before .before .before .args .t1) (c .before .before .before .before .before .before .before .before .before .before .before .before .before .before .before .before .args .r) (c .before .before .before .before .before .before .before .before .before .before .before .before .before .before .before .before .pre)
@@ -31,18 +31,7 @@ open-row-requires : tie.Need-open-row-requires
 open-row-requires c κs = (place-le _ _ _ (c .place .ensures), c .before .before .before .before .before .before .if2 .left)
 
 returns-4 : tie.Need-returns-4
-returns-4 c = λ k ok. enter-new (c .before .before .before .before .before .before .before .before .before .before .before .before .before .before .before .before .before .before .args .t1) (c .before .before .before .before .before .before .before .before .before .before .before .before .before .before .before .before .before .before .args .r) (c .before .before .before .before .before .before .before .before .before .before .before .before .before .before .before .before .before .before .pre) k ok (c .before .before .before .before .before .before .before .before .before .before .before .before .before .before .before .before .if1 .left) (sym (c .before .before .before .before .before .before .before .before .enum-told2 .given .1) ∙ c .before .before .before .before .before .before .before .before .before .before .first-stop .ensures) _ _ (c .before .before .before .before .before .before .before .if2 .left) (c .before .place .ensures) (c .open-row .ensures)
+returns-4 c = enter-new (c .before .before .before .before .before .before .before .before .before .before .before .before .before .before .before .before .before .before .args .t1) (c .before .before .before .before .before .before .before .before .before .before .before .before .before .before .before .before .before .before .args .r) (c .before .before .before .before .before .before .before .before .before .before .before .before .before .before .before .before .before .before .pre) (c .before .before .before .before .before .before .before .before .before .before .before .before .before .before .before .before .if1 .left) (sym (c .before .before .before .before .before .before .before .before .enum-told2 .given .1) ∙ c .before .before .before .before .before .before .before .before .before .before .first-stop .ensures) _ _ (c .before .before .before .before .before .before .before .if2 .left) (c .before .place .ensures) (c .open-row .ensures)
 
 pub insert-range-spec : {M : Type 1} → statement M
-insert-range-spec =
-    tie.close
-    (tie.spec
-    returns
-    first-stop-requires
-    enum-told
-    returns-2
-    enum-told-2
-    returns-3
-    place-requires
-    open-row-requires
-    returns-4)
+insert-range-spec = tie.close (tie.spec returns first-stop-requires enum-told returns-2 enum-told-2 returns-3 place-requires open-row-requires returns-4)

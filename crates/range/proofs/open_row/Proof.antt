@@ -106,37 +106,7 @@ returns c = let e : c .before .loop .i ≡ c .before .before .args .at = omega a
 
 pub open-row-spec : {M : Type 1} → statement M
 open-row-spec =
-    tie.close
-    (tie.spec
-    Inv-loop
-    μ-loop
-    loop-holds
-    sub-k
-    mul-controller
-    element-copy-out-controller
-    mul-its
-    element-copy-out-its
-    mul-start
-    element-copy-out-start
-    mul-end
-    element-copy-out-end
-    mul-next
-    element-write-next
-    mul-next-2
-    element-write-next-2
-    mul-next-3
-    element-write-next-3
-    mul-next-4
-    element-write-next-4
-    loop-less
-    loop-again
-    mul-next-5
-    element-write-next-5
-    mul-next-6
-    element-write-next-6
-    mul-next-7
-    element-write-next-7
-    mul-next-8
-    element-write-next-8
-    add-next
-    returns)
+    tie.close (tie.spec Inv-loop μ-loop loop-holds sub-k mul-controller element-copy-out-controller mul-its element-copy-out-its mul-start
+    element-copy-out-start mul-end element-copy-out-end mul-next element-write-next mul-next-2 element-write-next-2 mul-next-3 element-write-next-3 mul-next-4
+    element-write-next-4 loop-less loop-again mul-next-5 element-write-next-5 mul-next-6 element-write-next-6 mul-next-7 element-write-next-7 mul-next-8
+    element-write-next-8 add-next returns)

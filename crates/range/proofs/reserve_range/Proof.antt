@@ -1,7 +1,7 @@
 -- The answer, and a row pushed where it is accepted. Assumes nothing.
 use borrow.Author.Needs.{needs}
 use mathlib.Core.Path.{_∙_, ap}
-use Rattle.range.proofs.HoldLaws.{held-accepted, held-refused}
+use Rattle.range.proofs.HoldLaws.{any-accepted, any-refused}
 use Rattle.range.specs.Places.{before}
 use Rattle.tables.proofs.PushLaws.{push-range-view}
 use Rattle.tables.specs.Sized.{SizedRanges}
@@ -17,13 +17,13 @@ refuse-range-requires : tie.Need-refuse-range-requires
 refuse-range-requires c κs = search needs
 
 returns : tie.Need-returns
-returns c = λ k ok. held-refused k _ _ _ (c .before .before .refuse-range .ensures .0 k ok) (c .if1 .taken)
+returns c = any-refused _ _ _ (c .before .before .refuse-range .ensures .0) (c .if1 .taken)
 
 push-range-requires : tie.Need-push-range-requires
 push-range-requires c κs = c .before .before .refuse-range .ensures .1 (c .if1 .left)
 
 returns-2 : tie.Need-returns-2
-returns-2 c = λ k ok. held-accepted k _ _ _ (c .before .before .before .refuse-range .ensures .0 k ok) _ (c .before .if1 .left) (ap rangesView (c .push-range .ensures) ∙ push-range-view (c .before .before .before .before .before .before .before .before .before .before .before .args .t1) _ _ _ _ (whole (c .before .before .before .before .before .before .before .before .before .before .before)) (c .before .before .before .refuse-range .ensures .1 (c .before .if1 .left)))
+returns-2 c = any-accepted _ _ _ (c .before .before .before .refuse-range .ensures .0) _ (c .before .if1 .left) (ap rangesView (c .push-range .ensures) ∙ push-range-view (c .before .before .before .before .before .before .before .before .before .before .before .args .t1) _ _ _ _ (whole (c .before .before .before .before .before .before .before .before .before .before .before)) (c .before .before .before .refuse-range .ensures .1 (c .before .if1 .left)))
 
 pub reserve-range-spec : {M : Type 1} → statement M
 reserve-range-spec =

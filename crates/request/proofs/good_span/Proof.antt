@@ -34,13 +34,4 @@ unfolding goodSpan
 returns-5 c = let a = c .before .before .before .before .before .before .args in rw (lt-ltb 0 (a .size) (omega arith), le-leb (a .size) (a .most) (omega arith), le-leb (a .alignment) (a .most) (omega arith), sym (c .before .before .one-bit .ensures) ∙ not-false (c .before .before .one-bit .result) (c .before .if4 .left)) (c .good-choice .ensures)
 
 pub good-span-spec : {M : Type 1} → statement M
-good-span-spec =
-    tie.close
-    (tie.spec
-    returns
-    returns-2
-    returns-3
-    one-bit-requires
-    returns-4
-    good-choice-requires
-    returns-5)
+good-span-spec = tie.close (tie.spec returns returns-2 returns-3 one-bit-requires returns-4 good-choice-requires returns-5)

@@ -54,20 +54,5 @@ returns-5 c = rw (c .before .before .want5 .given .1) (c .good-msi .ensures)
 
 pub good-want-spec : {M : Type 1} → statement M
 good-want-spec =
-    tie.close
-    (tie.spec
-    enum-known-want
-    good-span-requires
-    enum-known-want-2
-    good-span-requires-2
-    enum-known-want-3
-    good-wire-requires
-    enum-known-want-4
-    good-choice-requires
-    enum-known-want-5
-    good-msi-requires
-    returns
-    returns-2
-    returns-3
-    returns-4
-    returns-5)
+    tie.close (tie.spec enum-known-want good-span-requires enum-known-want-2 good-span-requires-2 enum-known-want-3 good-wire-requires enum-known-want-4
+    good-choice-requires enum-known-want-5 good-msi-requires returns returns-2 returns-3 returns-4 returns-5)

@@ -69,26 +69,5 @@ returns-7 c = rw (c .plain4 .ensures, c .before .enum-told4 .given .1)
 
 pub numbers-spec : {M : Type 1} → statement M
 numbers-spec =
-    tie.close
-    (tie.spec
-    enum-told
-    plain-requires
-    enum-told-2
-    plain-requires-2
-    enum-known-y
-    naming-requires
-    enum-known-y-2
-    naming-requires-2
-    enum-known-y-3
-    naming-requires-3
-    enum-told-3
-    plain-requires-3
-    enum-told-4
-    plain-requires-4
-    returns
-    returns-2
-    returns-3
-    returns-4
-    returns-5
-    returns-6
-    returns-7)
+    tie.close (tie.spec enum-told plain-requires enum-told-2 plain-requires-2 enum-known-y naming-requires enum-known-y-2 naming-requires-2 enum-known-y-3
+    naming-requires-3 enum-told-3 plain-requires-3 enum-told-4 plain-requires-4 returns returns-2 returns-3 returns-4 returns-5 returns-6 returns-7)

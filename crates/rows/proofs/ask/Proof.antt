@@ -36,12 +36,4 @@ returns-2 c = search needs
 
 pub ask-spec : {M : Type 1} → statement M
 ask-spec =
-    tie.close
-    (tie.spec
-    request-at-requires
-    returns
-    array-borrow-prefix-out
-    slice-aggregate-allocate-into
-    allocate-into-requires
-    show-record-requires
-    returns-2)
+    tie.close (tie.spec request-at-requires returns array-borrow-prefix-out slice-aggregate-allocate-into allocate-into-requires show-record-requires returns-2)

@@ -28,12 +28,4 @@ returns : tie.Need-returns
 returns c = search needs
 
 pub main-spec : {M : Type 1} → statement M
-main-spec =
-    tie.close
-    (tie.spec
-    slice-aggregate-read-full
-    read-full-requires
-    array-share-prefix-buf
-    slice-aggregate-run
-    run-requires
-    returns)
+main-spec = tie.close (tie.spec slice-aggregate-read-full read-full-requires array-share-prefix-buf slice-aggregate-run run-requires returns)

@@ -41,15 +41,4 @@ returns : tie.Need-returns Inv-loop μ-loop
 returns c = search needs
 
 pub run-spec : {M : Type 1} → statement M
-run-spec =
-    tie.close
-    (tie.spec
-    Inv-loop
-    μ-loop
-    fresh-requires
-    loop-holds
-    read-command-requires
-    apply-requires
-    loop-less
-    loop-again
-    returns)
+run-spec = tie.close (tie.spec Inv-loop μ-loop fresh-requires loop-holds read-command-requires apply-requires loop-less loop-again returns)

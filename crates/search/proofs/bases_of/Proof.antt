@@ -37,15 +37,4 @@ returns-3 c = some-bases _ _ _ (domain-same _ _ _ _ (omega arith) (omega arith))
 
 pub bases-of-spec : {M : Type 1} → statement M
 bases-of-spec =
-    tie.close
-    (tie.spec
-    mul-if1
-    element-copy-out-if1
-    returns
-    mul-if2
-    element-copy-out-if2
-    returns-2
-    mul-hi
-    element-copy-out-hi
-    bases-below-requires
-    returns-3)
+    tie.close (tie.spec mul-if1 element-copy-out-if1 returns mul-if2 element-copy-out-if2 returns-2 mul-hi element-copy-out-hi bases-below-requires returns-3)

@@ -111,25 +111,5 @@ returns-2 c =
 
 pub find-input-spec : {M : Type 1} → statement M
 find-input-spec =
-    tie.close
-    (tie.spec
-    Inv-inputs
-    μ-inputs
-    Inv-pools
-    μ-pools
-    one-input-requires
-    pools-holds
-    bases-of-requires
-    mul-c
-    element-copy-out-c
-    inputs-holds
-    next-input-requires
-    enum-told
-    enum-known-step
-    inputs-less
-    inputs-again
-    add-i
-    pools-less
-    pools-again
-    returns
-    returns-2)
+    tie.close (tie.spec Inv-inputs μ-inputs Inv-pools μ-pools one-input-requires pools-holds bases-of-requires mul-c element-copy-out-c inputs-holds
+    next-input-requires enum-told enum-known-step inputs-less inputs-again add-i pools-less pools-again returns returns-2)

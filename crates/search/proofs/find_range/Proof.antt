@@ -108,25 +108,5 @@ returns-2 c =
 
 pub find-range-spec : {M : Type 1} → statement M
 find-range-spec =
-    tie.close
-    (tie.spec
-    Inv-bases
-    μ-bases
-    Inv-pools
-    μ-pools
-    pools-holds
-    mul-lo
-    element-copy-out-lo
-    bases-of-requires
-    align-up-requires
-    bases-holds
-    next-step-requires
-    enum-told
-    enum-known-step
-    bases-less
-    bases-again
-    add-i
-    pools-less
-    pools-again
-    returns
-    returns-2)
+    tie.close (tie.spec Inv-bases μ-bases Inv-pools μ-pools pools-holds mul-lo element-copy-out-lo bases-of-requires align-up-requires bases-holds
+    next-step-requires enum-told enum-known-step bases-less bases-again add-i pools-less pools-again returns returns-2)

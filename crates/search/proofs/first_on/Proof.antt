@@ -61,20 +61,5 @@ returns-2 c =
 
 pub first-on-spec : {M : Type 1} → statement M
 first-on-spec =
-    tie.close
-    (tie.spec
-    Inv-loop
-    μ-loop
-    loop-holds
-    mul-if1
-    element-copy-out-if1
-    add-i
-    loop-less
-    loop-again
-    mul-if2
-    element-copy-out-if2
-    returns
-    add-i-2
-    loop-less-2
-    loop-again-2
-    returns-2)
+    tie.close (tie.spec Inv-loop μ-loop loop-holds mul-if1 element-copy-out-if1 add-i loop-less loop-again mul-if2 element-copy-out-if2 returns add-i-2
+    loop-less-2 loop-again-2 returns-2)

@@ -95,30 +95,6 @@ returns-2 c =
 
 pub first-overlap-spec : {M : Type 1} → statement M
 first-overlap-spec =
-    tie.close
-    (tie.spec
-    Inv-loop
-    μ-loop
-    loop-holds
-    mul-if1
-    element-copy-out-if1
-    add-i
-    loop-less
-    loop-again
-    mul-if2
-    element-copy-out-if2
-    add-i-2
-    loop-less-2
-    loop-again-2
-    mul-same-domain
-    element-copy-out-same-domain
-    mul-same-domain-2
-    element-copy-out-same-domain-2
-    mul-same-domain-3
-    element-copy-out-same-domain-3
-    same-domain-requires
-    returns
-    add-i-3
-    loop-less-3
-    loop-again-3
-    returns-2)
+    tie.close (tie.spec Inv-loop μ-loop loop-holds mul-if1 element-copy-out-if1 add-i loop-less loop-again mul-if2 element-copy-out-if2 add-i-2 loop-less-2
+    loop-again-2 mul-same-domain element-copy-out-same-domain mul-same-domain-2 element-copy-out-same-domain-2 mul-same-domain-3 element-copy-out-same-domain-3
+    same-domain-requires returns add-i-3 loop-less-3 loop-again-3 returns-2)

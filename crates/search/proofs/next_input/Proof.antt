@@ -1,5 +1,4 @@
 -- One pass over the holders of inputs: what it has passed is tried, and an input that has not moved is free. Assumes nothing.
-use borrow.Author.Needs.{needs}
 use native.Mathlib.Nat.{mod-one}
 use native.Mathlib.Omega.{arith}
 use Prim.Native.Nat.{_-_, _≤_}
@@ -42,16 +41,4 @@ returns-3 : tie.Need-returns-3 Inv-loop μ-loop
 returns-3 c = let e : c .before .before .loop .i ≡ c .before .before .before .args .n = omega arith in pass-to _ _ _ _ _ _ (rw e at (c .before .before .loop .inv .1)) (c .if2 .left)
 
 pub next-input-spec : {M : Type 1} → statement M
-next-input-spec =
-    tie.close
-    (tie.spec
-    Inv-loop
-    μ-loop
-    loop-holds
-    past-input-requires
-    returns
-    add-i
-    loop-less
-    loop-again
-    returns-2
-    returns-3)
+next-input-spec = tie.close (tie.spec Inv-loop μ-loop loop-holds past-input-requires returns add-i loop-less loop-again returns-2 returns-3)

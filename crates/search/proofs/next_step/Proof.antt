@@ -41,16 +41,4 @@ returns-3 : tie.Need-returns-3 Inv-loop μ-loop
 returns-3 c = let e : c .before .before .loop .i ≡ c .before .before .before .args .n = omega arith in pass-to _ _ _ _ _ _ (rw e at (c .before .before .loop .inv .1)) (c .if2 .left)
 
 pub next-step-spec : {M : Type 1} → statement M
-next-step-spec =
-    tie.close
-    (tie.spec
-    Inv-loop
-    μ-loop
-    loop-holds
-    past-row-requires
-    returns
-    add-i
-    loop-less
-    loop-again
-    returns-2
-    returns-3)
+next-step-spec = tie.close (tie.spec Inv-loop μ-loop loop-holds past-row-requires returns add-i loop-less loop-again returns-2 returns-3)

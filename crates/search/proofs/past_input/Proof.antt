@@ -35,14 +35,4 @@ returns-3 : tie.Need-returns-3
 returns-3 c = inl (sym (input-meets _ _ _) ∙ off-controller _ _ _ _ 0 0 0 _ _ _ (c .if2 .left), refl)
 
 pub past-input-spec : {M : Type 1} → statement M
-past-input-spec =
-    tie.close
-    (tie.spec
-    mul-if1
-    element-copy-out-if1
-    returns
-    mul-if2
-    element-copy-out-if2
-    add-result
-    returns-2
-    returns-3)
+past-input-spec = tie.close (tie.spec mul-if1 element-copy-out-if1 returns mul-if2 element-copy-out-if2 add-result returns-2 returns-3)

@@ -66,22 +66,6 @@ returns-4 c = inl (apart-dom _ _ (sym (c .before .same-domain .ensures) ∙ c .i
 
 pub past-row-spec : {M : Type 1} → statement M
 past-row-spec =
-    tie.close
-    (tie.spec
-    mul-past
-    element-copy-out-past
-    returns
-    add-if2
-    mul-if2
-    element-copy-out-if2
-    returns-2
-    mul-same-domain
-    element-copy-out-same-domain
-    mul-same-domain-2
-    element-copy-out-same-domain-2
-    mul-same-domain-3
-    element-copy-out-same-domain-3
-    same-domain-requires
-    align-up-requires
-    returns-3
+    tie.close (tie.spec mul-past element-copy-out-past returns add-if2 mul-if2 element-copy-out-if2 returns-2 mul-same-domain element-copy-out-same-domain
+    mul-same-domain-2 element-copy-out-same-domain-2 mul-same-domain-3 element-copy-out-same-domain-3 same-domain-requires align-up-requires returns-3
     returns-4)

@@ -30,14 +30,4 @@ returns-4 : tie.Need-returns-4
 returns-4 c = by-pool _ _ _ _ (omega arith) (omega arith) (c .held-by-one .ensures)
 
 pub range-allowed-spec : {M : Type 1} → statement M
-range-allowed-spec =
-    tie.close
-    (tie.spec
-    rem-if1
-    returns
-    limit-requires
-    returns-2
-    returns-3
-    add-e
-    held-by-one-requires
-    returns-4)
+range-allowed-spec = tie.close (tie.spec rem-if1 returns limit-requires returns-2 returns-3 add-e held-by-one-requires returns-4)

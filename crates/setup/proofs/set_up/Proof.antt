@@ -526,175 +526,20 @@ returns-2 c = refused-out _ _ (rw (c .state-of2 .ensures) (c .before .before .be
 
 pub set-up-spec : {M : Type 1} → statement M
 set-up-spec =
-    tie.close
-    (tie.spec
-    Inv-loop
-    μ-loop
-    fresh-pools-requires
-    fresh-ranges-requires
-    fresh-wires-requires
-    loop-holds
-    find-requires
-    entry-at-requires
-    enum-told
-    state-of-requires
-    returns
-    enum-known-p
-    add-pool-requires
-    add-at
-    add-lines
-    loop-less
-    loop-again
-    enum-known-p-2
-    add-pool-requires-2
-    add-at-2
-    add-lines-2
-    loop-less-2
-    loop-again-2
-    enum-known-r
-    refuse-range-requires
-    add-at-3
-    add-lines-3
-    loop-less-3
-    loop-again-3
-    mul-mmio
-    element-write-mmio
-    mul-mmio-2
-    element-write-mmio-2
-    mul-mmio-3
-    element-write-mmio-3
-    mul-mmio-4
-    element-write-mmio-4
-    mul-mmio-5
-    element-write-mmio-5
-    mul-mmio-6
-    element-write-mmio-6
-    add-mmio
-    loop-less-4
-    loop-again-4
-    enum-known-r-2
-    refuse-range-requires-2
-    add-at-4
-    add-lines-4
-    loop-less-5
-    loop-again-5
-    mul-pio
-    element-write-pio
-    mul-pio-2
-    element-write-pio-2
-    mul-pio-3
-    element-write-pio-3
-    mul-pio-4
-    element-write-pio-4
-    mul-pio-5
-    element-write-pio-5
-    mul-pio-6
-    element-write-pio-6
-    add-pio
-    loop-less-6
-    loop-again-6
-    enum-known-r-3
-    refuse-range-requires-3
-    add-at-5
-    add-lines-5
-    loop-less-7
-    loop-again-7
-    mul-host
-    element-write-host
-    mul-host-2
-    element-write-host-2
-    mul-host-3
-    element-write-host-3
-    mul-host-4
-    element-write-host-4
-    mul-host-5
-    element-write-host-5
-    mul-host-6
-    element-write-host-6
-    add-host
-    loop-less-8
-    loop-again-8
-    enum-known-r-4
-    refuse-input-requires
-    add-at-6
-    add-lines-6
-    loop-less-9
-    loop-again-9
-    mul-input
-    element-write-input
-    mul-input-2
-    element-write-input-2
-    mul-input-3
-    element-write-input-3
-    mul-input-4
-    element-write-input-4
-    mul-input-5
-    element-write-input-5
-    add-input
-    loop-less-10
-    loop-again-10
-    enum-known-r-5
-    refuse-range-requires-4
-    add-at-7
-    add-lines-7
-    loop-less-11
-    loop-again-11
-    mul-device
-    element-write-device
-    mul-device-2
-    element-write-device-2
-    mul-device-3
-    element-write-device-3
-    mul-device-4
-    element-write-device-4
-    mul-device-5
-    element-write-device-5
-    mul-device-6
-    element-write-device-6
-    add-device
-    loop-less-12
-    loop-again-12
-    enum-known-r-6
-    refuse-range-requires-5
-    add-at-8
-    add-lines-8
-    loop-less-13
-    loop-again-13
-    mul-event
-    element-write-event
-    mul-event-2
-    element-write-event-2
-    mul-event-3
-    element-write-event-3
-    mul-event-4
-    element-write-event-4
-    mul-event-5
-    element-write-event-5
-    mul-event-6
-    element-write-event-6
-    add-event
-    loop-less-14
-    loop-again-14
-    enum-known-r-7
-    refuse-range-requires-6
-    add-at-9
-    add-lines-9
-    loop-less-15
-    loop-again-15
-    mul-lpi
-    element-write-lpi
-    mul-lpi-2
-    element-write-lpi-2
-    mul-lpi-3
-    element-write-lpi-3
-    mul-lpi-4
-    element-write-lpi-4
-    mul-lpi-5
-    element-write-lpi-5
-    mul-lpi-6
-    element-write-lpi-6
-    add-lpi
-    loop-less-16
-    loop-again-16
-    state-of-requires-2
-    returns-2)
+    tie.close (tie.spec Inv-loop μ-loop fresh-pools-requires fresh-ranges-requires fresh-wires-requires loop-holds find-requires entry-at-requires enum-told
+    state-of-requires returns enum-known-p add-pool-requires add-at add-lines loop-less loop-again enum-known-p-2 add-pool-requires-2 add-at-2 add-lines-2
+    loop-less-2 loop-again-2 enum-known-r refuse-range-requires add-at-3 add-lines-3 loop-less-3 loop-again-3 mul-mmio element-write-mmio mul-mmio-2
+    element-write-mmio-2 mul-mmio-3 element-write-mmio-3 mul-mmio-4 element-write-mmio-4 mul-mmio-5 element-write-mmio-5 mul-mmio-6 element-write-mmio-6
+    add-mmio loop-less-4 loop-again-4 enum-known-r-2 refuse-range-requires-2 add-at-4 add-lines-4 loop-less-5 loop-again-5 mul-pio element-write-pio mul-pio-2
+    element-write-pio-2 mul-pio-3 element-write-pio-3 mul-pio-4 element-write-pio-4 mul-pio-5 element-write-pio-5 mul-pio-6 element-write-pio-6 add-pio
+    loop-less-6 loop-again-6 enum-known-r-3 refuse-range-requires-3 add-at-5 add-lines-5 loop-less-7 loop-again-7 mul-host element-write-host mul-host-2
+    element-write-host-2 mul-host-3 element-write-host-3 mul-host-4 element-write-host-4 mul-host-5 element-write-host-5 mul-host-6 element-write-host-6
+    add-host loop-less-8 loop-again-8 enum-known-r-4 refuse-input-requires add-at-6 add-lines-6 loop-less-9 loop-again-9 mul-input element-write-input
+    mul-input-2 element-write-input-2 mul-input-3 element-write-input-3 mul-input-4 element-write-input-4 mul-input-5 element-write-input-5 add-input
+    loop-less-10 loop-again-10 enum-known-r-5 refuse-range-requires-4 add-at-7 add-lines-7 loop-less-11 loop-again-11 mul-device element-write-device
+    mul-device-2 element-write-device-2 mul-device-3 element-write-device-3 mul-device-4 element-write-device-4 mul-device-5 element-write-device-5 mul-device-6
+    element-write-device-6 add-device loop-less-12 loop-again-12 enum-known-r-6 refuse-range-requires-5 add-at-8 add-lines-8 loop-less-13 loop-again-13
+    mul-event element-write-event mul-event-2 element-write-event-2 mul-event-3 element-write-event-3 mul-event-4 element-write-event-4 mul-event-5
+    element-write-event-5 mul-event-6 element-write-event-6 add-event loop-less-14 loop-again-14 enum-known-r-7 refuse-range-requires-6 add-at-9 add-lines-9
+    loop-less-15 loop-again-15 mul-lpi element-write-lpi mul-lpi-2 element-write-lpi-2 mul-lpi-3 element-write-lpi-3 mul-lpi-4 element-write-lpi-4 mul-lpi-5
+    element-write-lpi-5 mul-lpi-6 element-write-lpi-6 add-lpi loop-less-16 loop-again-16 state-of-requires-2 returns-2)

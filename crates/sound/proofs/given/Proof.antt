@@ -89,25 +89,6 @@ returns-7 c = rw (c .before .lpi-limits .ensures) at (c .ranges-given6 .ensures)
 
 pub given-spec : {M : Type 1} → statement M
 given-spec =
-    tie.close
-    (tie.spec
-    mmio-limits-requires
-    ranges-given-requires
-    returns
-    pio-limits-requires
-    ranges-given-requires-2
-    returns-2
-    wires-given-requires
-    returns-3
-    host-limits-requires
-    ranges-given-requires-3
-    returns-4
-    device-limits-requires
-    ranges-given-requires-4
-    returns-5
-    event-limits-requires
-    ranges-given-requires-5
-    returns-6
-    lpi-limits-requires
-    ranges-given-requires-6
-    returns-7)
+    tie.close (tie.spec mmio-limits-requires ranges-given-requires returns pio-limits-requires ranges-given-requires-2 returns-2 wires-given-requires returns-3
+    host-limits-requires ranges-given-requires-3 returns-4 device-limits-requires ranges-given-requires-4 returns-5 event-limits-requires
+    ranges-given-requires-5 returns-6 lpi-limits-requires ranges-given-requires-6 returns-7)

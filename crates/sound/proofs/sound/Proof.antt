@@ -89,25 +89,6 @@ returns-7 c = rw (c .before .lpi-limits .ensures) at (c .ranges-set6 .ensures) â
 
 pub sound-spec : {M : Type 1} â†’ statement M
 sound-spec =
-    tie.close
-    (tie.spec
-    mmio-limits-requires
-    ranges-set-requires
-    returns
-    pio-limits-requires
-    ranges-set-requires-2
-    returns-2
-    wires-set-requires
-    returns-3
-    host-limits-requires
-    ranges-set-requires-3
-    returns-4
-    device-limits-requires
-    ranges-set-requires-4
-    returns-5
-    event-limits-requires
-    ranges-set-requires-5
-    returns-6
-    lpi-limits-requires
-    ranges-set-requires-6
-    returns-7)
+    tie.close (tie.spec mmio-limits-requires ranges-set-requires returns pio-limits-requires ranges-set-requires-2 returns-2 wires-set-requires returns-3
+    host-limits-requires ranges-set-requires-3 returns-4 device-limits-requires ranges-set-requires-4 returns-5 event-limits-requires ranges-set-requires-5
+    returns-6 lpi-limits-requires ranges-set-requires-6 returns-7)

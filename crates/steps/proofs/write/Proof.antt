@@ -54,15 +54,5 @@ returns-2 c =
 
 pub write-spec : {M : Type 1} → statement M
 write-spec =
-    tie.close
-    (tie.spec
-    mul-place
-    record-of-requires
-    mul-write-record
-    sub-write-record
-    part-write-record-start
-    part-write-record-end
-    write-record-requires
-    same-length
-    returns
-    returns-2)
+    tie.close (tie.spec mul-place record-of-requires mul-write-record sub-write-record part-write-record-start part-write-record-end write-record-requires
+    same-length returns returns-2)

@@ -36,16 +36,16 @@ start-requires : tie.Need-start-requires
 start-requires c κs = search needs
 
 array-share-prefix-numbers : tie.Need-array-share-prefix-numbers
-array-share-prefix-numbers c = omega (arith, c .before .before .read-wants .ensures .few, c .before .before .read-wants .ensures .long)
+array-share-prefix-numbers c = omega (arith, c .before .before .read-wants .ensures .0 .few, c .before .before .read-wants .ensures .0 .long)
 
-slice-aggregate-plan : tie.Need-slice-aggregate-plan
-slice-aggregate-plan c = let r = c .before .before .before .read-wants in sym (length-take-le (12 * r .result .count) (r .last .1 .1 .0) (omega (arith, r .ensures .few, r .ensures .long)))
+slice-aggregate-plan-by-value : tie.Need-slice-aggregate-plan-by-value
+slice-aggregate-plan-by-value c = let r = c .before .before .before .read-wants in sym (length-take-le (12 * r .result .count) (r .last .1 .1 .0) (omega (arith, r .ensures .0 .few, r .ensures .0 .long)))
 
-slice-aggregate-plan-2 : tie.Need-slice-aggregate-plan-2
-slice-aggregate-plan-2 c = search needs
+slice-aggregate-plan-by-value-2 : tie.Need-slice-aggregate-plan-by-value-2
+slice-aggregate-plan-by-value-2 c = search needs
 
-plan-requires : tie.Need-plan-requires
-plan-requires c κs = tt
+plan-by-value-requires : tie.Need-plan-by-value-requires
+plan-by-value-requires c κs = tt
 
 add-line : tie.Need-add-line
 add-line c =
@@ -54,9 +54,9 @@ add-line c =
     let ok = c .before .before .before .before .before .before .before .before .before .before .before .if1 .left in
     let w = c .before .before .before .before .before .before .before .before .before .read-wants .result in
     let rq = c .before .before .before .before .before .before .before .before .before .read-wants .last .1 .1 .0 in
-    let r = c .before .before .before .before .before .before .before .before .before .read-wants .ensures in
+    let r = c .before .before .before .before .before .before .before .before .before .read-wants .ensures .0 in
     let e = ends (a .text .now) (p .0 .0) (a .head) (p .1) ok rq w r (stateView (c .before .before .before .before .before .before .before .start .result)) (c .before .before .before .before .before .before .before .start .ensures)
-    (stateView (c .before .before .before .before .plan .result)) blank (c .before .before .before .before .plan .last .1 .1 .0) blank-long (c .before .before .before .before .plan .ensures) in
+    (stateView (c .before .before .before .before .plan-by-value .result)) blank (c .before .before .before .before .plan-by-value .last .1 .1 .0) blank-long (c .before .before .before .before .plan-by-value .ensures) in
     omega (arith, e .index (c .before .if2 .taken), p .1 .taken .counted, p .1 .taken .inside, p .0 .0)
 
 add-line-2 : tie.Need-add-line-2
@@ -66,9 +66,9 @@ add-line-2 c =
     let ok = c .before .before .before .before .before .before .before .before .before .before .before .if1 .left in
     let w = c .before .before .before .before .before .before .before .before .before .read-wants .result in
     let rq = c .before .before .before .before .before .before .before .before .before .read-wants .last .1 .1 .0 in
-    let r = c .before .before .before .before .before .before .before .before .before .read-wants .ensures in
+    let r = c .before .before .before .before .before .before .before .before .before .read-wants .ensures .0 in
     let e = ends (a .text .now) (p .0 .0) (a .head) (p .1) ok rq w r (stateView (c .before .before .before .before .before .before .before .start .result)) (c .before .before .before .before .before .before .before .start .ensures)
-    (stateView (c .before .before .before .before .plan .result)) blank (c .before .before .before .before .plan .last .1 .1 .0) blank-long (c .before .before .before .before .plan .ensures) in
+    (stateView (c .before .before .before .before .plan-by-value .result)) blank (c .before .before .before .before .plan-by-value .last .1 .1 .0) blank-long (c .before .before .before .before .plan-by-value .ensures) in
     omega (arith, e .index (c .before .if2 .taken), p .1 .taken .counted, p .1 .taken .inside, p .0 .0)
 
 refuse-requires-2 : tie.Need-refuse-requires-2
@@ -78,9 +78,9 @@ refuse-requires-2 c κs =
     let ok = c .before .before .before .before .before .before .before .before .before .before .before .before .if1 .left in
     let w = c .before .before .before .before .before .before .before .before .before .before .read-wants .result in
     let rq = c .before .before .before .before .before .before .before .before .before .before .read-wants .last .1 .1 .0 in
-    let r = c .before .before .before .before .before .before .before .before .before .before .read-wants .ensures in
+    let r = c .before .before .before .before .before .before .before .before .before .before .read-wants .ensures .0 in
     let e = ends (a .text .now) (p .0 .0) (a .head) (p .1) ok rq w r (stateView (c .before .before .before .before .before .before .before .before .start .result)) (c .before .before .before .before .before .before .before .before .start .ensures)
-    (stateView (c .before .before .before .before .before .plan .result)) blank (c .before .before .before .before .before .plan .last .1 .1 .0) blank-long (c .before .before .before .before .before .plan .ensures) in
+    (stateView (c .before .before .before .before .before .plan-by-value .result)) blank (c .before .before .before .before .before .plan-by-value .last .1 .1 .0) blank-long (c .before .before .before .before .before .plan-by-value .ensures) in
     omega (arith, ap length (e .refused (c .before .before .if2 .taken)), output-length (a .text .now))
 
 same-length-2 : tie.Need-same-length-2
@@ -93,9 +93,9 @@ returns-2 c =
     let ok = c .before .before .before .before .before .before .before .before .before .before .before .before .before .before .before .if1 .left in
     let w = c .before .before .before .before .before .before .before .before .before .before .before .before .before .read-wants .result in
     let rq = c .before .before .before .before .before .before .before .before .before .before .before .before .before .read-wants .last .1 .1 .0 in
-    let r = c .before .before .before .before .before .before .before .before .before .before .before .before .before .read-wants .ensures in
+    let r = c .before .before .before .before .before .before .before .before .before .before .before .before .before .read-wants .ensures .0 in
     let e = ends (a .text .now) (p .0 .0) (a .head) (p .1) ok rq w r (stateView (c .before .before .before .before .before .before .before .before .before .before .before .start .result)) (c .before .before .before .before .before .before .before .before .before .before .before .start .ensures)
-    (stateView (c .before .before .before .before .before .before .before .before .plan .result)) blank (c .before .before .before .before .before .before .before .before .plan .last .1 .1 .0) blank-long (c .before .before .before .before .before .before .before .before .plan .ensures) in
+    (stateView (c .before .before .before .before .before .before .before .before .plan-by-value .result)) blank (c .before .before .before .before .before .before .before .before .plan-by-value .last .1 .1 .0) blank-long (c .before .before .before .before .before .before .before .before .plan-by-value .ensures) in
     rw (e .refused (c .before .before .before .before .before .if2 .taken)) (c .before .before .refuse2 .ensures)
 
 slice-aggregate-finish : tie.Need-slice-aggregate-finish
@@ -108,10 +108,10 @@ finish-requires c κs =
     let ok = c .before .before .before .before .before .before .before .before .before .before .before .before .if1 .left in
     let w = c .before .before .before .before .before .before .before .before .before .before .read-wants .result in
     let rq = c .before .before .before .before .before .before .before .before .before .before .read-wants .last .1 .1 .0 in
-    let r = c .before .before .before .before .before .before .before .before .before .before .read-wants .ensures in
+    let r = c .before .before .before .before .before .before .before .before .before .before .read-wants .ensures .0 in
     let e = ends (a .text .now) (p .0 .0) (a .head) (p .1) ok rq w r (stateView (c .before .before .before .before .before .before .before .before .start .result)) (c .before .before .before .before .before .before .before .before .start .ensures)
-    (stateView (c .before .before .before .before .before .plan .result)) blank (c .before .before .before .before .before .plan .last .1 .1 .0) blank-long (c .before .before .before .before .before .plan .ensures) in
-    let long : length (c .before .before .before .before .before .plan .last .1 .1 .0) ≡ 1152 = search needs in
+    (stateView (c .before .before .before .before .before .plan-by-value .result)) blank (c .before .before .before .before .before .plan-by-value .last .1 .1 .0) blank-long (c .before .before .before .before .before .plan-by-value .ensures) in
+    let long : length (c .before .before .before .before .before .plan-by-value .last .1 .1 .0) ≡ 1152 = search needs in
     ((omega (arith, p .1 .taken .counted, p .1 .taken .inside, p .0 .0), r .few), (omega (arith, r .few, long), omega (arith, ap length (e .accepted (c .before .before .if2 .left)), output-length (a .text .now))))
 
 same-length-3 : tie.Need-same-length-3
@@ -124,31 +124,13 @@ returns-3 c =
     let ok = c .before .before .before .before .before .before .before .before .before .before .before .before .before .before .before .if1 .left in
     let w = c .before .before .before .before .before .before .before .before .before .before .before .before .before .read-wants .result in
     let rq = c .before .before .before .before .before .before .before .before .before .before .before .before .before .read-wants .last .1 .1 .0 in
-    let r = c .before .before .before .before .before .before .before .before .before .before .before .before .before .read-wants .ensures in
+    let r = c .before .before .before .before .before .before .before .before .before .before .before .before .before .read-wants .ensures .0 in
     let e = ends (a .text .now) (p .0 .0) (a .head) (p .1) ok rq w r (stateView (c .before .before .before .before .before .before .before .before .before .before .before .start .result)) (c .before .before .before .before .before .before .before .before .before .before .before .start .ensures)
-    (stateView (c .before .before .before .before .before .before .before .before .plan .result)) blank (c .before .before .before .before .before .before .before .before .plan .last .1 .1 .0) blank-long (c .before .before .before .before .before .before .before .before .plan .ensures) in
+    (stateView (c .before .before .before .before .before .before .before .before .plan-by-value .result)) blank (c .before .before .before .before .before .before .before .before .plan-by-value .last .1 .1 .0) blank-long (c .before .before .before .before .before .before .before .before .plan-by-value .ensures) in
     rw (e .accepted (c .before .before .before .before .before .if2 .left)) (c .before .before .finish .ensures)
 
 pub answer-spec : {M : Type 1} → statement M
 answer-spec =
-    tie.close
-    (tie.spec
-    refuse-requires
-    same-length
-    returns
-    read-wants-requires
-    mul-n
-    start-requires
-    array-share-prefix-numbers
-    slice-aggregate-plan
-    slice-aggregate-plan-2
-    plan-requires
-    add-line
-    add-line-2
-    refuse-requires-2
-    same-length-2
-    returns-2
-    slice-aggregate-finish
-    finish-requires
-    same-length-3
-    returns-3)
+    tie.close (tie.spec refuse-requires same-length returns read-wants-requires mul-n start-requires array-share-prefix-numbers slice-aggregate-plan-by-value
+    slice-aggregate-plan-by-value-2 plan-by-value-requires add-line add-line-2 refuse-requires-2 same-length-2 returns-2 slice-aggregate-finish finish-requires
+    same-length-3 returns-3)

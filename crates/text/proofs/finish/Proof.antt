@@ -55,15 +55,4 @@ returns-2 c =
     rw e (put-then (a .out .now) 0 g (c .before .before .before .before .before .before .put-gots .result) (c .before .before .before .before .before .before .put-gots .last .0) p (endLine (a .w .count)) (c .before .before .put-end .result) (c .before .before .put-end .last .0) (c .before .before .put-end .ensures))
 
 pub finish-spec : {M : Type 1} → statement M
-finish-spec =
-    tie.close
-    (tie.spec
-    add-line
-    add-line-2
-    put-no-requires
-    same-length
-    returns
-    put-gots-requires
-    put-end-requires
-    same-length-2
-    returns-2)
+finish-spec = tie.close (tie.spec add-line add-line-2 put-no-requires same-length returns put-gots-requires put-end-requires same-length-2 returns-2)

@@ -72,19 +72,5 @@ returns c =
 
 pub put-gots-spec : {M : Type 1} → statement M
 put-gots-spec =
-    tie.close
-    (tie.spec
-    Inv-loop
-    μ-loop
-    loop-holds
-    mul-from
-    mul-put-got
-    sub-put-got
-    part-put-got-start
-    part-put-got-end
-    put-got-requires
-    add-i
-    loop-less
-    loop-again
-    same-length
-    returns)
+    tie.close (tie.spec Inv-loop μ-loop loop-holds mul-from mul-put-got sub-put-got part-put-got-start part-put-got-end put-got-requires add-i loop-less
+    loop-again same-length returns)

@@ -40,14 +40,4 @@ returns-3 c =
     reply-put (a .text .now) (a .out .now) (c .before .before .answer .result) (c .before .before .answer .last .1 .1 .0) (omega arith) (c .before .before .answer .ensures)
 
 pub respond-spec : {M : Type 1} → statement M
-respond-spec =
-    tie.close
-    (tie.spec
-    returns
-    put-no-requires
-    same-length
-    returns-2
-    set-up-requires
-    answer-requires
-    same-length-2
-    returns-3)
+respond-spec = tie.close (tie.spec returns put-no-requires same-length returns-2 set-up-requires answer-requires same-length-2 returns-3)

@@ -57,22 +57,5 @@ returns-2 c = search needs
 
 pub main-spec : {M : Type 1} → statement M
 main-spec =
-    tie.close
-    (tie.spec
-    Inv-loop
-    μ-loop
-    loop-holds
-    one-requires
-    slice-aggregate-write-all
-    write-all-requires
-    print-decimal-requires
-    slice-aggregate-write-all-2
-    write-all-requires-2
-    returns
-    add-k
-    loop-less
-    loop-again
-    print-decimal-requires-2
-    slice-aggregate-write-all-3
-    write-all-requires-3
-    returns-2)
+    tie.close (tie.spec Inv-loop μ-loop loop-holds one-requires slice-aggregate-write-all write-all-requires print-decimal-requires slice-aggregate-write-all-2
+    write-all-requires-2 returns add-k loop-less loop-again print-decimal-requires-2 slice-aggregate-write-all-3 write-all-requires-3 returns-2)

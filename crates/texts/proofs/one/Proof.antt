@@ -84,30 +84,7 @@ returns-4 c = search needs
 
 pub one-spec : {M : Type 1} → statement M
 one-spec =
-    tie.close
-    (tie.spec
-    path-requires
-    slice-aggregate-open-read
-    open-read-requires
-    returns
-    slice-aggregate-read-full
-    read-full-requires
-    close-requires
-    path-requires-2
-    slice-aggregate-open-read-2
-    open-read-requires-2
-    returns-2
-    slice-aggregate-read-full-2
-    read-full-requires-2
-    close-requires-2
-    array-share-prefix-input
-    slice-aggregate-respond
-    slice-aggregate-respond-2
-    respond-requires
-    array-share-prefix-out
-    slice-aggregate-same
-    array-share-prefix-want
-    slice-aggregate-same-2
-    same-requires
-    returns-3
-    returns-4)
+    tie.close (tie.spec path-requires slice-aggregate-open-read open-read-requires returns slice-aggregate-read-full read-full-requires close-requires
+    path-requires-2 slice-aggregate-open-read-2 open-read-requires-2 returns-2 slice-aggregate-read-full-2 read-full-requires-2 close-requires-2
+    array-share-prefix-input slice-aggregate-respond slice-aggregate-respond-2 respond-requires array-share-prefix-out slice-aggregate-same
+    array-share-prefix-want slice-aggregate-same-2 same-requires returns-3 returns-4)

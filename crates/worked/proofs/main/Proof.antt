@@ -81,23 +81,6 @@ returns c = search needs
 
 pub main-spec : {M : Type 1} → statement M
 main-spec =
-    tie.close
-    (tie.spec
-    fresh-requires
-    add-auto-mmio-requires
-    expect-requires
-    reserve-mmio-requires
-    expect-requires-2
-    reserve-mmio-requires-2
-    expect-requires-3
-    expect-requires-4
-    reserve-host-irq-requires
-    expect-requires-5
-    reserve-wired-host-irq-requires
-    expect-requires-6
-    expect-requires-7
-    reserve-controller-input-requires
-    expect-requires-8
-    start-requires
-    expect-requires-9
-    returns)
+    tie.close (tie.spec fresh-requires add-auto-mmio-requires expect-requires reserve-mmio-requires expect-requires-2 reserve-mmio-requires-2 expect-requires-3
+    expect-requires-4 reserve-host-irq-requires expect-requires-5 reserve-wired-host-irq-requires expect-requires-6 expect-requires-7
+    reserve-controller-input-requires expect-requires-8 start-requires expect-requires-9 returns)

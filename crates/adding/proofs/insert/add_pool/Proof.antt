@@ -73,26 +73,6 @@ returns-5 c = rw (c .before .before .r5 .given .1) (c .add-msi-ranges .ensures)
 
 pub add-pool-spec : {M : Type 1} → statement M
 add-pool-spec =
-    tie.close
-    (tie.spec
-    enum-known-r
-    row-requires
-    fill-requires
-    enum-known-r-2
-    wide16-requires
-    wide16-requires-2
-    row-requires-2
-    fill-requires-2
-    enum-known-r-3
-    row-requires-3
-    fill-requires-3
-    enum-known-r-4
-    row-requires-4
-    fill-requires-4
-    enum-known-r-5
-    add-msi-ranges-requires
-    returns
-    returns-2
-    returns-3
-    returns-4
+    tie.close (tie.spec enum-known-r row-requires fill-requires enum-known-r-2 wide16-requires wide16-requires-2 row-requires-2 fill-requires-2 enum-known-r-3
+    row-requires-3 fill-requires-3 enum-known-r-4 row-requires-4 fill-requires-4 enum-known-r-5 add-msi-ranges-requires returns returns-2 returns-3 returns-4
     returns-5)

@@ -48,19 +48,5 @@ returns-7 c = rw (c .enum-told7 .given .1)
 
 pub with-pool-spec : {M : Type 1} → statement M
 with-pool-spec =
-    tie.close
-    (tie.spec
-    enum-told
-    returns
-    enum-told-2
-    returns-2
-    enum-told-3
-    returns-3
-    enum-told-4
-    returns-4
-    enum-told-5
-    returns-5
-    enum-told-6
-    returns-6
-    enum-told-7
-    returns-7)
+    tie.close (tie.spec enum-told returns enum-told-2 returns-2 enum-told-3 returns-3 enum-told-4 returns-4 enum-told-5 returns-5 enum-told-6 returns-6
+    enum-told-7 returns-7)

@@ -58,20 +58,5 @@ returns-3 c = turn-on _ _ _ _ _ (added-fills _ _ _ _ _ (rw (c .before .before .b
 
 pub add-msi-ranges-spec : {M : Type 1} → statement M
 add-msi-ranges-spec =
-    tie.close
-    (tie.spec
-    wide-requires
-    wide-requires-2
-    row-requires
-    fill-requires
-    returns
-    wide-requires-3
-    wide-requires-4
-    row-requires-2
-    fill-requires-2
-    returns-2
-    wide-requires-5
-    wide-requires-6
-    row-requires-3
-    fill-requires-3
-    returns-3)
+    tie.close (tie.spec wide-requires wide-requires-2 row-requires fill-requires returns wide-requires-3 wide-requires-4 row-requires-2 fill-requires-2
+    returns-2 wide-requires-5 wide-requires-6 row-requires-3 fill-requires-3 returns-3)

@@ -109,38 +109,7 @@ returns-8 c = rw (c .before .before .before .before .before .h8 .given .1) (rw (
 
 pub hold-spec : {M : Type 1} → statement M
 hold-spec =
-    tie.close
-    (tie.spec
-    enum-known-h
-    row-requires
-    hold-range-requires
-    enum-known-h-2
-    wide16-requires
-    wide16-requires-2
-    row-requires-2
-    hold-range-requires-2
-    enum-known-h-3
-    row-requires-3
-    hold-range-requires-3
-    enum-known-h-4
-    wire-requires
-    hold-input-requires
-    enum-known-h-5
-    reserve-msi-devices-requires
-    enum-known-h-6
-    reserve-msi-events-requires
-    enum-known-h-7
-    reserve-lpis-requires
-    enum-known-h-8
-    wire-requires-2
-    past-requires
-    row-requires-4
-    hold-pair-requires
-    returns
-    returns-2
-    returns-3
-    returns-4
-    returns-5
-    returns-6
-    returns-7
-    returns-8)
+    tie.close (tie.spec enum-known-h row-requires hold-range-requires enum-known-h-2 wide16-requires wide16-requires-2 row-requires-2 hold-range-requires-2
+    enum-known-h-3 row-requires-3 hold-range-requires-3 enum-known-h-4 wire-requires hold-input-requires enum-known-h-5 reserve-msi-devices-requires
+    enum-known-h-6 reserve-msi-events-requires enum-known-h-7 reserve-lpis-requires enum-known-h-8 wire-requires-2 past-requires row-requires-4
+    hold-pair-requires returns returns-2 returns-3 returns-4 returns-5 returns-6 returns-7 returns-8)

@@ -42,17 +42,4 @@ returns-6 c = rw (c .enum-told6 .given .1)
 
 pub with-ranges-spec : {M : Type 1} → statement M
 with-ranges-spec =
-    tie.close
-    (tie.spec
-    enum-told
-    returns
-    enum-told-2
-    returns-2
-    enum-told-3
-    returns-3
-    enum-told-4
-    returns-4
-    enum-told-5
-    returns-5
-    enum-told-6
-    returns-6)
+    tie.close (tie.spec enum-told returns enum-told-2 returns-2 enum-told-3 returns-3 enum-told-4 returns-4 enum-told-5 returns-5 enum-told-6 returns-6)

@@ -58,16 +58,5 @@ returns c = let a = c .before .before .before .before .before .before .before .b
 
 pub choose-msi-spec : {M : Type 1} → statement M
 choose-msi-spec =
-    tie.close
-    (tie.spec
-    device-ask-requires
-    see-range-requires
-    device-requires
-    event-ask-requires
-    see-range-requires-2
-    event-requires
-    lpi-ask-requires
-    see-range-requires-3
-    lpi-requires
-    chain-requires
-    returns)
+    tie.close (tie.spec device-ask-requires see-range-requires device-requires event-ask-requires see-range-requires-2 event-requires lpi-ask-requires
+    see-range-requires-3 lpi-requires chain-requires returns)

@@ -47,14 +47,5 @@ returns-2 c = record {
 
 pub grant-msi-spec : {M : Type 1} → statement M
 grant-msi-spec =
-    tie.close
-    (tie.spec
-    choose-msi-requires
-    enum-known-got
-    enum-known-got-2
-    rows-requires
-    record-range-requires
-    record-range-requires-2
-    record-range-requires-3
-    returns
-    returns-2)
+    tie.close (tie.spec choose-msi-requires enum-known-got enum-known-got-2 rows-requires record-range-requires record-range-requires-2 record-range-requires-3
+    returns returns-2)

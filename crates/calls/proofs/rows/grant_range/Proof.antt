@@ -36,13 +36,4 @@ returns-2 c = record { answer = range-given _ _ (c .before .before .before .befo
 
 pub grant-range-spec : {M : Type 1} → statement M
 grant-range-spec =
-    tie.close
-    (tie.spec
-    see-range-requires
-    standing-requires
-    enum-known-got
-    enum-known-got-2
-    row-requires
-    record-range-requires
-    returns
-    returns-2)
+    tie.close (tie.spec see-range-requires standing-requires enum-known-got enum-known-got-2 row-requires record-range-requires returns returns-2)

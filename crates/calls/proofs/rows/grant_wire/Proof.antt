@@ -37,13 +37,4 @@ returns-2 c = let e = wire-given _ _ (c .before .before .before .before .before 
     record { answer = e; table = rw z (c .record-wire .ensures) }
 
 pub grant-wire-spec : {M : Type 1} → statement M
-grant-wire-spec =
-    tie.close
-    (tie.spec
-    see-wire-requires
-    standing-requires
-    enum-known-got
-    enum-known-got-2
-    record-wire-requires
-    returns
-    returns-2)
+grant-wire-spec = tie.close (tie.spec see-wire-requires standing-requires enum-known-got enum-known-got-2 record-wire-requires returns returns-2)

@@ -31,13 +31,4 @@ unfolding rowAt
 returns-2 c = λ fs o. auto-some _ fs _ _ _ (rw (c .before .before .found .given .1) at (c .before .before .before .before .find-range .ensures .is o))
 
 pub automatic-spec : {M : Type 1} → statement M
-automatic-spec =
-    tie.close
-    (tie.spec
-    find-range-requires
-    enum-told
-    namespace-requires
-    enum-known-found
-    add-e
-    returns
-    returns-2)
+automatic-spec = tie.close (tie.spec find-range-requires enum-told namespace-requires enum-known-found add-e returns returns-2)

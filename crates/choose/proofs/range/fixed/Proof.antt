@@ -63,17 +63,5 @@ returns-3 c = λ ps. fixed-outside ps _ _ _ _ _ (c .before .before .namespace .e
 
 pub fixed-spec : {M : Type 1} → statement M
 fixed-spec =
-    tie.close
-    (tie.spec
-    namespace-requires
-    range-allowed-requires
-    add-e
-    first-overlap-requires
-    enum-told
-    returns
-    enum-known-hit
-    mul-owner
-    element-copy-out-owner
-    detail-requires
-    returns-2
-    returns-3)
+    tie.close (tie.spec namespace-requires range-allowed-requires add-e first-overlap-requires enum-told returns enum-known-hit mul-owner element-copy-out-owner
+    detail-requires returns-2 returns-3)

@@ -77,19 +77,5 @@ returns-4 c = λ ps. fixed-outside ps _ _ _ _ 3 refl (sym (c .if1 .left) ∙ (rw
 
 pub fixed-spec : {M : Type 1} → statement M
 fixed-spec =
-    tie.close
-    (tie.spec
-    one-input-requires
-    range-allowed-requires
-    add-e
-    first-on-requires
-    enum-known-hit
-    enum-told
-    returns
-    wire-at-requires
-    validate-sharing-requires
-    enum-told-2
-    returns-2
-    enum-known-judged
-    returns-3
-    returns-4)
+    tie.close (tie.spec one-input-requires range-allowed-requires add-e first-on-requires enum-known-hit enum-told returns wire-at-requires
+    validate-sharing-requires enum-told-2 returns-2 enum-known-judged returns-3 returns-4)

@@ -65,21 +65,5 @@ returns-9 c = c .bad .ensures ∙ held-none _ _ _ _ _ _ _ (c .before .before .be
 
 pub held-of-spec : {M : Type 1} → statement M
 held-of-spec =
-    tie.close
-    (tie.spec
-    returns
-    hold-pio-requires
-    returns-2
-    hold-input-requires
-    returns-3
-    returns-4
-    hold-devices-requires
-    returns-5
-    hold-events-requires
-    returns-6
-    hold-lpis-requires
-    returns-7
-    hold-pair-requires
-    returns-8
-    bad-requires
-    returns-9)
+    tie.close (tie.spec returns hold-pio-requires returns-2 hold-input-requires returns-3 returns-4 hold-devices-requires returns-5 hold-events-requires
+    returns-6 hold-lpis-requires returns-7 hold-pair-requires returns-8 bad-requires returns-9)

@@ -31,14 +31,4 @@ returns-2 : tie.Need-returns-2
 returns-2 c = c .bad .ensures ∙ narrow-out 32 _ _ (sym (c .before .before .narrow-32 .ensures) ∙ c .before .if1 .left)
 
 pub hold-devices-spec : {M : Type 1} → statement M
-hold-devices-spec =
-    tie.close
-    (tie.spec
-    narrow-32-requires
-    cast-t8
-    cast-t10
-    cast-t8-2
-    cast-t10-2
-    returns
-    bad-requires
-    returns-2)
+hold-devices-spec = tie.close (tie.spec narrow-32-requires cast-t8 cast-t10 cast-t8-2 cast-t10-2 returns bad-requires returns-2)

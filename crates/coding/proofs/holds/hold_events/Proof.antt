@@ -43,16 +43,4 @@ returns-3 c = let l : c .before .before .before .args .e ≤ 4294967295 = omega 
 
 pub hold-events-spec : {M : Type 1} → statement M
 hold-events-spec =
-    tie.close
-    (tie.spec
-    narrow-32-requires
-    bad-requires
-    returns
-    bad-requires-2
-    returns-2
-    cast-t10
-    cast-t12
-    cast-t10-2
-    cast-t12-2
-    cast-t14
-    returns-3)
+    tie.close (tie.spec narrow-32-requires bad-requires returns bad-requires-2 returns-2 cast-t10 cast-t12 cast-t10-2 cast-t12-2 cast-t14 returns-3)

@@ -54,20 +54,5 @@ returns-3 c = narrow-in 32 _ _ (sym (c .before .narrow-322 .ensures) ∙ not-fal
 
 pub pool-msi-spec : {M : Type 1} → statement M
 pool-msi-spec =
-    tie.close
-    (tie.spec
-    narrow-32-requires
-    bad-requires
-    returns
-    narrow-32-requires-2
-    bad-requires-2
-    returns-2
-    cast-t15
-    cast-t17
-    cast-t15-2
-    cast-t17-2
-    cast-t15-3
-    cast-t17-3
-    cast-t15-4
-    cast-t17-4
-    returns-3)
+    tie.close (tie.spec narrow-32-requires bad-requires returns narrow-32-requires-2 bad-requires-2 returns-2 cast-t15 cast-t17 cast-t15-2 cast-t17-2 cast-t15-3
+    cast-t17-3 cast-t15-4 cast-t17-4 returns-3)

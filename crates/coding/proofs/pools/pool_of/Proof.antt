@@ -44,15 +44,4 @@ returns-6 c = c .bad .ensures ∙ pool-none _ _ _ _ _ _ _ _ _ _ (c .before .befo
 
 pub pool-of-spec : {M : Type 1} → statement M
 pool-of-spec =
-    tie.close
-    (tie.spec
-    returns
-    pool-pio-requires
-    returns-2
-    pool-input-requires
-    returns-3
-    returns-4
-    pool-msi-requires
-    returns-5
-    bad-requires
-    returns-6)
+    tie.close (tie.spec returns pool-pio-requires returns-2 pool-input-requires returns-3 returns-4 pool-msi-requires returns-5 bad-requires returns-6)

@@ -42,16 +42,5 @@ returns-4 c = let l : 3 ≤ length (c .before .before .before .before .before .b
 
 pub read-spec : {M : Type 1} → statement M
 read-spec =
-    tie.close
-    (tie.spec
-    number-requires
-    number-requires-2
-    number-requires-3
-    returns
-    answer-requires
-    same-length
-    returns-2
-    returns-3
-    row-requires
-    same-length-2
+    tie.close (tie.spec number-requires number-requires-2 number-requires-3 returns answer-requires same-length returns-2 returns-3 row-requires same-length-2
     returns-4)

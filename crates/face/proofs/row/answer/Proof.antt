@@ -32,14 +32,4 @@ returns-2 : tie.Need-returns-2
 returns-2 c = let l : 5 ≤ length (c .before .args .out .now) = omega arith in answer-written _ (c .before .args .out .now) l _ (five-stores _ _ _ _ _ (c .before .args .out .now) l)
 
 pub answer-spec : {M : Type 1} → statement M
-answer-spec =
-    tie.close
-    (tie.spec
-    returns
-    slice-write-out
-    slice-write-out-2
-    slice-write-out-3
-    slice-write-out-4
-    slice-write-out-5
-    same-length
-    returns-2)
+answer-spec = tie.close (tie.spec returns slice-write-out slice-write-out-2 slice-write-out-3 slice-write-out-4 slice-write-out-5 same-length returns-2)

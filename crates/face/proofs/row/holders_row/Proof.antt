@@ -50,19 +50,5 @@ returns-7 c = rw (kind-other _ (c .before .before .before .before .before .befor
 
 pub holders-row-spec : {M : Type 1} → statement M
 holders-row-spec =
-    tie.close
-    (tie.spec
-    range-row-requires
-    returns
-    wire-row-requires
-    returns-2
-    range-row-requires-2
-    returns-3
-    range-row-requires-3
-    returns-4
-    range-row-requires-4
-    returns-5
-    range-row-requires-5
-    returns-6
-    range-row-requires-6
-    returns-7)
+    tie.close (tie.spec range-row-requires returns wire-row-requires returns-2 range-row-requires-2 returns-3 range-row-requires-3 returns-4
+    range-row-requires-4 returns-5 range-row-requires-5 returns-6 range-row-requires-6 returns-7)

@@ -44,17 +44,5 @@ returns c = ap listOf (c .line .ensures) ∙ pool-row-is (c .before .before .bef
 
 pub pool-row-spec : {M : Type 1} → statement M
 pool-row-spec =
-    tie.close
-    (tie.spec
-    mul-line
-    element-copy-out-line
-    cast-line
-    mul-line-2
-    element-copy-out-line-2
-    cast-line-2
-    mul-line-3
-    element-copy-out-line-3
-    mul-line-4
-    element-copy-out-line-4
-    line-requires
-    returns)
+    tie.close (tie.spec mul-line element-copy-out-line cast-line mul-line-2 element-copy-out-line-2 cast-line-2 mul-line-3 element-copy-out-line-3 mul-line-4
+    element-copy-out-line-4 line-requires returns)

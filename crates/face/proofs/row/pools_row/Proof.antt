@@ -48,19 +48,5 @@ returns-7 c = rw (kind-other _ (c .before .before .before .before .before .befor
 
 pub pools-row-spec : {M : Type 1} → statement M
 pools-row-spec =
-    tie.close
-    (tie.spec
-    pool-row-requires
-    returns
-    pool-row-requires-2
-    returns-2
-    pool-row-requires-3
-    returns-3
-    pool-row-requires-4
-    returns-4
-    pool-row-requires-5
-    returns-5
-    pool-row-requires-6
-    returns-6
-    pool-row-requires-7
-    returns-7)
+    tie.close (tie.spec pool-row-requires returns pool-row-requires-2 returns-2 pool-row-requires-3 returns-3 pool-row-requires-4 returns-4 pool-row-requires-5
+    returns-5 pool-row-requires-6 returns-6 pool-row-requires-7 returns-7)

@@ -62,23 +62,5 @@ returns c = λ k e. ap listOf (c .line .ensures) ∙ range-row-is (c .before .be
 
 pub range-row-spec : {M : Type 1} → statement M
 range-row-spec =
-    tie.close
-    (tie.spec
-    mul-line
-    element-copy-out-line
-    cast-line
-    mul-line-2
-    element-copy-out-line-2
-    cast-line-2
-    mul-line-3
-    element-copy-out-line-3
-    cast-line-3
-    mul-line-4
-    element-copy-out-line-4
-    mul-line-5
-    element-copy-out-line-5
-    mul-line-6
-    element-copy-out-line-6
-    cast-line-4
-    line-requires
-    returns)
+    tie.close (tie.spec mul-line element-copy-out-line cast-line mul-line-2 element-copy-out-line-2 cast-line-2 mul-line-3 element-copy-out-line-3 cast-line-3
+    mul-line-4 element-copy-out-line-4 mul-line-5 element-copy-out-line-5 mul-line-6 element-copy-out-line-6 cast-line-4 line-requires returns)

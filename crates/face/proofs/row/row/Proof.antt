@@ -31,13 +31,4 @@ returns-3 : tie.Need-returns-3
 returns-3 c = let l : 9 ≤ length (c .before .before .before .before .before .before .before .before .before .args .out .now) = omega arith in row-written _ _ _ _ _ (sym (c .before .before .before .before .before .before .before .is-there .ensures) ∙ not-false (c .before .before .before .before .before .before .before .is-there .result) (c .before .before .before .before .before .before .if1 .left)) l _ _ (c .before .before .before .before .row-of .ensures) (c .before .before .write-record .ensures)
 
 pub row-spec : {M : Type 1} → statement M
-row-spec =
-    tie.close
-    (tie.spec
-    is-there-requires
-    returns
-    returns-2
-    row-of-requires
-    write-record-requires
-    same-length
-    returns-3)
+row-spec = tie.close (tie.spec is-there-requires returns returns-2 row-of-requires write-record-requires same-length returns-3)

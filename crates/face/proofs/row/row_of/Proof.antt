@@ -31,14 +31,4 @@ returns-4 : tie.Need-returns-4
 returns-4 c = rw (last-part _ _ (c .before .before .before .before .pre) (c .before .before .before .if1 .left) (c .before .before .if2 .left) (c .before .if3 .left)) (c .holders-row2 .ensures)
 
 pub row-of-spec : {M : Type 1} → statement M
-row-of-spec =
-    tie.close
-    (tie.spec
-    pools-row-requires
-    returns
-    pools-row-requires-2
-    returns-2
-    holders-row-requires
-    returns-3
-    holders-row-requires-2
-    returns-4)
+row-of-spec = tie.close (tie.spec pools-row-requires returns pools-row-requires-2 returns-2 holders-row-requires returns-3 holders-row-requires-2 returns-4)

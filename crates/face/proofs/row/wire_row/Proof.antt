@@ -56,21 +56,5 @@ returns c = ap listOf (c .line .ensures) ∙ wire-row-is (c .before .before .bef
 
 pub wire-row-spec : {M : Type 1} → statement M
 wire-row-spec =
-    tie.close
-    (tie.spec
-    mul-line
-    element-copy-out-line
-    cast-line
-    mul-line-2
-    element-copy-out-line-2
-    mul-line-3
-    element-copy-out-line-3
-    cast-line-2
-    mul-line-4
-    element-copy-out-line-4
-    cast-line-3
-    mul-line-5
-    element-copy-out-line-5
-    cast-line-4
-    line-requires
-    returns)
+    tie.close (tie.spec mul-line element-copy-out-line cast-line mul-line-2 element-copy-out-line-2 mul-line-3 element-copy-out-line-3 cast-line-2 mul-line-4
+    element-copy-out-line-4 cast-line-3 mul-line-5 element-copy-out-line-5 cast-line-4 line-requires returns)

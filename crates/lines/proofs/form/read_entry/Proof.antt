@@ -29,12 +29,4 @@ unfolding entry
 returns-3 c = rw (ne-eqb (c .before .before .before .args .m) 0 (c .before .if1 .left)) (c .read-number .ensures)
 
 pub read-entry-spec : {M : Type 1} → statement M
-read-entry-spec =
-    tie.close
-    (tie.spec
-    slice-aggregate-equal
-    equal-requires
-    returns
-    returns-2
-    read-number-requires
-    returns-3)
+read-entry-spec = tie.close (tie.spec slice-aggregate-equal equal-requires returns returns-2 read-number-requires returns-3)

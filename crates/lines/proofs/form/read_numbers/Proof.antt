@@ -89,30 +89,6 @@ returns-4 c = let a = c .before .before .before .before .before .args in let l =
 
 pub read-numbers-spec : {M : Type 1} → statement M
 read-numbers-spec =
-    tie.close
-    (tie.spec
-    Inv-loop
-    μ-loop
-    loop-holds
-    find-requires
-    sub-read-entry
-    part-read-entry-start
-    part-read-entry-end
-    mul-read-entry
-    shared-slice-read-read-entry
-    read-entry-requires
-    enum-known-x
-    enum-told
-    bad-row-requires
-    returns
-    mul-n
-    array-write-n
-    add-i
-    returns-2
-    bad-row-requires-2
-    returns-3
-    add-at
-    loop-less
-    loop-again
-    bad-row-requires-3
-    returns-4)
+    tie.close (tie.spec Inv-loop μ-loop loop-holds find-requires sub-read-entry part-read-entry-start part-read-entry-end mul-read-entry
+    shared-slice-read-read-entry read-entry-requires enum-known-x enum-told bad-row-requires returns mul-n array-write-n add-i returns-2 bad-row-requires-2
+    returns-3 add-at loop-less loop-again bad-row-requires-3 returns-4)

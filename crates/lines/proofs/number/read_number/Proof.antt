@@ -71,25 +71,5 @@ returns-8 c = let a = c .before .before .before .before .before .args in sym (c 
 
 pub read-number-spec : {M : Type 1} → statement M
 read-number-spec =
-    tie.close
-    (tie.spec
-    Inv-loop
-    μ-loop
-    returns
-    shared-slice-read-if3
-    returns-2
-    loop-holds
-    shared-slice-read-b
-    returns-3
-    returns-4
-    cast-d
-    returns-5
-    mul-w
-    sub-if7
-    returns-6
-    add-v
-    add-i
-    loop-less
-    loop-again
-    returns-7
-    returns-8)
+    tie.close (tie.spec Inv-loop μ-loop returns shared-slice-read-if3 returns-2 loop-holds shared-slice-read-b returns-3 returns-4 cast-d returns-5 mul-w
+    sub-if7 returns-6 add-v add-i loop-less loop-again returns-7 returns-8)

@@ -43,16 +43,4 @@ returns-3 c = let a = c .before .before .before .args in sym (c .before .loop .i
 
 pub equal-spec : {M : Type 1} → statement M
 equal-spec =
-    tie.close
-    (tie.spec
-    Inv-loop
-    μ-loop
-    returns
-    loop-holds
-    shared-slice-read-if2
-    shared-slice-read-if2-2
-    returns-2
-    add-i
-    loop-less
-    loop-again
-    returns-3)
+    tie.close (tie.spec Inv-loop μ-loop returns loop-holds shared-slice-read-if2 shared-slice-read-if2-2 returns-2 add-i loop-less loop-again returns-3)

@@ -5,9 +5,6 @@ use lib.ListN.{length}
 use borrow.Author.Needs.{needs}
 use Rattle.lists.proofs.expected.records.Statement.{statement}
 use Rattle.lists.proofs.expected.records.Tie as tie
-use Rattle.lists.proofs.expected.records.Reads as reads
-use Rattle.lists.proofs.expected.records.Lts as lts
-use Rattle.lists.proofs.expected.number_at.Reads as number-at-reads
 
 abbrev Inv-loop : tie.InvT-loop
 Inv-loop out accepted i₀ i = i ≤ length out
@@ -43,17 +40,4 @@ returns-2 : tie.Need-returns-2 Inv-loop μ-loop
 returns-2 c = search needs
 
 pub records-spec : {M : Type 1} → statement M
-records-spec =
-    tie.close
-    (tie.spec
-    Inv-loop
-    μ-loop
-    loop-holds
-    mul-if1
-    shared-slice-read-if1
-    number-at-requires
-    returns
-    add-i
-    loop-less
-    loop-again
-    returns-2)
+records-spec = tie.close (tie.spec Inv-loop μ-loop loop-holds mul-if1 shared-slice-read-if1 number-at-requires returns add-i loop-less loop-again returns-2)

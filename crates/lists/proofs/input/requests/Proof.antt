@@ -4,9 +4,6 @@ use native.Mathlib.Omega.{arith}
 use borrow.Author.Needs.{needs}
 use Rattle.lists.proofs.input.requests.Statement.{statement}
 use Rattle.lists.proofs.input.requests.Tie as tie
-use Rattle.lists.proofs.input.requests.Reads as reads
-use Rattle.lists.proofs.input.requests.Lts as lts
-use Rattle.lists.proofs.input.request.Reads as request-reads
 
 abbrev Inv-loop : tie.InvT-loop
 Inv-loop conflict list₀ turn₀ list turn = turn ≤ 129
@@ -55,20 +52,5 @@ returns-2 c = search needs
 
 pub requests-spec : {M : Type 1} → statement M
 requests-spec =
-    tie.close
-    (tie.spec
-    Inv-loop
-    μ-loop
-    request-requires
-    loop-holds
-    request-requires-2
-    cast-list
-    mul-list
-    array-set-from-list
-    add-turn
-    loop-less
-    loop-again
-    request-requires-3
-    array-set-from-list-2
-    returns
-    returns-2)
+    tie.close (tie.spec Inv-loop μ-loop request-requires loop-holds request-requires-2 cast-list mul-list array-set-from-list add-turn loop-less loop-again
+    request-requires-3 array-set-from-list-2 returns returns-2)

@@ -4,11 +4,6 @@ use native.Mathlib.Omega.{arith}
 use borrow.Author.Needs.{needs}
 use Rattle.lists.proofs.input.tables.Statement.{statement}
 use Rattle.lists.proofs.input.tables.Tie as tie
-use Rattle.lists.proofs.input.tables.Reads as reads
-use Rattle.lists.proofs.input.tables.Lts as lts
-use Rattle.lists.proofs.input.call.Reads as call-reads
-use Rattle.pool.proofs.serve.Reads as serve-reads
-use Rattle.tables.proofs.fresh.Reads as fresh-reads
 
 abbrev Inv-loop : tie.InvT-loop
 Inv-loop s₀ i₀ s i = i ≤ 12
@@ -41,16 +36,4 @@ returns : tie.Need-returns Inv-loop μ-loop
 returns c = search needs
 
 pub tables-spec : {M : Type 1} → statement M
-tables-spec =
-    tie.close
-    (tie.spec
-    Inv-loop
-    μ-loop
-    fresh-requires
-    loop-holds
-    call-requires
-    serve-requires
-    add-i
-    loop-less
-    loop-again
-    returns)
+tables-spec = tie.close (tie.spec Inv-loop μ-loop fresh-requires loop-holds call-requires serve-requires add-i loop-less loop-again returns)

@@ -85,25 +85,5 @@ returns c = search needs
 
 pub full-pool-spec : {M : Type 1} → statement M
 full-pool-spec =
-    tie.close
-    (tie.spec
-    Inv-loop
-    μ-loop
-    fresh-pool-requires
-    loop-holds
-    mul-t
-    element-write-t
-    mul-t-2
-    element-write-t-2
-    mul-t-3
-    add-t
-    mul-t-4
-    element-write-t-3
-    mul-t-5
-    add-t-2
-    mul-t-6
-    element-write-t-4
-    add-i
-    loop-less
-    loop-again
-    returns)
+    tie.close (tie.spec Inv-loop μ-loop fresh-pool-requires loop-holds mul-t element-write-t mul-t-2 element-write-t-2 mul-t-3 add-t mul-t-4 element-write-t-3
+    mul-t-5 add-t-2 mul-t-6 element-write-t-4 add-i loop-less loop-again returns)

@@ -101,29 +101,5 @@ returns c = search needs
 
 pub full-ranges-spec : {M : Type 1} → statement M
 full-ranges-spec =
-    tie.close
-    (tie.spec
-    Inv-loop
-    μ-loop
-    fresh-ranges-requires
-    loop-holds
-    mul-t
-    element-write-t
-    mul-t-2
-    element-write-t-2
-    mul-t-3
-    element-write-t-3
-    mul-t-4
-    add-t
-    mul-t-5
-    element-write-t-4
-    mul-t-6
-    add-t-2
-    mul-t-7
-    element-write-t-5
-    mul-t-8
-    element-write-t-6
-    add-i
-    loop-less
-    loop-again
-    returns)
+    tie.close (tie.spec Inv-loop μ-loop fresh-ranges-requires loop-holds mul-t element-write-t mul-t-2 element-write-t-2 mul-t-3 element-write-t-3 mul-t-4 add-t
+    mul-t-5 element-write-t-4 mul-t-6 add-t-2 mul-t-7 element-write-t-5 mul-t-8 element-write-t-6 add-i loop-less loop-again returns)

@@ -81,24 +81,5 @@ returns c = search needs
 
 pub full-wires-spec : {M : Type 1} → statement M
 full-wires-spec =
-    tie.close
-    (tie.spec
-    Inv-loop
-    μ-loop
-    fresh-wires-requires
-    loop-holds
-    mul-t
-    element-write-t
-    add-t
-    mul-t-2
-    element-write-t-2
-    mul-t-3
-    element-write-t-3
-    mul-t-4
-    element-write-t-4
-    mul-t-5
-    element-write-t-5
-    add-i
-    loop-less
-    loop-again
-    returns)
+    tie.close (tie.spec Inv-loop μ-loop fresh-wires-requires loop-holds mul-t element-write-t add-t mul-t-2 element-write-t-2 mul-t-3 element-write-t-3 mul-t-4
+    element-write-t-4 mul-t-5 element-write-t-5 add-i loop-less loop-again returns)

@@ -97,28 +97,6 @@ returns c = search needs
 
 pub show-pool-spec : {M : Type 1} → statement M
 show-pool-spec =
-    tie.close
-    (tie.spec
-    Inv-loop
-    μ-loop
-    loop-holds
-    row-head-requires
-    mul-c
-    element-copy-out-c
-    wide-requires
-    blank-number-requires
-    mul-d
-    element-copy-out-d
-    wide-requires-2
-    blank-number-requires-2
-    mul-s
-    element-copy-out-s
-    blank-number-requires-3
-    mul-e
-    element-copy-out-e
-    blank-number-requires-4
-    newline-requires
-    add-i
-    loop-less
-    loop-again
-    returns)
+    tie.close (tie.spec Inv-loop μ-loop loop-holds row-head-requires mul-c element-copy-out-c wide-requires blank-number-requires mul-d element-copy-out-d
+    wide-requires-2 blank-number-requires-2 mul-s element-copy-out-s blank-number-requires-3 mul-e element-copy-out-e blank-number-requires-4 newline-requires
+    add-i loop-less loop-again returns)

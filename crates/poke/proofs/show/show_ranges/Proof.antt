@@ -129,36 +129,7 @@ returns c = search needs
 
 pub show-ranges-spec : {M : Type 1} → statement M
 show-ranges-spec =
-    tie.close
-    (tie.spec
-    Inv-loop
-    μ-loop
-    loop-holds
-    row-head-requires
-    mul-c
-    element-copy-out-c
-    wide-requires
-    blank-number-requires
-    mul-d
-    element-copy-out-d
-    wide-requires-2
-    blank-number-requires-2
-    mul-v
-    element-copy-out-v
-    wide-requires-3
-    blank-number-requires-3
-    mul-s
-    element-copy-out-s
-    blank-number-requires-4
-    mul-e
-    element-copy-out-e
-    blank-number-requires-5
-    mul-o
-    element-copy-out-o
-    wide-requires-4
-    blank-number-requires-6
-    newline-requires
-    add-i
-    loop-less
-    loop-again
-    returns)
+    tie.close (tie.spec Inv-loop μ-loop loop-holds row-head-requires mul-c element-copy-out-c wide-requires blank-number-requires mul-d element-copy-out-d
+    wide-requires-2 blank-number-requires-2 mul-v element-copy-out-v wide-requires-3 blank-number-requires-3 mul-s element-copy-out-s blank-number-requires-4
+    mul-e element-copy-out-e blank-number-requires-5 mul-o element-copy-out-o wide-requires-4 blank-number-requires-6 newline-requires add-i loop-less
+    loop-again returns)

@@ -69,21 +69,5 @@ returns c = search needs
 
 pub show-record-spec : {M : Type 1} → statement M
 show-record-spec =
-    tie.close
-    (tie.spec
-    Inv-loop
-    μ-loop
-    print-decimal-requires
-    blank-number-requires
-    blank-number-requires-2
-    blank-number-requires-3
-    blank-number-requires-4
-    loop-holds
-    mul-v
-    element-copy-out-v
-    blank-number-requires-5
-    add-i
-    loop-less
-    loop-again
-    newline-requires
-    returns)
+    tie.close (tie.spec Inv-loop μ-loop print-decimal-requires blank-number-requires blank-number-requires-2 blank-number-requires-3 blank-number-requires-4
+    loop-holds mul-v element-copy-out-v blank-number-requires-5 add-i loop-less loop-again newline-requires returns)

@@ -117,33 +117,6 @@ returns c = search needs
 
 pub show-wires-spec : {M : Type 1} → statement M
 show-wires-spec =
-    tie.close
-    (tie.spec
-    Inv-loop
-    μ-loop
-    loop-holds
-    row-head-requires
-    mul-c
-    element-copy-out-c
-    wide-requires
-    blank-number-requires
-    mul-x
-    element-copy-out-x
-    blank-number-requires-2
-    mul-g
-    element-copy-out-g
-    wide-requires-2
-    blank-number-requires-3
-    mul-h
-    element-copy-out-h
-    wide-requires-3
-    blank-number-requires-4
-    mul-o
-    element-copy-out-o
-    wide-requires-4
-    blank-number-requires-5
-    newline-requires
-    add-i
-    loop-less
-    loop-again
-    returns)
+    tie.close (tie.spec Inv-loop μ-loop loop-holds row-head-requires mul-c element-copy-out-c wide-requires blank-number-requires mul-x element-copy-out-x
+    blank-number-requires-2 mul-g element-copy-out-g wide-requires-2 blank-number-requires-3 mul-h element-copy-out-h wide-requires-3 blank-number-requires-4
+    mul-o element-copy-out-o wide-requires-4 blank-number-requires-5 newline-requires add-i loop-less loop-again returns)

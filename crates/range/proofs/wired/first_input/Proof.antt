@@ -43,16 +43,4 @@ returns-2 : tie.Need-returns-2 Inv-loop μ-loop
 returns-2 c = let e : c .before .loop .k ≡ c .before .before .args .n = omega arith in sym (rw e at (c .before .loop .inv .1))
 
 pub first-input-spec : {M : Type 1} → statement M
-first-input-spec =
-    tie.close
-    (tie.spec
-    Inv-loop
-    μ-loop
-    loop-holds
-    wire-at-requires
-    same-input-requires
-    returns
-    add-k
-    loop-less
-    loop-again
-    returns-2)
+first-input-spec = tie.close (tie.spec Inv-loop μ-loop loop-holds wire-at-requires same-input-requires returns add-k loop-less loop-again returns-2)

@@ -95,32 +95,6 @@ returns-3 c = sym (row-past _ _ _ _ _ (omega arith) (c .before .before .before .
 
 pub read-hold-its-spec : {M : Type 1} → statement M
 read-hold-its-spec =
-    tie.close
-    (tie.spec
-    slice-aggregate-read-form
-    slice-aggregate-read-form-2
-    read-form-requires
-    array-read-t19
-    cast-t20
-    array-read-t23
-    cast-t24
-    array-read-t27
-    cast-t28
-    array-read-t31
-    cast-t32
-    returns
-    slice-aggregate-read-form-3
-    slice-aggregate-read-form-4
-    read-form-requires-2
-    array-read-t39
-    cast-t40
-    array-read-t43
-    cast-t44
-    array-read-t47
-    cast-t48
-    array-read-t51
-    cast-t52
-    array-read-t55
-    cast-t56
-    returns-2
-    returns-3)
+    tie.close (tie.spec slice-aggregate-read-form slice-aggregate-read-form-2 read-form-requires array-read-t19 cast-t20 array-read-t23 cast-t24 array-read-t27
+    cast-t28 array-read-t31 cast-t32 returns slice-aggregate-read-form-3 slice-aggregate-read-form-4 read-form-requires-2 array-read-t39 cast-t40 array-read-t43
+    cast-t44 array-read-t47 cast-t48 array-read-t51 cast-t52 array-read-t55 cast-t56 returns-2 returns-3)

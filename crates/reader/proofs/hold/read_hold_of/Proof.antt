@@ -83,28 +83,6 @@ returns-3 c = c .read-hold-its .ensures ∙ sym (row-past _ _ _ _ _ (omega arith
 
 pub read-hold-of-spec : {M : Type 1} → statement M
 read-hold-of-spec =
-    tie.close
-    (tie.spec
-    slice-aggregate-read-form
-    slice-aggregate-read-form-2
-    read-form-requires
-    array-read-t19
-    cast-t20
-    array-read-t23
-    array-read-t26
-    cast-t27
-    array-read-t30
-    cast-t31
-    returns
-    slice-aggregate-read-form-3
-    slice-aggregate-read-form-4
-    read-form-requires-2
-    array-read-t38
-    cast-t39
-    array-read-t42
-    cast-t43
-    array-read-t46
-    cast-t47
-    returns-2
-    read-hold-its-requires
-    returns-3)
+    tie.close (tie.spec slice-aggregate-read-form slice-aggregate-read-form-2 read-form-requires array-read-t19 cast-t20 array-read-t23 array-read-t26 cast-t27
+    array-read-t30 cast-t31 returns slice-aggregate-read-form-3 slice-aggregate-read-form-4 read-form-requires-2 array-read-t38 cast-t39 array-read-t42 cast-t43
+    array-read-t46 cast-t47 returns-2 read-hold-its-requires returns-3)

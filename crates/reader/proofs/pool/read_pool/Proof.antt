@@ -84,27 +84,6 @@ returns-4 c = c .read-pool-of .ensures ∙ sym (row-past _ _ _ _ _ (omega arith)
 
 pub read-pool-spec : {M : Type 1} → statement M
 read-pool-spec =
-    tie.close
-    (tie.spec
-    slice-aggregate-read-form
-    slice-aggregate-read-form-2
-    read-form-requires
-    array-read-t23
-    array-read-t26
-    returns
-    slice-aggregate-read-form-3
-    slice-aggregate-read-form-4
-    read-form-requires-2
-    array-read-t33
-    cast-t34
-    array-read-t37
-    cast-t38
-    returns-2
-    slice-aggregate-read-form-5
-    slice-aggregate-read-form-6
-    read-form-requires-3
-    array-read-t45
-    array-read-t48
-    returns-3
-    read-pool-of-requires
-    returns-4)
+    tie.close (tie.spec slice-aggregate-read-form slice-aggregate-read-form-2 read-form-requires array-read-t23 array-read-t26 returns
+    slice-aggregate-read-form-3 slice-aggregate-read-form-4 read-form-requires-2 array-read-t33 cast-t34 array-read-t37 cast-t38 returns-2
+    slice-aggregate-read-form-5 slice-aggregate-read-form-6 read-form-requires-3 array-read-t45 array-read-t48 returns-3 read-pool-of-requires returns-4)

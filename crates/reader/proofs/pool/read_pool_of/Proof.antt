@@ -101,34 +101,6 @@ returns-3 c = sym (row-past _ _ _ _ _ (omega arith) (c .before .before .before .
 
 pub read-pool-of-spec : {M : Type 1} → statement M
 read-pool-of-spec =
-    tie.close
-    (tie.spec
-    slice-aggregate-read-form
-    slice-aggregate-read-form-2
-    read-form-requires
-    array-read-t19
-    cast-t20
-    array-read-t23
-    array-read-t26
-    returns
-    slice-aggregate-read-form-3
-    slice-aggregate-read-form-4
-    read-form-requires-2
-    array-read-t33
-    cast-t34
-    array-read-t37
-    cast-t38
-    array-read-t41
-    cast-t42
-    array-read-t45
-    cast-t46
-    array-read-t49
-    cast-t50
-    array-read-t53
-    cast-t54
-    array-read-t57
-    cast-t58
-    array-read-t61
-    cast-t62
-    returns-2
-    returns-3)
+    tie.close (tie.spec slice-aggregate-read-form slice-aggregate-read-form-2 read-form-requires array-read-t19 cast-t20 array-read-t23 array-read-t26 returns
+    slice-aggregate-read-form-3 slice-aggregate-read-form-4 read-form-requires-2 array-read-t33 cast-t34 array-read-t37 cast-t38 array-read-t41 cast-t42
+    array-read-t45 cast-t46 array-read-t49 cast-t50 array-read-t53 cast-t54 array-read-t57 cast-t58 array-read-t61 cast-t62 returns-2 returns-3)

@@ -1,7 +1,7 @@
 -- `reader::read::read_holds` meets its contract. Assumes nothing.
+use Rattle.lines.specs.Base.{_andThen_}
 use native.Mathlib.Omega.{arith}
 use mathlib.Core.Path.{sym}
-use Rattle.lines.specs.Base.{_andThen_}
 use Rattle.lines.specs.Line.{n32, behindHold}
 use Rattle.lines.proofs.FormLaws.{number-within}
 use borrow.Author.Needs.{needs}
@@ -32,13 +32,4 @@ unfolding behindHold _andThen_
 returns-2 c = rw (sym (rw (c .before .before .x .given .1) at (c .before .before .before .before .read-number .ensures)), _andThen_) (c .read-hold .ensures)
 
 pub read-holds-spec : {M : Type 1} → statement M
-read-holds-spec =
-    tie.close
-    (tie.spec
-    read-number-requires
-    enum-known-x
-    enum-told
-    returns
-    cast-read-hold
-    read-hold-requires
-    returns-2)
+read-holds-spec = tie.close (tie.spec read-number-requires enum-known-x enum-told returns cast-read-hold read-hold-requires returns-2)

@@ -75,27 +75,6 @@ returns-5 c = c .read-words .ensures ∙ sym (more-fields (c .before .before .be
 
 pub read-line-spec : {M : Type 1} → statement M
 read-line-spec =
-    tie.close
-    (tie.spec
-    returns
-    find-requires
-    returns-2
-    add-a1
-    find-requires-2
-    returns-3
-    add-b1
-    find-requires-3
-    returns-4
-    add-c1
-    slice-aggregate-read-words
-    sub-read-words
-    part-read-words-start
-    part-read-words-end
-    sub-read-words-2
-    part-read-words-start-2
-    part-read-words-end-2
-    sub-read-words-3
-    part-read-words-start-3
-    part-read-words-end-3
-    read-words-requires
-    returns-5)
+    tie.close (tie.spec returns find-requires returns-2 add-a1 find-requires-2 returns-3 add-b1 find-requires-3 returns-4 add-c1 slice-aggregate-read-words
+    sub-read-words part-read-words-start part-read-words-end sub-read-words-2 part-read-words-start-2 part-read-words-end-2 sub-read-words-3
+    part-read-words-start-3 part-read-words-end-3 read-words-requires returns-5)

@@ -38,14 +38,5 @@ returns-3 c = rw (sym (c .before .before .before .before .equal .ensures) ∙ c 
 
 pub read-pools-spec : {M : Type 1} → statement M
 read-pools-spec =
-    tie.close
-    (tie.spec
-    slice-aggregate-equal
-    equal-requires
-    read-pool-requires
-    returns
-    slice-aggregate-equal-2
-    equal-requires-2
-    read-pool-requires-2
-    returns-2
+    tie.close (tie.spec slice-aggregate-equal equal-requires read-pool-requires returns slice-aggregate-equal-2 equal-requires-2 read-pool-requires-2 returns-2
     returns-3)

@@ -69,24 +69,5 @@ returns-4 c = let a = c .before .before .before .before .before .before .before 
 
 pub read-wants-spec : {M : Type 1} → statement M
 read-wants-spec =
-    tie.close
-    (tie.spec
-    find-requires
-    returns
-    read-number-requires
-    enum-known-x
-    enum-told
-    returns-2
-    read-number-requires-2
-    enum-known-y
-    enum-told-2
-    returns-3
-    add-b
-    cast-read-want
-    cast-read-want-2
-    slice-aggregate-read-want
-    sub-read-want
-    part-read-want-start
-    part-read-want-end
-    read-want-requires
-    returns-4)
+    tie.close (tie.spec find-requires returns read-number-requires enum-known-x enum-told returns-2 read-number-requires-2 enum-known-y enum-told-2 returns-3
+    add-b cast-read-want cast-read-want-2 slice-aggregate-read-want sub-read-want part-read-want-start part-read-want-end read-want-requires returns-4)

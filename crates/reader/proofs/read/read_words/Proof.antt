@@ -50,18 +50,5 @@ returns-4 c = rw (sym (c .before .before .before .before .before .before .before
 
 pub read-words-spec : {M : Type 1} → statement M
 read-words-spec =
-    tie.close
-    (tie.spec
-    slice-aggregate-equal
-    equal-requires
-    read-pools-requires
-    returns
-    slice-aggregate-equal-2
-    equal-requires-2
-    read-holds-requires
-    returns-2
-    slice-aggregate-equal-3
-    equal-requires-3
-    read-wants-requires
-    returns-3
-    returns-4)
+    tie.close (tie.spec slice-aggregate-equal equal-requires read-pools-requires returns slice-aggregate-equal-2 equal-requires-2 read-holds-requires returns-2
+    slice-aggregate-equal-3 equal-requires-3 read-wants-requires returns-3 returns-4)

@@ -78,25 +78,6 @@ returns-4 c = c .read-want-of .ensures ∙ sym (row-past _ _ _ _ _ (omega arith)
 
 pub read-want-spec : {M : Type 1} → statement M
 read-want-spec =
-    tie.close
-    (tie.spec
-    slice-aggregate-read-form
-    slice-aggregate-read-form-2
-    read-form-requires
-    array-read-t23
-    array-read-t26
-    returns
-    slice-aggregate-read-form-3
-    slice-aggregate-read-form-4
-    read-form-requires-2
-    array-read-t33
-    cast-t34
-    array-read-t37
-    cast-t38
-    returns-2
-    slice-aggregate-read-form-5
-    slice-aggregate-read-form-6
-    read-form-requires-3
-    returns-3
-    read-want-of-requires
-    returns-4)
+    tie.close (tie.spec slice-aggregate-read-form slice-aggregate-read-form-2 read-form-requires array-read-t23 array-read-t26 returns
+    slice-aggregate-read-form-3 slice-aggregate-read-form-4 read-form-requires-2 array-read-t33 cast-t34 array-read-t37 cast-t38 returns-2
+    slice-aggregate-read-form-5 slice-aggregate-read-form-6 read-form-requires-3 returns-3 read-want-of-requires returns-4)

@@ -90,29 +90,6 @@ returns-4 c = c .read-want-at-of .ensures ∙ sym (row-past _ _ _ _ _ (omega ari
 
 pub read-want-at-spec : {M : Type 1} → statement M
 read-want-at-spec =
-    tie.close
-    (tie.spec
-    slice-aggregate-read-form
-    slice-aggregate-read-form-2
-    read-form-requires
-    array-read-t24
-    array-read-t27
-    array-read-t30
-    returns
-    slice-aggregate-read-form-3
-    slice-aggregate-read-form-4
-    read-form-requires-2
-    array-read-t37
-    cast-t38
-    array-read-t41
-    cast-t42
-    array-read-t45
-    cast-t46
-    returns-2
-    slice-aggregate-read-form-5
-    slice-aggregate-read-form-6
-    read-form-requires-3
-    array-read-t53
-    returns-3
-    read-want-at-of-requires
-    returns-4)
+    tie.close (tie.spec slice-aggregate-read-form slice-aggregate-read-form-2 read-form-requires array-read-t24 array-read-t27 array-read-t30 returns
+    slice-aggregate-read-form-3 slice-aggregate-read-form-4 read-form-requires-2 array-read-t37 cast-t38 array-read-t41 cast-t42 array-read-t45 cast-t46
+    returns-2 slice-aggregate-read-form-5 slice-aggregate-read-form-6 read-form-requires-3 array-read-t53 returns-3 read-want-at-of-requires returns-4)

@@ -98,33 +98,6 @@ returns-3 c = sym (row-past _ _ _ _ _ (omega arith) (c .before .before .before .
 
 pub read-want-at-of-spec : {M : Type 1} → statement M
 read-want-at-of-spec =
-    tie.close
-    (tie.spec
-    slice-aggregate-read-form
-    slice-aggregate-read-form-2
-    read-form-requires
-    array-read-t20
-    cast-t21
-    array-read-t24
-    cast-t25
-    array-read-t28
-    cast-t29
-    array-read-t32
-    returns
-    slice-aggregate-read-form-3
-    slice-aggregate-read-form-4
-    read-form-requires-2
-    array-read-t39
-    cast-t40
-    array-read-t43
-    cast-t44
-    array-read-t47
-    cast-t48
-    array-read-t51
-    cast-t52
-    array-read-t55
-    cast-t56
-    array-read-t59
-    cast-t60
-    returns-2
-    returns-3)
+    tie.close (tie.spec slice-aggregate-read-form slice-aggregate-read-form-2 read-form-requires array-read-t20 cast-t21 array-read-t24 cast-t25 array-read-t28
+    cast-t29 array-read-t32 returns slice-aggregate-read-form-3 slice-aggregate-read-form-4 read-form-requires-2 array-read-t39 cast-t40 array-read-t43 cast-t44
+    array-read-t47 cast-t48 array-read-t51 cast-t52 array-read-t55 cast-t56 array-read-t59 cast-t60 returns-2 returns-3)

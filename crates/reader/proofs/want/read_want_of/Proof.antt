@@ -80,27 +80,6 @@ returns-3 c = c .read-want-at .ensures ∙ sym (row-past _ _ _ _ _ (omega arith)
 
 pub read-want-of-spec : {M : Type 1} → statement M
 read-want-of-spec =
-    tie.close
-    (tie.spec
-    slice-aggregate-read-form
-    slice-aggregate-read-form-2
-    read-form-requires
-    array-read-t20
-    cast-t21
-    array-read-t24
-    cast-t25
-    array-read-t28
-    cast-t29
-    returns
-    slice-aggregate-read-form-3
-    slice-aggregate-read-form-4
-    read-form-requires-2
-    array-read-t36
-    cast-t37
-    array-read-t40
-    cast-t41
-    array-read-t44
-    cast-t45
-    returns-2
-    read-want-at-requires
-    returns-3)
+    tie.close (tie.spec slice-aggregate-read-form slice-aggregate-read-form-2 read-form-requires array-read-t20 cast-t21 array-read-t24 cast-t25 array-read-t28
+    cast-t29 returns slice-aggregate-read-form-3 slice-aggregate-read-form-4 read-form-requires-2 array-read-t36 cast-t37 array-read-t40 cast-t41 array-read-t44
+    cast-t45 returns-2 read-want-at-requires returns-3)

@@ -82,24 +82,5 @@ returns-2 c = search needs
 
 pub read-command-spec : {M : Type 1} → statement M
 read-command-spec =
-    tie.close
-    (tie.spec
-    Inv-loop
-    μ-loop
-    loop-holds
-    shared-slice-read-b
-    add-i
-    returns
-    add-j
-    loop-less
-    loop-again
-    mul-v
-    array-read-v
-    with-digit-requires
-    mul-x
-    array-write-x
-    loop-less-2
-    loop-again-2
-    loop-less-3
-    loop-again-3
-    returns-2)
+    tie.close (tie.spec Inv-loop μ-loop loop-holds shared-slice-read-b add-i returns add-j loop-less loop-again mul-v array-read-v with-digit-requires mul-x
+    array-write-x loop-less-2 loop-again-2 loop-less-3 loop-again-3 returns-2)

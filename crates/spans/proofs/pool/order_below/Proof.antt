@@ -43,16 +43,4 @@ returns-2 : tie.Need-returns-2 Inv-loop μ-loop
 returns-2 c = let e : c .before .loop .j ≡ c .before .before .args .k = omega arith in sym (rw e at (c .before .loop .inv .1))
 
 pub order-below-spec : {M : Type 1} → statement M
-order-below-spec =
-    tie.close
-    (tie.spec
-    Inv-loop
-    μ-loop
-    loop-holds
-    pool-at-requires
-    in-order-requires
-    returns
-    add-j
-    loop-less
-    loop-again
-    returns-2)
+order-below-spec = tie.close (tie.spec Inv-loop μ-loop loop-holds pool-at-requires in-order-requires returns add-j loop-less loop-again returns-2)

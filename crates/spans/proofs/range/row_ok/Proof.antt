@@ -41,15 +41,4 @@ returns-4 : tie.Need-returns-4
 returns-4 c = sym (ap isClear (c .enum-told2 .given .1)) ∙ sym (range-hit _ _ _ _ (is-good (c .before .before .before .before .before)) (rw (c .before .before .before .before .before .before .before .range-at .ensures) at (c .before .before .first-overlap .ensures)))
 
 pub row-ok-spec : {M : Type 1} → statement M
-row-ok-spec =
-    tie.close
-    (tie.spec
-    range-at-requires
-    good-row-requires
-    returns
-    returns-2
-    first-overlap-requires
-    enum-told
-    enum-told-2
-    returns-3
-    returns-4)
+row-ok-spec = tie.close (tie.spec range-at-requires good-row-requires returns returns-2 first-overlap-requires enum-told enum-told-2 returns-3 returns-4)

@@ -51,17 +51,5 @@ returns-2 c = let e : c .before .loop .k ≡ c .before .before .args .n = omega 
 
 pub rows-ok-spec : {M : Type 1} → statement M
 rows-ok-spec =
-    tie.close
-    (tie.spec
-    Inv-loop
-    μ-loop
-    loop-holds
-    row-ok-requires
-    returns
-    mul-higher
-    element-copy-out-higher
-    higher-requires
-    add-k
-    loop-less
-    loop-again
+    tie.close (tie.spec Inv-loop μ-loop loop-holds row-ok-requires returns mul-higher element-copy-out-higher higher-requires add-k loop-less loop-again
     returns-2)

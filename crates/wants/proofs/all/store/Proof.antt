@@ -53,17 +53,4 @@ returns c =
 
 pub store-spec : {M : Type 1} → statement M
 store-spec =
-    tie.close
-    (tie.spec
-    Inv-loop
-    μ-loop
-    loop-holds
-    add-j
-    mul-numbers
-    array-read-numbers
-    mul-numbers-2
-    element-write-numbers
-    add-i
-    loop-less
-    loop-again
-    returns)
+    tie.close (tie.spec Inv-loop μ-loop loop-holds add-j mul-numbers array-read-numbers mul-numbers-2 element-write-numbers add-i loop-less loop-again returns)

@@ -1,16 +1,19 @@
 -- `wants::one::asked_of` meets its contract: a line's request is that of its arm. Assumes nothing.
 use mathlib.Core.Path.{_≡_, sym, ap, _∙_}
+use mathlib.Core.List.{List}
 use mathlib.Core.Option.{Option}
+use Prim.Native.Nat.{ℕ}
 use borrow.Author.Needs.{needs}
 use Rattle.definition.specs.Request.{Request}
 use Rattle.reader.specs.Says.{lineSays}
 use Rattle.reader.specs.declared.line.Line.{Line}
 use Rattle.asking.specs.Asking.{wanted}
+use Rattle.wants.specs.Wants.{numbersFor}
 use Rattle.wants.proofs.one.asked_of.Statement.{statement}
 use Rattle.wants.proofs.one.asked_of.Tie as tie
 
-says : {o : Option Request} (l m : Line) → l ≡ m → o ≡ wanted (lineSays m) → o ≡ wanted (lineSays l)
-says l m e h = h ∙ ap (λ (x : Line). wanted (lineSays x)) (sym e)
+says : {o : Option Request} {ns : List ℕ} (l m : Line) → l ≡ m → (o ≡ wanted (lineSays m)) × (ns ≡ numbersFor (wanted (lineSays m))) → (o ≡ wanted (lineSays l)) × (ns ≡ numbersFor (wanted (lineSays l)))
+says l m e h = (h .0 ∙ ap (λ (x : Line). wanted (lineSays x)) (sym e), h .1 ∙ ap (λ (x : Line). numbersFor (wanted (lineSays x))) (sym e))
 
 enum-told : tie.Need-enum-told
 enum-told c = search needs
@@ -221,74 +224,10 @@ returns-23 c = says (c .before .before .before .before .args .line) _ (c .before
 
 pub asked-of-spec : {M : Type 1} → statement M
 asked-of-spec =
-    tie.close
-    (tie.spec
-    enum-told
-    nothing-requires
-    enum-told-2
-    nothing-requires-2
-    enum-told-3
-    nothing-requires-3
-    enum-told-4
-    nothing-requires-4
-    enum-told-5
-    nothing-requires-5
-    enum-told-6
-    nothing-requires-6
-    enum-told-7
-    nothing-requires-7
-    enum-told-8
-    nothing-requires-8
-    enum-told-9
-    nothing-requires-9
-    enum-told-10
-    nothing-requires-10
-    enum-told-11
-    nothing-requires-11
-    enum-told-12
-    nothing-requires-12
-    enum-told-13
-    nothing-requires-13
-    enum-known-line
-    mmio-requires
-    enum-known-line-2
-    pio-requires
-    enum-known-line-3
-    host-requires
-    enum-known-line-4
-    input-requires
-    enum-known-line-5
-    messages-requires
-    enum-known-line-6
-    mmio-requires-2
-    enum-known-line-7
-    pio-requires-2
-    enum-known-line-8
-    host-requires-2
-    enum-known-line-9
-    input-requires-2
-    enum-known-line-10
-    messages-requires-2
-    returns
-    returns-2
-    returns-3
-    returns-4
-    returns-5
-    returns-6
-    returns-7
-    returns-8
-    returns-9
-    returns-10
-    returns-11
-    returns-12
-    returns-13
-    returns-14
-    returns-15
-    returns-16
-    returns-17
-    returns-18
-    returns-19
-    returns-20
-    returns-21
-    returns-22
-    returns-23)
+    tie.close (tie.spec enum-told nothing-requires enum-told-2 nothing-requires-2 enum-told-3 nothing-requires-3 enum-told-4 nothing-requires-4 enum-told-5
+    nothing-requires-5 enum-told-6 nothing-requires-6 enum-told-7 nothing-requires-7 enum-told-8 nothing-requires-8 enum-told-9 nothing-requires-9 enum-told-10
+    nothing-requires-10 enum-told-11 nothing-requires-11 enum-told-12 nothing-requires-12 enum-told-13 nothing-requires-13 enum-known-line mmio-requires
+    enum-known-line-2 pio-requires enum-known-line-3 host-requires enum-known-line-4 input-requires enum-known-line-5 messages-requires enum-known-line-6
+    mmio-requires-2 enum-known-line-7 pio-requires-2 enum-known-line-8 host-requires-2 enum-known-line-9 input-requires-2 enum-known-line-10 messages-requires-2
+    returns returns-2 returns-3 returns-4 returns-5 returns-6 returns-7 returns-8 returns-9 returns-10 returns-11 returns-12 returns-13 returns-14 returns-15
+    returns-16 returns-17 returns-18 returns-19 returns-20 returns-21 returns-22 returns-23)

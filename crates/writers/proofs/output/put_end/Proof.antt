@@ -22,11 +22,4 @@ unfolding endLine
 returns c = c .before .before .put-line .ensures
 
 pub put-end-spec : {M : Type 1} → statement M
-put-end-spec =
-    tie.close
-    (tie.spec
-    slice-aggregate-put-line
-    slice-aggregate-put-line-2
-    put-line-requires
-    same-length
-    returns)
+put-end-spec = tie.close (tie.spec slice-aggregate-put-line slice-aggregate-put-line-2 put-line-requires same-length returns)

@@ -67,23 +67,6 @@ returns c =
 
 pub put-got-spec : {M : Type 1} → statement M
 put-got-spec =
-    tie.close
-    (tie.spec
-    shared-slice-read-k
-    slice-aggregate-put-bytes
-    put-bytes-requires
-    sub-put-numbers
-    part-put-numbers-start
-    part-put-numbers-end
-    put-numbers-requires
-    put-kind-requires
-    carried-requires
-    add-n
-    sub-put-numbers-2
-    part-put-numbers-start-2
-    part-put-numbers-end-2
-    put-numbers-requires-2
-    slice-write-out
-    add-result
-    same-length
-    returns)
+    tie.close (tie.spec shared-slice-read-k slice-aggregate-put-bytes put-bytes-requires sub-put-numbers part-put-numbers-start part-put-numbers-end
+    put-numbers-requires put-kind-requires carried-requires add-n sub-put-numbers-2 part-put-numbers-start-2 part-put-numbers-end-2 put-numbers-requires-2
+    slice-write-out add-result same-length returns)

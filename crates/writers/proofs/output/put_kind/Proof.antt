@@ -77,25 +77,6 @@ returns-5 c = rw (ne-eqb (c .before .before .before .before .before .before .bef
 
 pub put-kind-spec : {M : Type 1} → statement M
 put-kind-spec =
-    tie.close
-    (tie.spec
-    slice-aggregate-put-bytes
-    put-bytes-requires
-    same-length
-    returns
-    slice-aggregate-put-bytes-2
-    put-bytes-requires-2
-    same-length-2
-    returns-2
-    slice-aggregate-put-bytes-3
-    put-bytes-requires-3
-    same-length-3
-    returns-3
-    slice-aggregate-put-bytes-4
-    put-bytes-requires-4
-    same-length-4
-    returns-4
-    slice-aggregate-put-bytes-5
-    put-bytes-requires-5
-    same-length-5
-    returns-5)
+    tie.close (tie.spec slice-aggregate-put-bytes put-bytes-requires same-length returns slice-aggregate-put-bytes-2 put-bytes-requires-2 same-length-2
+    returns-2 slice-aggregate-put-bytes-3 put-bytes-requires-3 same-length-3 returns-3 slice-aggregate-put-bytes-4 put-bytes-requires-4 same-length-4 returns-4
+    slice-aggregate-put-bytes-5 put-bytes-requires-5 same-length-5 returns-5)

@@ -22,11 +22,4 @@ unfolding noLine
 returns c = c .before .before .put-line .ensures
 
 pub put-no-spec : {M : Type 1} → statement M
-put-no-spec =
-    tie.close
-    (tie.spec
-    slice-aggregate-put-line
-    slice-aggregate-put-line-2
-    put-line-requires
-    same-length
-    returns)
+put-no-spec = tie.close (tie.spec slice-aggregate-put-line slice-aggregate-put-line-2 put-line-requires same-length returns)

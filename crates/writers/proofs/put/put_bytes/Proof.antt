@@ -46,17 +46,4 @@ returns c = let a = c .before .before .args in (omega arith, c .before .loop .in
 
 pub put-bytes-spec : {M : Type 1} → statement M
 put-bytes-spec =
-    tie.close
-    (tie.spec
-    Inv-loop
-    μ-loop
-    loop-holds
-    add-j
-    shared-slice-read-out
-    slice-write-out
-    add-i
-    loop-less
-    loop-again
-    add-result
-    same-length
-    returns)
+    tie.close (tie.spec Inv-loop μ-loop loop-holds add-j shared-slice-read-out slice-write-out add-i loop-less loop-again add-result same-length returns)

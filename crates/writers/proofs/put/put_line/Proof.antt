@@ -25,12 +25,4 @@ returns : tie.Need-returns
 returns c = let a = c .before .before .before .before .before .before .before .before .before .before .before .args in put-line-parts (a .out .now) (a .at) (a .w .now) (a .xs .now) (c .before .before .before .before .before .before .put-bytes .result) (c .before .before .put-numbers .result) (c .before .before .before .before .before .before .put-bytes .last .0) (c .before .before .put-numbers .last .0) (c .before .before .before .before .before .before .put-bytes .ensures) (c .before .before .put-numbers .ensures)
 
 pub put-line-spec : {M : Type 1} → statement M
-put-line-spec =
-    tie.close
-    (tie.spec
-    put-bytes-requires
-    put-numbers-requires
-    slice-write-out
-    add-result
-    same-length
-    returns)
+put-line-spec = tie.close (tie.spec put-bytes-requires put-numbers-requires slice-write-out add-result same-length returns)

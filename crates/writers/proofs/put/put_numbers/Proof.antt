@@ -69,18 +69,5 @@ returns c =
 
 pub put-numbers-spec : {M : Type 1} → statement M
 put-numbers-spec =
-    tie.close
-    (tie.spec
-    Inv-loop
-    μ-loop
-    loop-holds
-    slice-write-out
-    mul-x
-    shared-slice-read-x
-    add-put-number
-    put-number-requires
-    add-i
-    loop-less
-    loop-again
-    same-length
-    returns)
+    tie.close (tie.spec Inv-loop μ-loop loop-holds slice-write-out mul-x shared-slice-read-x add-put-number put-number-requires add-i loop-less loop-again
+    same-length returns)

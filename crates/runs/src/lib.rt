@@ -1,0 +1,31 @@
+// Demand 3 as a program, on a state by value: a plan, its answers written back into its lines, and some of these lines run again in any order.
+use plan::numbers::plan_by_value;
+use pool::start;
+use tables::State;
+ghost use mathlib.Core.Path.{_≡_};
+ghost use Rattle.tables.specs.Views.{stateView};
+ghost use Rattle.again.specs.Runs.{runs, runsOf};
+
+// One line more than a plan has.
+const MOST: usize = 1548;
+
+// Start, plan, pin; take the selected lines in the given order; start, plan. After a refused first plan nothing more is done.
+pub fn replayed(
+    s: State,
+    requests: &mut [u64],
+    selection: &[u64],
+    results: &mut [u64],
+    second: &mut [u64],
+) -> State
+    ensures { λ t. ⌜ runs (stateView t) (now (requests .exit)) (now (results .exit)) (now (second .exit)) ≡ runsOf (now (requests .entry)) (now (selection .entry)) (now (results .entry)) (now (second .entry)) (stateView s) ⌝ }
+{
+    let t = plan_by_value(start(s), requests, results);
+    if t.number != 0 {
+        return t;
+    }
+    pin::pin(requests, results);
+    let mut chosen = [0u64; MOST];
+    let n = again::take(requests, selection, &mut chosen);
+    let u = start(t);
+    plan_by_value(u, &chosen[..n], second)
+}
