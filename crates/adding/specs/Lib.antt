@@ -1,4 +1,2 @@
 pub mod Kinds
 pub mod Whole
-pub mod PoolCalls
-pub mod HoldCalls

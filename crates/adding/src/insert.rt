@@ -1,7 +1,8 @@
 // One pool range more, among the pool tables of one use.
-use super::PoolRange;
+
 use super::msi::add_msi_ranges;
 use range::wide16;
+use request::call::PoolRange;
 use tables::Pool;
 use tables::PoolRow;
 use tables::Pools;
@@ -11,7 +12,7 @@ ghost use Rattle.definition.specs.Tables.{poolLimit, sameSpan, blankSpan, tidy,
 ghost use Rattle.definition.specs.Pools.{spans};
 ghost use Rattle.tables.specs.Views.{spanOf, poolOf, poolView};
 ghost use Rattle.adding.specs.Kinds.{kindOf};
-ghost use Rattle.adding.specs.PoolCalls.{poolCall};
+ghost use Rattle.request.specs.Calls.{poolCall};
 ghost use Rattle.adding.specs.Whole.{IsPoolRow, putPool, Added, TidyPools, Filling};
 
 // The kinds, each with a pool table.

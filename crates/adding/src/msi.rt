@@ -1,7 +1,4 @@
 // An MSI domain among the pool tables of one use, and reservations of DeviceIDs, EventIDs and LPIs. After src/resources/pool/msi.rs of axdevice 0.8.5, Apache-2.0, see NOTICE; changed.
-use super::Devices;
-use super::Events;
-use super::Lpis;
 use super::insert::Filled;
 use super::insert::Kind;
 use super::insert::fill;
@@ -10,6 +7,9 @@ use super::reserve::Kept;
 use super::reserve::RangeKind;
 use super::reserve::hold_range;
 use range::wide;
+use request::call::Devices;
+use request::call::Events;
+use request::call::Lpis;
 use tables::DeviceId;
 use tables::Holders;
 use tables::Pools;

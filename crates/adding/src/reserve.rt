@@ -1,8 +1,8 @@
 // One reservation more, among the reservation tables.
-use super::Hold;
 use super::msi;
 use range::Reply;
 use range::wide16;
+use request::call::Hold;
 use tables::Holders;
 use tables::RangeRow;
 use tables::Ranges;
@@ -14,7 +14,7 @@ ghost use lib.Dec.{T};
 ghost use Rattle.definition.specs.Tables.{top, input as wired, host, fits};
 ghost use Rattle.definition.specs.Pools.{at-kind, heldRows};
 ghost use Rattle.tables.specs.Views.{rangeOf, wireOf};
-ghost use Rattle.adding.specs.HoldCalls.{holdCall};
+ghost use Rattle.request.specs.Calls.{holdCall};
 ghost use Rattle.adding.specs.Kinds.{rangeKind};
 ghost use Rattle.adding.specs.Whole.{IsRangeRow, wireRow, rangesOf, putRanges, Few, Keeping};
 

@@ -1,6 +1,6 @@
 // Numbers that fit the fields of a call, and the call that stands for those that do not.
-use adding::Hold;
 use pool::Call;
+use request::call::Hold;
 ghost use mathlib.Core.Path.{_≡_};
 ghost use mathlib.Core.List.{[], _∷_};
 ghost use Rattle.definition.specs.Base.{allOf};

@@ -2,12 +2,12 @@
 use super::fields::bad;
 use super::fields::narrow_16;
 use super::fields::narrow_32;
-use adding::Devices;
-use adding::Events;
-use adding::Lpis;
-use adding::PoolRange;
 use pool::Call;
-use pool::Use;
+use request::call::Devices;
+use request::call::Events;
+use request::call::Lpis;
+use request::call::PoolRange;
+use request::call::Use;
 use tables::DeviceId;
 use tables::EventId;
 use tables::Lpi;
@@ -15,7 +15,8 @@ ghost use mathlib.Core.Path.{_≡_};
 ghost use mathlib.Core.List.{[], _∷_};
 ghost use Rattle.definition.specs.Pools.{pioPool, inputPool, msiPool};
 ghost use Rattle.definition.specs.Calls.{pool};
-ghost use Rattle.pool.specs.Served.{useOf, callOf};
+ghost use Rattle.request.specs.Calls.{useOf};
+ghost use Rattle.pool.specs.Served.{callOf};
 ghost use Rattle.coding.specs.Coding.{narrow, poolIn, usedIn, poolSize};
 
 // How many numbers a pool of a kind needs.

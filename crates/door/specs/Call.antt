@@ -1,8 +1,6 @@
 -- A call of the door in the definition's words. Assumes nothing.
 use Rattle.definition.specs.Calls.{Call as DCall, pool, hold, start, want}
-use Rattle.adding.specs.PoolCalls.{poolCall}
-use Rattle.adding.specs.HoldCalls.{holdCall}
-use Rattle.pool.specs.Served.{useOf}
+use Rattle.request.specs.Calls.{useOf, poolCall, holdCall}
 use Rattle.request.specs.Asked.{requestOf}
 use Rattle.door.specs.declared.Call.{Call}
 use Rattle.door.specs.declared.Call.the-variants.{Pool, Hold, Start, Want}

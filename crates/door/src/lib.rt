@@ -1,8 +1,8 @@
 // The doors: the whole state is lent to be changed in place. Each copies the state out, calls the by-value core and stores what that returns.
-use adding::Hold;
-use adding::PoolRange;
-use pool::Use;
 use request::Request;
+use request::call::Hold;
+use request::call::PoolRange;
+use request::call::Use;
 use tables::State;
 ghost use mathlib.Core.Path.{_≡_};
 ghost use Rattle.definition.specs.Tables.{kinds};

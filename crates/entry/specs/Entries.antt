@@ -13,7 +13,7 @@ use Rattle.definition.specs.Calls.{Call, pool, hold}
 use Rattle.lines.specs.Line.{readLine}
 use Rattle.lines.specs.Head.{adds, lineAt, Stops}
 use Rattle.tables.specs.Views.{rangeOf, wireOf}
-use Rattle.adding.specs.PoolCalls.{poolCall}
+use Rattle.request.specs.Calls.{poolCall}
 use Rattle.entry.specs.declared.Entry.{Entry}
 use Rattle.entry.specs.declared.Entry.the-variants as E
 

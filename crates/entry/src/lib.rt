@@ -1,13 +1,13 @@
 // What a line adds, as the ranges and rows of the tables.
-use adding::Devices;
-use adding::Events;
-use adding::Lpis;
-use adding::PoolRange;
 use adding::reserve::row;
 use range::wide;
 use range::wide16;
 use reader::line::Line;
 use reader::read::read_line;
+use request::call::Devices;
+use request::call::Events;
+use request::call::Lpis;
+use request::call::PoolRange;
 use tables::DeviceId;
 use tables::EventId;
 use tables::Lpi;
@@ -21,7 +21,7 @@ ghost use Rattle.definition.specs.Calls.{pool};
 ghost use Rattle.lines.specs.Base.{newline};
 ghost use Rattle.lines.specs.Code.{first};
 ghost use Rattle.reader.specs.Says.{useFor, lineSays};
-ghost use Rattle.adding.specs.PoolCalls.{poolCall};
+ghost use Rattle.request.specs.Calls.{poolCall};
 ghost use Rattle.entry.specs.Entries.{Tells, Comes};
 
 // A range for the pools of a use, or a row of a reservation table. `Other`: a `want`, a line of no form, or no whole line at all.

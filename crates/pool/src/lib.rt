@@ -9,26 +9,20 @@ ghost use Rattle.definition.specs.Tables.{kinds};
 ghost use Rattle.definition.specs.Pools.{spans, heldRows, pairHold};
 ghost use Rattle.definition.specs.Calls.{given, addAll, hold, start, serve};
 ghost use Rattle.tables.specs.Views.{stateView};
-ghost use Rattle.adding.specs.PoolCalls.{poolCall};
-ghost use Rattle.adding.specs.HoldCalls.{holdCall};
+ghost use Rattle.request.specs.Calls.{useOf, poolCall, holdCall};
 ghost use Rattle.adding.specs.Whole.{heldAfter};
-ghost use Rattle.pool.specs.Served.{useOf, callOf};
-pub use adding::Devices;
-pub use adding::Events;
-pub use adding::Hold;
-pub use adding::Lpis;
-pub use adding::PoolRange;
+ghost use Rattle.pool.specs.Served.{callOf};
+pub use request::call::Devices;
+pub use request::call::Events;
+pub use request::call::Hold;
+pub use request::call::Lpis;
+pub use request::call::PoolRange;
+pub use request::call::Use;
 
 pub mod address;
 pub mod host_irq;
 pub mod msi;
 pub mod wired;
-
-// Which pools a range is added to: those that automatic requests search, or those that fixed requests are allowed in.
-pub enum Use {
-    Automatic,
-    Fixed,
-}
 
 // A call that adds, with its owner where it reserves, or that starts.
 pub enum Call {

@@ -11,6 +11,8 @@ ghost use Rattle.choose.specs.Told.{choiceOf, refusalOf};
 ghost use Rattle.choose.specs.Ids.{deviceChoice, eventChoice, lpiChoice};
 ghost use Rattle.request.specs.Asked.{wantOf, requestOf, saidOf, goodSpan};
 
+pub mod call;
+
 const TOP_64: u64 = 18446744073709551615;
 
 const TOP_16: u64 = 65535;
