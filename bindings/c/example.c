@@ -6,14 +6,15 @@
 
 static uint64_t state[PLANNER_STATE_WORDS];
 
-static void board(void) {
-    planner_begin(state);
-    for (uint64_t use = 0; use < 2; use++) {
-        planner_pool_mmio(state, use, 0x10000000, 0x10100000);
-        planner_pool_host(state, use, 40, 60);
+/* What the board gives: 0, or the first refusal. */
+static uint64_t board(void) {
+    uint64_t refused = planner_begin(state);
+    for (uint64_t use = 0; !refused && use < 2; use++) {
+        refused = planner_pool_mmio(state, use, 0x10000000, 0x10100000);
+        if (!refused) refused = planner_pool_host(state, use, 40, 60);
     }
-    planner_hold_host(state, 100, 40, 41);
-    planner_start(state);
+    if (!refused) refused = planner_hold_host(state, 100, 40, 41);
+    return refused ? refused : planner_start(state);
 }
 
 int main(void) {
@@ -24,19 +25,14 @@ int main(void) {
     };
     uint64_t first[3 * PLANNER_RECORD], second[3 * PLANNER_RECORD], answer[5], row[9];
 
-    board();
-    if (planner_run(state, requests, 3, first, answer) != 0) return 1;
+    if (board() != 0 || planner_run(state, requests, 3, first, answer) != 0) return 1;
     for (size_t i = 0; i < 3; i++) printf("device %" PRIu64 ": %" PRIu64 "\n", first[9 * i + 1], first[9 * i + 3]);
     if (planner_row(state, 4, 4, 0, row) != 0 || row[0] != 3 || row[8] != 100) return 1;
 
     /* the plan with its answers written back gets the same numbers on a fresh state */
-    if (planner_write_back(requests, first, 3) != 0) return 1;
-    board();
-    uint64_t filled = planner_plan(state, PLANNER_STATE_SIZE, requests, 3 * PLANNER_REQUEST, second, 3 * PLANNER_RECORD);
-    if (filled != 3 * PLANNER_RECORD || memcmp(first, second, sizeof first) != 0) return 1;
-
-    /* a state of another size is not touched, and no null pointer comes in */
-    if (planner_fresh(state, 8) != 1 || planner_start(NULL) != 1) return 1;
+    if (planner_write_back(requests, 3, first, answer) != 0) return 1;
+    if (board() != 0 || planner_run(state, requests, 3, second, answer) != 0) return 1;
+    if (memcmp(first, second, sizeof first) != 0) return 1;
     puts("the same again");
     return 0;
 }

@@ -1,13 +1,77 @@
-/* The device planner for C: a device planner that cannot hand the same number to two devices.
+/* The device planner for C. It gives devices their memory, ports, wired inputs, host IRQs and message interrupts, and hands no
+ * number to two devices, but for a wired input that both share.
  *
- * The state is your memory: PLANNER_STATE_SIZE bytes, aligned to 8, lent with its size to every call. A state of another size is
- * not touched, and the answer is 1. Any bytes may stand in it: they are judged, and refused with 1 where they are not sound.
- * Lists are a pointer and a count of 64-bit numbers; a list without numbers still wants a pointer that is not null. The helpers
- * below refuse null pointers with 1. Requests and plans run on a stack of 64 KB; the other calls take up to 768 KB, as measured:
- * give a thread that makes them 1 MB.
+ * In short
+ * --------
+ *     static uint64_t state[PLANNER_STATE_WORDS];
+ *     uint64_t requests[PLANNER_REQUEST] = {4, 7, 0};        a host IRQ for device 7, slot 0; which one, the planner chooses
+ *     uint64_t results[PLANNER_RECORD], answer[PLANNER_ANSWER];
  *
- * Answers: 0 accepted, 1 malformed tables, 2 bad input, 3 bad owner, 4 empty range, 5 reserved, 6 fixed not allowed, 7 exhausted,
- * 8 conflict, 9 full, 10 bad line, 11 too short (a list) or too long (a plan). */
+ *     if (planner_begin(state)) ..                           the tables, empty
+ *     if (planner_pool_host(state, 0, 40, 60)) ..            what it may choose from: 40 to 59
+ *     if (planner_hold_host(state, 100, 40, 41)) ..          what owner 100 has already
+ *     if (planner_start(state)) ..                           the reservations become the first owners
+ *     if (planner_run(state, requests, 1, results, answer))  a plan of one request
+ *         ..                                                 answer says which request was refused, and why
+ *     results[3]                                             41
+ *
+ * The state
+ * ---------
+ * It is your memory: PLANNER_STATE_SIZE bytes, aligned to 8, lent to every call. Any bytes may stand in it: each call judges them,
+ * and refuses with 1 what is not sound. Its last five numbers are the last answer, written by every call but those that read.
+ * It holds 28 tables, one of each part and kind. Parts: 1 automatic pools, 2 fixed pools (32 rows a table), 3 reservations, 4 owners
+ * (128 rows a table). Kinds: 1 MMIO, 2 PIO, 3 input, 4 host IRQ, 5 device, 6 event, 7 LPI. A row more than a table has is refused with 9.
+ * A start makes the owners copies of the reservations and forgets all grants. After a reservation made since then the owners no longer
+ * begin with the reservations: requests and plans are answered with 1 until the planner is started again. Pools may be added at any time.
+ *
+ * Numbers
+ * -------
+ * Ranges are half-open. MMIO, inputs and host IRQs are 64-bit, PIO 16-bit; owner, requester, slot, controller, ITS, device, event, LPI,
+ * counts and codes 32-bit. The largest number of a width is never granted. Owner and requester are not 0, nor is a size or a count; an
+ * alignment has exactly one bit set. Trigger is a code 0 to 3, sharing 0 (exclusive) or 1 (shared).
+ *
+ * A request is twelve numbers: kind, requester, slot, three of its kind, and three choices of two numbers each, a code and a number. Its
+ * record is nine: kind, requester, slot, and what was granted. What a kind does not use is not looked at in a request and 0 in a record.
+ *
+ *                 three of its kind               choices                 granted
+ *     1 MMIO      size, alignment, -              base                    base, size
+ *     2 PIO       size, alignment, -              base                    base, size
+ *     3 input     controller, trigger, sharing    input                   controller, input, trigger, sharing
+ *     4 host IRQ  -, -, -                         IRQ                     IRQ
+ *     5 MSI       controller, ITS, count          device, event, LPI      controller, ITS, device, first event, first LPI, count
+ *
+ * Code 0 leaves a choice to the planner, and the number beside it is not looked at; code 1 asks for that number. The planner chooses the
+ * least that is aligned, lies in one automatic pool and meets no owner; what is asked for must lie in one fixed pool. Of MSI it chooses a
+ * device, then a run of that device's events, then a run of LPIs, and tries no other device.
+ *
+ * Answers
+ * -------
+ * An answer is five numbers: number, index (of the refused request of a plan, from 0), namespace, owner, detail; what is not named is 0.
+ *      0 accepted
+ *      1 malformed: the tables are not sound, or a state of another size, or (helpers) a null pointer or another library than this header's
+ *      2 bad input: size, count or requester 0, no such alignment, an unknown code or kind, a number too large for its field
+ *      3 bad owner: owner 0                                4 empty range: start is not below end
+ *      5 reserved: overlaps a reservation of `owner`       6 fixed not allowed: no fixed pool of `namespace` holds it, or not aligned
+ *      7 exhausted: nothing in `namespace` fits            8 conflict: `owner` is in the way in `namespace`, as `detail` says
+ *      9 full: a table needs a row and has none            10 bad line (in a text)
+ *     11 short: a list is too short, or a plan longer than 128 requests
+ * Where more than one applies the order is 1, 11, 2, 3, 4, then 5, 6 or 7, then 8, then 9.
+ * Namespaces: 1 MMIO, 2 PIO, 3 input of a controller, 4 host IRQ, 5 an ITS of a controller (device, event), 6 LPI of a controller.
+ * Details: 1 address ranges overlap, 2 trigger differs, 3 not shareable, 4 host IRQ taken, 5 device taken, 6 events overlap, 7 LPIs overlap.
+ *
+ * A refused call changes no table (of an MSI pool the ranges before the refused one stay), and no number of a list: a record is not
+ * written; of a plan the records before the refused request stand in front of the results, with 1 or 11 none, and the rest is as it was.
+ *
+ * Lists and pointers
+ * ------------------
+ * A list is a pointer and a count of numbers, all of them yours to read or write; a list without numbers still wants a pointer that is
+ * not null. No two lists of a call may overlap, and none may overlap the state. Numbers behind those that a call needs are not looked at.
+ * The exported functions test the size that they are told before anything else, and answer 1 where it is another. That a state is then
+ * left alone is proved for callers who lend a whole one; that shorter memory is not even read is what the compiler makes of it, and
+ * tested. Null is tested by the helpers below alone.
+ *
+ * Stack, as measured (docs/SPEED.md): planner_allocate, planner_plan, planner_pin and their helpers under 2 KB, planner_read 69 KB,
+ * planner_call and planner_text up to 700 KB: give a thread that makes these 1 MB. */
 #ifndef PLANNER_H
 #define PLANNER_H
 
@@ -21,13 +85,13 @@ extern "C" {
 #define PLANNER_STATE_SIZE 66312u
 #define PLANNER_STATE_WORDS (PLANNER_STATE_SIZE / 8)
 #define PLANNER_REQUEST 12u /* numbers of a request */
-#define PLANNER_RECORD 9u   /* numbers of a result */
-#define PLANNER_ANSWER 5u   /* numbers of an answer: number, index, namespace, owner, detail */
+#define PLANNER_RECORD 9u   /* numbers of a record */
+#define PLANNER_ANSWER 5u   /* numbers of an answer */
 #define PLANNER_ROW 9u      /* numbers of a row: the table's count, controller, ITS, device, start, end, trigger, sharing, owner */
 #define PLANNER_MOST 128u   /* requests of a plan */
 #define PLANNER_TEXT_OUTPUT 22553u
 
-/* ---- what the library exports; every pointer must be valid for its count */
+/* ---- what the library exports; the helpers below are what you mostly want */
 
 /* The bytes of a state. */
 uint64_t planner_state_size(void);
@@ -40,79 +104,115 @@ uint64_t planner_fresh(uint64_t *state, uint64_t size);
  *   2, owner, kind, ..                        a reservation:  1 MMIO s e, 2 PIO s e, 3 input c n trigger sharing, 4 host s e, 5 device c its s e,
  *                                             6 event c its device s e, 7 LPI c s e, 8 pair c n trigger host
  *   3                                         start
- *   4, then a request's twelve numbers        one request
+ *   4, then a request's twelve numbers        one request, whose record is not told
  * Too few numbers are 11; an unknown first number, use or kind, or a number too large for its field, is 2. */
 uint64_t planner_call(uint64_t *state, uint64_t size, const uint64_t *numbers, size_t n, uint64_t *answer, size_t m);
 
-/* One request of twelve numbers, with its record of nine. It answers with the answer's number. */
+/* One request, with its record. It answers with the answer's number: 11 where a list is too short. */
 uint64_t planner_allocate(uint64_t *state, uint64_t size, const uint64_t *request, size_t n, uint64_t *record, size_t m);
 
-/* A plan of requests, twelve numbers each: kind, requester, slot, a, b, c, code1, n1, code2, n2, code3, n3.
- *   1 MMIO and 2 PIO (a size, b alignment), 3 input (a controller, b trigger, c sharing), 4 host IRQ, 5 MSI (a controller, b ITS, c count)
- *   code 0 leaves the choice to the planner, code 1 asks for the number beside it; MSI has three choices, device, event, LPI
- * It answers with how many numbers of `results` it filled, nine for each request granted (1 for a state of another size). Whether all
- * was granted says planner_answer. */
+/* A plan: its requests one behind the other, granted in order, all or none. It answers with how many numbers of `results` it filled, nine for
+ * each request granted before the first refused one (1 for a state of another size); whether all was granted says the answer in the state.
+ * 11: a list that ends within a request, over 128 requests, or a results list shorter than nine numbers a request. No requests are accepted. */
 uint64_t planner_plan(uint64_t *state, uint64_t size, const uint64_t *requests, size_t n, uint64_t *results, size_t m);
 
-/* Writes what was granted back into the requests: what was automatic is then asked for by its number. */
+/* Writes granted records back into their requests, in order: what was automatic then asks for the number that it was given. Lend it the
+ * filled front part of the results and no more. An accepted plan, written back, gets the same numbers again on tables as before it, in any
+ * selection and order of its requests, provided that each automatic pool range lies inside a fixed one. */
 void planner_pin(uint64_t *requests, size_t n, const uint64_t *results, size_t m);
 
-/* Reading back. `what` is 0: the last answer's five numbers; or part (1 automatic pools, 2 fixed pools, 3 reservations, 4 owners), kind
- * (1 MMIO, 2 PIO, 3 input, 4 host, 5 device, 6 event, 7 LPI), row: the nine numbers of a row, used or not. An input's end is 0.
- * It answers 0, 2 where there is no such row, 11 where a list is too short. */
+/* Reading back. `what` is 0: the last answer's five numbers; or part, kind, row: the nine numbers of a row, used or not, as it is stored. What a
+ * table does not keep is 0; an input is its start, and its end is 0. It answers 0, 2 where there is no such row, 11 where a list is too short. */
 uint64_t planner_read(const uint64_t *state, uint64_t size, const uint64_t *what, size_t n, uint64_t *out, size_t m);
 
 /* What the planner's program answers to a text of lines, in front of `out`. It answers with how many bytes it wrote: 0 where `out` has fewer than
  * PLANNER_TEXT_OUTPUT bytes, and nothing is written then. */
 uint64_t planner_text(const uint8_t *text, size_t n, uint8_t *out, size_t m);
 
-/* ---- helpers */
+/* ---- helpers
+ *
+ * Each answers with the answer's number, and refuses null pointers with 1. None takes the library's word alone for an accepted call: the answer
+ * in the state is 1 before the call, and a library that writes none (one of another build) has refused. */
 
-/* The five numbers of the last answer: number, index, namespace, owner, detail. */
+/* Whether memory of so many bytes can be a state: not null, aligned, and of the one size that this header and the library both have. */
+static inline int planner_fits(const void *memory, size_t bytes) {
+    return memory && (uintptr_t)memory % 8 == 0 && bytes == PLANNER_STATE_SIZE && planner_state_size() == PLANNER_STATE_SIZE;
+}
+
+/* The five numbers of the last answer, which stand last in the state. */
 static inline uint64_t planner_answer(const uint64_t *state, uint64_t answer[5]) {
-    const uint64_t what[1] = {0};
     if (!state || !answer) return 1;
-    return planner_read(state, PLANNER_STATE_SIZE, what, 1, answer, PLANNER_ANSWER);
+    for (size_t i = 0; i < PLANNER_ANSWER; i++) answer[i] = state[PLANNER_STATE_WORDS - PLANNER_ANSWER + i];
+    return 0;
 }
 
-/* Row i of a table. */
-static inline uint64_t planner_row(const uint64_t *state, uint64_t part, uint64_t kind, uint64_t i, uint64_t row[9]) {
-    const uint64_t what[3] = {part, kind, i};
-    if (!state || !row) return 1;
-    return planner_read(state, PLANNER_STATE_SIZE, what, 3, row, PLANNER_ROW);
+/* Before a call: no answer yet, which is 1. */
+static inline void planner_unsay(uint64_t *state) {
+    for (size_t i = 0; i < PLANNER_ANSWER; i++) state[PLANNER_STATE_WORDS - PLANNER_ANSWER + i] = i == 0;
 }
 
-/* A call without its five numbers. */
-static inline uint64_t planner_do(uint64_t *state, const uint64_t *numbers, size_t n) {
-    uint64_t answer[PLANNER_ANSWER];
-    if (!state) return 1;
-    return planner_call(state, PLANNER_STATE_SIZE, numbers, n, answer, PLANNER_ANSWER);
+/* After it: the number that it answered with, if the state says the same. */
+static inline uint64_t planner_said(const uint64_t *state, uint64_t number) {
+    return state[PLANNER_STATE_WORDS - PLANNER_ANSWER] == number ? number : 1;
 }
 
 /* A fresh state. */
 static inline uint64_t planner_begin(uint64_t *state) {
-    return state ? planner_fresh(state, PLANNER_STATE_SIZE) : 1;
+    if (!planner_fits(state, PLANNER_STATE_SIZE)) return 1;
+    planner_unsay(state);
+    return planner_said(state, planner_fresh(state, PLANNER_STATE_SIZE));
 }
 
-/* One request with its record; the answer's number. */
+/* A call from its numbers; its five numbers are in the state. */
+static inline uint64_t planner_do(uint64_t *state, const uint64_t *numbers, size_t n) {
+    uint64_t none[1];
+    if (!state || !numbers) return 1;
+    planner_unsay(state);
+    return planner_said(state, planner_call(state, PLANNER_STATE_SIZE, numbers, n, none, 0));
+}
+
+/* One request with its record. */
 static inline uint64_t planner_ask(uint64_t *state, const uint64_t request[12], uint64_t record[9]) {
     if (!state || !request || !record) return 1;
-    return planner_allocate(state, PLANNER_STATE_SIZE, request, PLANNER_REQUEST, record, PLANNER_RECORD);
+    planner_unsay(state);
+    return planner_said(state, planner_allocate(state, PLANNER_STATE_SIZE, request, PLANNER_REQUEST, record, PLANNER_RECORD));
 }
 
-/* A plan of `count` requests, with room for nine numbers each; the answer's five numbers, and the answer's number. */
+/* How many records a plan of `count` requests has filled, by its answer. */
+static inline size_t planner_granted(const uint64_t answer[5], size_t count) {
+    if (!answer) return 0;
+    if (answer[0] == 0) return count;
+    return answer[1] < count ? (size_t)answer[1] : 0;
+}
+
+/* A plan of `count` requests, with room for as many records; the answer's five numbers, written whatever comes of it. Over 128 requests are 11. */
 static inline uint64_t planner_run(uint64_t *state, const uint64_t *requests, size_t count, uint64_t *results, uint64_t answer[5]) {
-    if (!state || !requests || !results || !answer || count > PLANNER_MOST) return 1;
-    planner_plan(state, PLANNER_STATE_SIZE, requests, PLANNER_REQUEST * count, results, PLANNER_RECORD * count);
+    if (!answer) return 1;
+    for (size_t i = 0; i < PLANNER_ANSWER; i++) answer[i] = i == 0;
+    if (!state || !requests || !results) return 1;
+    if (count > PLANNER_MOST) count = PLANNER_MOST + 1; /* one too many says it: 12 times any count may be no size */
+    planner_unsay(state);
+    uint64_t filled = planner_plan(state, PLANNER_STATE_SIZE, requests, PLANNER_REQUEST * count, results, PLANNER_RECORD * count);
     planner_answer(state, answer);
-    return answer[0];
+    if (filled == PLANNER_RECORD * planner_granted(answer, count)) return answer[0];
+    for (size_t i = 0; i < PLANNER_ANSWER; i++) answer[i] = i == 0;
+    return 1;
 }
 
-/* Writes the results of `count` requests back into them; 1 for a null pointer. */
-static inline uint64_t planner_write_back(uint64_t *requests, const uint64_t *results, size_t count) {
-    if (!requests || !results || count > PLANNER_MOST) return 1;
-    planner_pin(requests, PLANNER_REQUEST * count, results, PLANNER_RECORD * count);
+/* Writes the records of a plan of `count` requests back into them: those that planner_run filled, as its answer says, and no others. */
+static inline uint64_t planner_write_back(uint64_t *requests, size_t count, const uint64_t *results, const uint64_t answer[5]) {
+    if (!requests || !results || !answer) return 1;
+    size_t granted = planner_granted(answer, count);
+    if (granted > PLANNER_MOST) return 1;
+    planner_pin(requests, PLANNER_REQUEST * granted, results, PLANNER_RECORD * granted);
     return 0;
+}
+
+/* Row i of a table, from 0: PLANNER_ROW says its numbers. */
+static inline uint64_t planner_row(const uint64_t *state, uint64_t part, uint64_t kind, uint64_t i, uint64_t row[9]) {
+    const uint64_t what[3] = {part, kind, i};
+    if (!state || !row) return 1;
+    return planner_read(state, PLANNER_STATE_SIZE, what, 3, row, PLANNER_ROW);
 }
 
 /* Starts: the owners become the reservations, and all grants are forgotten. */

@@ -11,7 +11,7 @@ const BOARD: u32 = 100;
 
 /// What the stand's board gives: the same after every power-up.
 fn board() -> Result<Planner, Box<dyn std::error::Error>> {
-    let mut planner = Planner::new();
+    let mut planner = Planner::new()?;
     for used in [Use::Automatic, Use::Fixed] {
         planner.add_pool(
             used,

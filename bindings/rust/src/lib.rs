@@ -1,4 +1,4 @@
-//! A safe face of the device planner that cannot hand the same number to two devices.
+//! A safe face of the device planner that hands no number to two devices, but for a wired input that both share.
 //!
 //! The planner itself is proved; what stands here only puts typed requests into its lists of numbers and reads its
 //! answers back. A [`Planner`] owns its state, a [`Plan`] its requests and results: nothing is allocated.
@@ -6,7 +6,7 @@
 //! ```
 //! use thurgoleo::{Choice, Kind, Part, Planner, Pool, Refusal, Request, Use, Want};
 //!
-//! let mut planner = Planner::new();
+//! let mut planner = Planner::new()?;
 //! planner.add_pool(Use::Automatic, Pool::Mmio { start: 0x1000, end: 0x9000 })?;
 //! planner.start()?;
 //!
@@ -27,6 +27,7 @@
 //! ```
 #![no_std]
 
+mod answer;
 mod ask;
 mod exported;
 mod plan;
@@ -95,51 +96,52 @@ pub struct Planner {
     state: [u64; WORDS],
 }
 
-impl Default for Planner {
-    fn default() -> Self {
-        Self::new()
-    }
-}
-
 impl Planner {
-    /// A planner without pools, reservations and owners.
+    /// A planner without pools, reservations and owners. Malformed where the library was built for states of another size.
     ///
     /// ```
     /// use thurgoleo::{Kind, Part, Planner};
-    /// assert_eq!(Planner::new().used(Part::Reservations, Kind::Lpi), 0);
+    /// assert_eq!(Planner::new().unwrap().used(Part::Reservations, Kind::Lpi), 0);
     /// ```
-    pub fn new() -> Self {
-        let mut planner = Self { state: [0; WORDS] };
-        raw::fresh(&mut planner.state);
-        planner
+    pub fn new() -> Result<Self, Refusal> {
+        let mut planner = Self::from_words([u64::MAX; WORDS])?;
+        answer::unsay(&mut planner.state);
+        let number = raw::fresh(&mut planner.state);
+        answer::said(&planner.state, number)?;
+        Ok(planner)
     }
 
-    /// A planner over tables kept elsewhere, whatever they hold: each call judges them and refuses unsound ones.
+    /// A planner over tables kept elsewhere, whatever they hold: each call judges them and refuses unsound ones. Malformed as [`Planner::new`] is.
     ///
     /// ```
     /// use thurgoleo::{Planner, Refusal, STATE_SIZE};
-    /// let mut junk = Planner::from_words([u64::MAX; STATE_SIZE / 8]);
+    /// let mut junk = Planner::from_words([u64::MAX; STATE_SIZE / 8]).unwrap();
     /// assert_eq!(junk.start(), Err(Refusal::Malformed));
     /// ```
-    pub fn from_words(state: [u64; WORDS]) -> Self {
-        Self { state }
+    pub fn from_words(state: [u64; WORDS]) -> Result<Self, Refusal> {
+        if raw::fits() {
+            Ok(Self { state })
+        } else {
+            Err(Refusal::Malformed)
+        }
     }
 
     /// The tables as they are, to be kept.
     ///
     /// ```
     /// use thurgoleo::Planner;
-    /// let planner = Planner::new();
-    /// assert_eq!(Planner::from_words(*planner.as_words()).as_words(), planner.as_words());
+    /// let planner = Planner::new().unwrap();
+    /// let kept = Planner::from_words(*planner.as_words()).unwrap();
+    /// assert_eq!(kept.as_words(), planner.as_words());
     /// ```
     pub fn as_words(&self) -> &[u64; WORDS] {
         &self.state
     }
 
     fn call(&mut self, numbers: &[u64]) -> Result<(), Refusal> {
-        let mut answer = [0; 5];
-        raw::call(&mut self.state, numbers, &mut answer);
-        Refusal::of(&answer)
+        answer::unsay(&mut self.state);
+        let number = raw::call(&mut self.state, numbers);
+        answer::said(&self.state, number)
     }
 
     /// Adds a range to the pools of a use. An exact duplicate is accepted and adds nothing. An MSI domain adds three ranges in turn,
@@ -147,7 +149,7 @@ impl Planner {
     ///
     /// ```
     /// use thurgoleo::{Planner, Pool, Refusal, Use};
-    /// let mut planner = Planner::new();
+    /// let mut planner = Planner::new().unwrap();
     /// assert_eq!(planner.add_pool(Use::Fixed, Pool::Host { start: 5, end: 5 }), Err(Refusal::EmptyRange));
     /// ```
     pub fn add_pool(&mut self, used: Use, pool: Pool) -> Result<(), Refusal> {
@@ -158,7 +160,7 @@ impl Planner {
     ///
     /// ```
     /// use thurgoleo::{Hold, Planner, Refusal};
-    /// let mut planner = Planner::new();
+    /// let mut planner = Planner::new().unwrap();
     /// planner.reserve(3, Hold::Pio { start: 0x3f8, end: 0x400 }).unwrap();
     /// let again = planner.reserve(4, Hold::Pio { start: 0x3ff, end: 0x500 });
     /// assert_eq!(again, Err(Refusal::Reserved { owner: 3 }));
@@ -171,7 +173,7 @@ impl Planner {
     ///
     /// ```
     /// use thurgoleo::{Hold, Kind, Part, Planner};
-    /// let mut planner = Planner::new();
+    /// let mut planner = Planner::new().unwrap();
     /// planner.reserve(3, Hold::Host { start: 8, end: 9 }).unwrap();
     /// planner.start().unwrap();
     /// assert_eq!(planner.row(Part::Owners, Kind::Host, 0).unwrap().owner, 3);
@@ -183,15 +185,16 @@ impl Planner {
     /// One request. A refused one changes no table.
     pub fn allocate(&mut self, request: &Request) -> Result<Granted, Refusal> {
         let mut record = [0; 9];
-        raw::allocate(&mut self.state, &request.numbers(), &mut record);
-        Refusal::of(&self.answer()).map(|()| Granted::of(record))
+        answer::unsay(&mut self.state);
+        let number = raw::allocate(&mut self.state, &request.numbers(), &mut record);
+        answer::said(&self.state, number).map(|()| Granted::of(record))
     }
 
     /// A plan: its requests in order. If one is refused the tables are put back, and the results keep what was granted before it.
     ///
     /// ```
     /// use thurgoleo::{Choice, Plan, Planner, Pool, Refusal, Request, Use, Want};
-    /// let mut planner = Planner::new();
+    /// let mut planner = Planner::new().unwrap();
     /// planner.add_pool(Use::Automatic, Pool::Host { start: 32, end: 33 }).unwrap();
     /// let mut plan = Plan::new();
     /// for slot in 0..2 {
@@ -202,18 +205,8 @@ impl Planner {
     /// assert_eq!(plan.granted().count(), 1);
     /// ```
     pub fn plan(&mut self, plan: &mut Plan) -> Result<(), PlanRefusal> {
-        plan.run(&mut self.state);
-        let answer = self.answer();
-        Refusal::of(&answer).map_err(|refusal| PlanRefusal {
-            index: answer[1] as usize,
-            refusal,
-        })
-    }
-
-    fn answer(&self) -> [u64; 5] {
-        let mut answer = [0; 5];
-        raw::read(&self.state, &[0], &mut answer);
-        answer
+        answer::unsay(&mut self.state);
+        plan.run(&mut self.state)
     }
 
     fn seen(&self, part: Part, kind: Kind, row: usize) -> Option<[u64; 9]> {
@@ -249,7 +242,7 @@ impl Planner {
     ///
     /// ```
     /// use thurgoleo::{Kind, Part, Planner, Pool, Use};
-    /// let mut planner = Planner::new();
+    /// let mut planner = Planner::new().unwrap();
     /// planner.add_pool(Use::Automatic, Pool::Mmio { start: 0x4000, end: 0x5000 }).unwrap();
     /// planner.add_pool(Use::Automatic, Pool::Mmio { start: 0x1000, end: 0x2000 }).unwrap();
     /// let mut rows = planner.rows(Part::Automatic, Kind::Mmio);
@@ -274,8 +267,13 @@ impl Planner {
 /// assert_eq!(text(b"", &mut out[..100]), Err(Refusal::Short));
 /// ```
 pub fn text<'a>(lines: &[u8], out: &'a mut [u8]) -> Result<&'a [u8], Refusal> {
-    match raw::text(lines, out) as usize {
-        0 => Err(Refusal::Short),
-        n => Ok(&out[..n.min(out.len())]),
+    if out.len() < TEXT_OUTPUT {
+        return Err(Refusal::Short);
     }
+    out[0] = 0; // no output begins so: a library that writes nothing is seen
+    let n = raw::text(lines, out) as usize;
+    if n == 0 || TEXT_OUTPUT < n || out[0] == 0 {
+        return Err(Refusal::Malformed);
+    }
+    Ok(&out[..n])
 }

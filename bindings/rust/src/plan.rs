@@ -1,6 +1,6 @@
 //! Plans: requests, their results, and the results written back into the requests.
 
-use crate::{raw, Refusal, Request, WORDS};
+use crate::{answer, raw, Refusal, Request, WORDS};
 use core::fmt;
 
 const MOST: usize = 128;
@@ -57,7 +57,7 @@ impl core::error::Error for PlanRefusal {}
 /// ```
 /// use thurgoleo::{Choice, Plan, Planner, Pool, Request, Use, Want};
 ///
-/// let mut planner = Planner::new();
+/// let mut planner = Planner::new().unwrap();
 /// for used in [Use::Automatic, Use::Fixed] {
 ///     planner.add_pool(used, Pool::Input { controller: 0, start: 16, end: 24 }).unwrap();
 /// }
@@ -121,7 +121,7 @@ impl Plan {
             .map(|x| Granted(core::array::from_fn(|i| x[i])))
     }
 
-    /// Writes what was granted back into the requests: what was automatic is then asked for by its number.
+    /// Writes what the last run granted back into the requests: what was automatic is then asked for by its number. Requests that were not granted stay.
     pub fn pin(&mut self) {
         raw::pin(
             &mut self.requests[..12 * self.asked],
@@ -129,12 +129,30 @@ impl Plan {
         );
     }
 
-    pub(crate) fn run(&mut self, state: &mut [u64; WORDS]) {
+    /// Runs the requests on a state whose last answer is unsaid, and keeps how much was filled. The count that the call answers with and the answer in the state
+    /// must say the same; else nothing counts as filled, and the plan as Malformed.
+    pub(crate) fn run(&mut self, state: &mut [u64; WORDS]) -> Result<(), PlanRefusal> {
+        self.filled = 0;
         let filled = raw::plan(
             state,
             &self.requests[..12 * self.asked],
             &mut self.results[..9 * self.asked],
         );
-        self.filled = (filled as usize).min(9 * self.asked);
+        let answer = answer::answer(state);
+        let granted = match answer[0] {
+            0 => self.asked,
+            _ => answer[1].min(self.asked as u64) as usize,
+        };
+        if filled != 9 * granted as u64 {
+            return Err(PlanRefusal {
+                index: 0,
+                refusal: Refusal::Malformed,
+            });
+        }
+        self.filled = 9 * granted;
+        Refusal::of(&answer).map_err(|refusal| PlanRefusal {
+            index: granted,
+            refusal,
+        })
     }
 }

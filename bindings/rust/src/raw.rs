@@ -3,29 +3,39 @@
 
 use crate::exported::{
     planner_allocate, planner_call, planner_fresh, planner_pin, planner_plan, planner_read,
-    planner_text,
+    planner_state_size, planner_text,
 };
 use crate::{STATE_SIZE, WORDS};
 
 const SIZE: u64 = STATE_SIZE as u64;
 
-pub fn fresh(state: &mut [u64; WORDS]) {
-    unsafe { planner_fresh(state.as_mut_ptr(), SIZE) };
+/// Whether the library's states have the size that this crate lends.
+pub fn fits() -> bool {
+    unsafe { planner_state_size() == SIZE }
 }
 
-pub fn call(state: &mut [u64; WORDS], numbers: &[u64], answer: &mut [u64]) -> u64 {
+#[must_use]
+pub fn fresh(state: &mut [u64; WORDS]) -> u64 {
+    unsafe { planner_fresh(state.as_mut_ptr(), SIZE) }
+}
+
+/// The answer's five numbers are not told beside: they stand in the state.
+#[must_use]
+pub fn call(state: &mut [u64; WORDS], numbers: &[u64]) -> u64 {
+    let none: &mut [u64] = &mut [];
     unsafe {
         planner_call(
             state.as_mut_ptr(),
             SIZE,
             numbers.as_ptr(),
             numbers.len(),
-            answer.as_mut_ptr(),
-            answer.len(),
+            none.as_mut_ptr(),
+            none.len(),
         )
     }
 }
 
+#[must_use]
 pub fn allocate(state: &mut [u64; WORDS], request: &[u64], record: &mut [u64]) -> u64 {
     unsafe {
         planner_allocate(
@@ -39,6 +49,7 @@ pub fn allocate(state: &mut [u64; WORDS], request: &[u64], record: &mut [u64]) -
     }
 }
 
+#[must_use]
 pub fn plan(state: &mut [u64; WORDS], requests: &[u64], results: &mut [u64]) -> u64 {
     unsafe {
         planner_plan(
@@ -52,6 +63,7 @@ pub fn plan(state: &mut [u64; WORDS], requests: &[u64], results: &mut [u64]) -> 
     }
 }
 
+#[must_use]
 pub fn read(state: &[u64; WORDS], what: &[u64], out: &mut [u64]) -> u64 {
     unsafe {
         planner_read(
@@ -76,6 +88,7 @@ pub fn pin(requests: &mut [u64], results: &[u64]) {
     }
 }
 
+#[must_use]
 pub fn text(text: &[u8], out: &mut [u8]) -> u64 {
     unsafe { planner_text(text.as_ptr(), text.len(), out.as_mut_ptr(), out.len()) }
 }

@@ -6,6 +6,7 @@ use core::fmt;
 /// Details: 1 address ranges overlap, 2 trigger differs, 3 not shareable, 4 host IRQ taken, 5 DeviceID taken, 6 events overlap, 7 LPIs overlap.
 #[derive(Clone, Copy, Debug, PartialEq, Eq)]
 pub enum Refusal {
+    /// The tables are not sound, or the library is not the one that this crate was written for.
     Malformed,
     BadInput,
     BadOwner,
@@ -30,12 +31,11 @@ pub enum Refusal {
 }
 
 impl Refusal {
-    /// The refusal that an answer's five numbers (number, index, namespace, owner, detail) say.
+    /// The refusal that an answer's five numbers (number, index, namespace, owner, detail) say. A number that 01 does not know is no answer: Malformed.
     pub(crate) fn of(answer: &[u64; 5]) -> Result<(), Refusal> {
-        let [number, _, namespace, owner, detail] = answer.map(|n| n as u32);
-        Err(match number {
+        let [_, _, namespace, owner, detail] = answer.map(|n| n as u32);
+        Err(match answer[0] {
             0 => return Ok(()),
-            1 => Refusal::Malformed,
             2 => Refusal::BadInput,
             3 => Refusal::BadOwner,
             4 => Refusal::EmptyRange,
@@ -49,7 +49,8 @@ impl Refusal {
             },
             9 => Refusal::Full,
             10 => Refusal::BadLine,
-            _ => Refusal::Short,
+            11 => Refusal::Short,
+            _ => Refusal::Malformed,
         })
     }
 

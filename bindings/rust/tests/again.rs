@@ -62,7 +62,7 @@ fn the_same_again_in_any_choice_and_order() {
                 .enumerate()
                 .for_each(|(k, i)| assert_eq!(results[9 * k..9 * k + 9], granted[*i]));
             assert_eq!(results[9 * order.len()..], [5; 3]);
-            let again = Box::new(Planner::from_words(words.try_into().unwrap()));
+            let again = Box::new(Planner::from_words(words.try_into().unwrap()).unwrap());
             let rows: u64 = KINDS.iter().map(|k| again.used(Part::Owners, *k)).sum();
             let msi = order.iter().filter(|i| **i % 5 == 4).count();
             assert_eq!(rows as usize, 2 + order.len() + 2 * msi);
@@ -147,7 +147,9 @@ fn a_count_too_large_in_any_table_is_malformed() {
         }
         assert_eq!(at + 5, before.len());
         assert_eq!(
-            Planner::from_words([u64::MAX; STATE_SIZE / 8]).start(),
+            Planner::from_words([u64::MAX; STATE_SIZE / 8])
+                .unwrap()
+                .start(),
             Err(Refusal::Malformed)
         );
     });

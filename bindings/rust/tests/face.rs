@@ -25,7 +25,7 @@ fn call(state: &mut [u64], numbers: &[u64]) -> [u64; 5] {
 }
 
 fn state() -> Vec<u64> {
-    Planner::new().as_words().to_vec()
+    Planner::new().unwrap().as_words().to_vec()
 }
 
 #[test]
@@ -136,7 +136,7 @@ fn an_unsound_state_is_1_before_all_else() {
 
 #[test]
 fn rows_come_back() {
-    let mut p = Planner::new();
+    let mut p = Planner::new().unwrap();
     p.add_pool(
         Use::Fixed,
         Pool::Msi {
@@ -242,7 +242,7 @@ fn a_plan_that_ends_within_a_request_is_11() {
 
 #[test]
 fn a_full_plan() {
-    let mut p = Planner::new();
+    let mut p = Planner::new().unwrap();
     p.add_pool(
         Use::Automatic,
         Pool::Host {

@@ -55,7 +55,7 @@ fn state(rng: &mut Rng, kept: &[u64]) -> Vec<u64> {
 
 fn calls(count: usize) {
     let mut rng = Rng(20261115);
-    let mut kept = Planner::new().as_words().to_vec();
+    let mut kept = Planner::new().unwrap().as_words().to_vec();
     let (mut refused, mut accepted) = (0u64, 0u64);
     for _ in 0..count {
         let mut memory = vec![GUARD; WORDS + 2];
@@ -106,7 +106,7 @@ fn calls(count: usize) {
             }
         }
         if rng.below(300) == 0 {
-            kept = Planner::new().as_words().to_vec();
+            kept = Planner::new().unwrap().as_words().to_vec();
         }
     }
     println!("{count} calls: {accepted} accepted, {refused} refused, nothing else");

@@ -1,9 +1,10 @@
-//! One request and whole plans through the C face on a stack of 64 KB, as a hypervisor's thread has it: the same answers, records and states as on a large one.
+//! One request and whole plans on a stack of 64 KB, as a hypervisor's thread has it: through the C face the same answers, records and states as on a large one;
+//! through the wrapper what it grants.
 
 mod common;
 
 use common::{mixed, numbers, on_stack, planner_allocate, planner_pin, planner_plan, stand};
-use thurgoleo::STATE_SIZE;
+use thurgoleo::{Plan, STATE_SIZE};
 
 const SMALL: usize = 64 << 10;
 const LARGE: usize = 1 << 20;
@@ -86,4 +87,19 @@ fn plans_of_every_end() {
     ] {
         assert_eq!(same(planner_plan, &state, numbers, room).0, 0);
     }
+}
+
+#[test]
+fn the_wrapper() {
+    let mut p = stand();
+    let mut plan = Box::new(Plan::new());
+    let requests = mixed(6);
+    requests[1..].iter().for_each(|r| plan.push(r).unwrap());
+    on_stack(SMALL, move || {
+        assert_eq!(p.allocate(&requests[0]).unwrap().number(), 0x1000);
+        assert!(p.plan(&mut plan).is_ok());
+        assert_eq!(plan.granted().count(), 5);
+        plan.pin();
+        assert!(p.plan(&mut plan).is_err());
+    });
 }

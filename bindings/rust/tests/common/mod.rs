@@ -41,7 +41,7 @@ impl Rng {
 
 /// A stand with pools of all kinds, each automatic range a fixed one too, and two reservations; started.
 pub fn stand() -> Box<Planner> {
-    let mut p = Box::new(Planner::new());
+    let mut p = Box::new(Planner::new().unwrap());
     for used in [Use::Automatic, Use::Fixed] {
         p.add_pool(
             used,

@@ -1,0 +1,128 @@
+/* The edge of planner.h over the planner itself: null pointers, states that are no states, plans that are too long or refused, numbers that are not looked at. */
+#define _DEFAULT_SOURCE
+#include "planner.h"
+#include "expect.h"
+#include <string.h>
+#include <sys/mman.h>
+#include <unistd.h>
+
+static uint64_t state[PLANNER_STATE_WORDS + 1];
+static uint64_t requests[129 * PLANNER_REQUEST], results[129 * PLANNER_RECORD], before[129 * PLANNER_RECORD];
+static uint64_t answer[PLANNER_ANSWER], record[PLANNER_RECORD], row[PLANNER_ROW];
+
+/* One host IRQ may be had: 40. */
+static void board(void) {
+    EXPECT(planner_begin(state) == 0);
+    EXPECT(planner_pool_host(state, 0, 40, 41) == 0);
+    EXPECT(planner_start(state) == 0);
+}
+
+/* So many automatic host IRQs are asked for; results and answer hold what no plan writes. */
+static void asked(size_t count) {
+    memset(requests, 0, sizeof requests);
+    for (size_t i = 0; i < count; i++) requests[12 * i] = 4, requests[12 * i + 1] = 1;
+    memset(results, 0xa5, sizeof results);
+    memset(answer, 0xa5, sizeof answer);
+    memcpy(before, results, sizeof results);
+}
+
+static int answered(uint64_t number, uint64_t index, uint64_t namespace) {
+    return answer[0] == number && answer[1] == index && answer[2] == namespace && answer[3] == 0 && answer[4] == 0;
+}
+
+static void nulls(void) {
+    const uint64_t x[1] = {3};
+    board();
+    asked(1);
+    EXPECT(planner_begin(NULL) == 1 && planner_start(NULL) == 1 && planner_do(state, NULL, 1) == 1 && planner_do(NULL, x, 1) == 1);
+    EXPECT(planner_ask(NULL, requests, record) == 1 && planner_ask(state, NULL, record) == 1 && planner_ask(state, requests, NULL) == 1);
+    EXPECT(planner_run(NULL, requests, 1, results, answer) == 1 && answered(1, 0, 0));
+    EXPECT(planner_run(state, NULL, 1, results, answer) == 1 && answered(1, 0, 0));
+    EXPECT(planner_run(state, requests, 1, NULL, answer) == 1 && answered(1, 0, 0));
+    EXPECT(planner_run(state, requests, 1, results, NULL) == 1);
+    EXPECT(planner_write_back(NULL, 1, results, answer) == 1 && planner_write_back(requests, 1, NULL, answer) == 1);
+    EXPECT(planner_write_back(requests, 1, results, NULL) == 1 && planner_granted(NULL, 1) == 0);
+    EXPECT(planner_answer(NULL, answer) == 1 && planner_answer(state, NULL) == 1);
+    EXPECT(planner_row(NULL, 4, 4, 0, row) == 1 && planner_row(state, 4, 4, 0, NULL) == 1);
+}
+
+static void sizes(void) {
+    EXPECT(planner_fits(state, PLANNER_STATE_SIZE));
+    EXPECT(!planner_fits(state, PLANNER_STATE_SIZE - 8) && !planner_fits(state, PLANNER_STATE_SIZE + 8) && !planner_fits(NULL, PLANNER_STATE_SIZE));
+    EXPECT(!planner_fits((char *)state + 4, PLANNER_STATE_SIZE));
+}
+
+/* Sixteen bytes before a page that nobody may touch: every call is told a size that is not a state's, answers 1 and leaves them. */
+static void short_state(void) {
+    const uint64_t sizes[] = {0, 8, 16, PLANNER_STATE_SIZE - 8, PLANNER_STATE_SIZE + 8, UINT64_MAX}, x[13] = {3};
+    size_t page = (size_t)sysconf(_SC_PAGESIZE);
+    char *pages = mmap(NULL, 2 * page, PROT_READ | PROT_WRITE, MAP_PRIVATE | MAP_ANONYMOUS, -1, 0);
+    EXPECT(pages != MAP_FAILED && mprotect(pages + page, page, PROT_NONE) == 0);
+    uint64_t *two = (uint64_t *)(void *)(pages + page - 16), out[9] = {7};
+    two[0] = two[1] = 9;
+    for (size_t i = 0; i < sizeof sizes / sizeof *sizes; i++) {
+        EXPECT(planner_fresh(two, sizes[i]) == 1);
+        EXPECT(planner_call(two, sizes[i], x, 1, out, 5) == 1);
+        EXPECT(planner_allocate(two, sizes[i], x, 12, out, 9) == 1);
+        EXPECT(planner_plan(two, sizes[i], x, 12, out, 9) == 1);
+        EXPECT(planner_read(two, sizes[i], x, 1, out, 9) == 1);
+        EXPECT(two[0] == 9 && two[1] == 9 && out[0] == 7);
+    }
+    EXPECT(munmap(pages, 2 * page) == 0);
+}
+
+/* 129 requests, and a count so large that twelve times it is no size: 11 at index 0, nothing written; unsound tables come first. */
+static void too_long(void) {
+    const size_t counts[] = {129, SIZE_MAX / 12 + 2, SIZE_MAX};
+    for (size_t i = 0; i < 3; i++) {
+        board();
+        asked(129);
+        EXPECT(planner_run(state, requests, counts[i], results, answer) == 11 && answered(11, 0, 0));
+        EXPECT(planner_granted(answer, counts[i]) == 0 && memcmp(results, before, sizeof results) == 0);
+        EXPECT(planner_write_back(requests, counts[i], results, answer) == 0 && requests[6] == 0);
+        state[0] = 33;
+        EXPECT(planner_run(state, requests, counts[i], results, answer) == 1 && answered(1, 0, 0));
+    }
+}
+
+/* Three are asked for and one may be had: one record is filled, and one request is written back. */
+static void refused(void) {
+    board();
+    asked(3);
+    EXPECT(planner_run(state, requests, 3, results, answer) == 7 && answered(7, 1, 4));
+    EXPECT(planner_granted(answer, 3) == 1 && results[3] == 40);
+    EXPECT(memcmp(results + 9, before + 9, sizeof results - 9 * sizeof *results) == 0);
+    EXPECT(planner_row(state, 4, 4, 0, row) == 0 && row[0] == 0);
+    EXPECT(planner_write_back(requests, 3, results, answer) == 0);
+    EXPECT(requests[6] == 1 && requests[7] == 40);
+    for (size_t i = 1; i < 3; i++) EXPECT(requests[12 * i + 6] == 0 && requests[12 * i + 7] == 0);
+    /* unsound tables fill nothing */
+    asked(1);
+    state[0] = 33;
+    EXPECT(planner_run(state, requests, 1, results, answer) == 1 && answered(1, 0, 0));
+    EXPECT(planner_write_back(requests, 1, results, answer) == 0 && requests[6] == 0);
+}
+
+/* What planner.h says is not looked at: a number beside code 0, choices that a kind does not have, numbers behind a call's. */
+static void unread(void) {
+    const uint64_t start[3] = {3, UINT64_MAX, UINT64_MAX};
+    const uint64_t irq[12] = {4, 1, 0, UINT64_MAX, UINT64_MAX, UINT64_MAX, 0, UINT64_MAX, UINT64_MAX, UINT64_MAX, UINT64_MAX, UINT64_MAX};
+    board();
+    EXPECT(planner_do(state, start, 3) == 0);
+    EXPECT(planner_ask(state, irq, record) == 0 && record[0] == 4 && record[3] == 40 && record[4] == 0 && record[8] == 0);
+    /* refused, a record stays as it was; a reservation since the start makes requests 1 until the next */
+    EXPECT(planner_ask(state, irq, record) == 7 && record[3] == 40);
+    EXPECT(planner_hold_host(state, 9, 50, 51) == 0 && planner_ask(state, irq, record) == 1);
+    EXPECT(planner_start(state) == 0 && planner_ask(state, irq, record) == 0);
+}
+
+int main(void) {
+    nulls();
+    sizes();
+    short_state();
+    too_long();
+    refused();
+    unread();
+    puts("the C face's edge holds");
+    return 0;
+}
