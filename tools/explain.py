@@ -2,6 +2,7 @@
 
 Reads the answer on standard input and the plan from the file that is named. Every word comes from the tables below.
 """
+import os
 import sys
 
 REFUSALS = {
@@ -30,12 +31,15 @@ DETAILS = {
 }
 # the words of the lines that can hold numbers of a namespace
 HOLDERS = {1: ["mmio"], 2: ["pio"], 3: ["input"], 4: ["host"], 5: ["device", "event", "msi"], 6: ["lpi", "msi"]}
+LONGEST = 200
 TOO_LONG = "the text is longer than 32,768 bytes"
 OPEN = "the last line has no newline"
 
 
 def shown(line):
-    return " ".join(line.decode("ascii", "backslashreplace").split("\t"))
+    """A line of the plan, as a terminal may have it: tabs as blanks, what is no printable ASCII escaped, and no more than a line can have."""
+    cut = " .." if len(line) > LONGEST else ""
+    return "".join(" " if b == 9 else chr(b) if 32 <= b < 127 else f"\\x{b:02x}" for b in line[:LONGEST]) + cut
 
 
 def kind(line):
@@ -75,10 +79,13 @@ def main():
     answer = sys.stdin.buffer.read()
     with open(sys.argv[1], "rb") as plan:
         text = plan.read()
-    sys.stdout.buffer.write(answer)
-    sys.stdout.flush()
-    for line in explained(answer.rstrip(b"\n"), text):
-        print(line)
+    words = "".join(line + "\n" for line in explained(answer.rstrip(b"\n"), text))
+    try:
+        sys.stdout.buffer.write(answer + words.encode("ascii"))
+        sys.stdout.flush()
+    except OSError as error:
+        os.dup2(os.open(os.devnull, os.O_WRONLY), 1)  # what is still in the buffer has nowhere to go
+        sys.exit(f"explain: {error.strerror}")
 
 
 if __name__ == "__main__":
