@@ -1,7 +1,7 @@
 #!/usr/bin/env python3
 """The table-level rules of 01, written down once more in Python, and the commands that try them.
 
-tests/rows.py DIR writes DIR/stdin (commands for the program `rows`) and DIR/stdout (what it must print).
+Says whether crates/rows/stdin (commands for the program `rows`) and crates/rows/stdout (what it must print) are what this model makes; with --write, lays them out so.
 A command is a line of at most thirteen numbers, parted by single blanks; those left out are 0:
   0                                    a fresh state
   1 use kind numbers..                 add a pool range (use 0 automatic, 1 fixed; kind 1 mmio 2 pio 3 input 4 host 5 msi)
@@ -16,9 +16,11 @@ A command is a line of at most thirteen numbers, parted by single blanks; those 
   9 length requester slot kind ..      the same with a list of that length
   6                                    print whether pools and reservations are sound, and whether all tables are
 """
+import pathlib
 import random
 import sys
 
+ROWS_CRATE = pathlib.Path(__file__).resolve().parent.parent / "crates/rows"
 ROWS, POOL = 128, 32
 W16, W32, W64 = 2**16 - 1, 2**32 - 1, 2**64 - 1
 TOP = {1: W64, 2: W16, 3: W64, 4: W64, 5: W32, 6: W32, 7: W32}
@@ -770,16 +772,18 @@ def random_calls(r, seed, rounds):
 
 
 def main():
-    where = sys.argv[1]
     r = Run()
     for part in (pool_order, pool_full, holds, hold_full, started, last_row, malformed, broken, stand_cases, request_bounds, request_full, request_malformed):
         part(r)
     random_calls(r, 1, 30)
     random_requests(r, 2, 150)
-    text = "\n".join(r.commands) + "\n"
-    open(where + "/stdin", "w").write(text)
-    open(where + "/stdout", "w").write("\n".join(r.out) + "\n")
-    print(len(r.commands), "commands,", len(text), "bytes in,", len(r.out), "lines out")
+    files = {"stdin": "\n".join(r.commands) + "\n", "stdout": "\n".join(r.out) + "\n"}
+    for name, text in files.items():
+        if "--write" in sys.argv:
+            (ROWS_CRATE / name).write_text(text)
+        if (ROWS_CRATE / name).read_text() != text:
+            sys.exit(f"crates/rows/{name} is not what the model makes: tests/rows.py --write")
+    print(f"{len(r.commands)} commands for rows")
 
 
 main()
