@@ -1,5 +1,5 @@
 /* The device planner for C. It gives devices their memory, ports, wired inputs, host IRQs and message interrupts, and hands no
- * number to two devices, but for a wired input that both share.
+ * number to two devices, but for a wired input that both hold as shared. The library keeps nothing of its own: all stands in what it is lent.
  *
  * In short
  * --------
@@ -28,7 +28,8 @@
  * -------
  * Ranges are half-open. MMIO, inputs and host IRQs are 64-bit, PIO 16-bit; owner, requester, slot, controller, ITS, device, event, LPI,
  * counts and codes 32-bit. The largest number of a width is never granted. Owner and requester are not 0, nor is a size or a count; an
- * alignment has exactly one bit set. Trigger is a code 0 to 3, sharing 0 (exclusive) or 1 (shared).
+ * alignment has exactly one bit set. Trigger is a code 0 to 3, sharing 0 (exclusive) or 1 (shared): an input that has owners is granted only
+ * where it is asked for by its number, and the owners and the request are all shared, with one trigger.
  *
  * A request is twelve numbers: kind, requester, slot, three of its kind, and three choices of two numbers each, a code and a number. Its
  * record is nine: kind, requester, slot, and what was granted. What a kind does not use is not looked at in a request and 0 in a record.
@@ -87,6 +88,7 @@ extern "C" {
 #define PLANNER_REQUEST 12u /* numbers of a request */
 #define PLANNER_RECORD 9u   /* numbers of a record */
 #define PLANNER_ANSWER 5u   /* numbers of an answer */
+#define PLANNER_SAID (PLANNER_STATE_WORDS - PLANNER_ANSWER) /* where the last answer stands in a state */
 #define PLANNER_ROW 9u      /* numbers of a row: the table's count, controller, ITS, device, start, end, trigger, sharing, owner */
 #define PLANNER_MOST 128u   /* requests of a plan */
 #define PLANNER_TEXT_OUTPUT 22553u
@@ -117,8 +119,9 @@ uint64_t planner_allocate(uint64_t *state, uint64_t size, const uint64_t *reques
 uint64_t planner_plan(uint64_t *state, uint64_t size, const uint64_t *requests, size_t n, uint64_t *results, size_t m);
 
 /* Writes granted records back into their requests, in order: what was automatic then asks for the number that it was given. Lend it the
- * filled front part of the results and no more. An accepted plan, written back, gets the same numbers again on tables as before it, in any
- * selection and order of its requests, provided that each automatic pool range lies inside a fixed one. */
+ * filled front part of the results and no more. Any selection of the requests of a plan that was accepted from a fresh start, written back,
+ * gets the same numbers again, in any order, from a fresh start on the same pools and reservations, provided that each automatic pool range
+ * lies inside a fixed one. */
 void planner_pin(uint64_t *requests, size_t n, const uint64_t *results, size_t m);
 
 /* Reading back. `what` is 0: the last answer's five numbers; or part, kind, row: the nine numbers of a row, used or not, as it is stored. What a
@@ -131,8 +134,8 @@ uint64_t planner_text(const uint8_t *text, size_t n, uint8_t *out, size_t m);
 
 /* ---- helpers
  *
- * Each answers with the answer's number, and refuses null pointers with 1. None takes the library's word alone for an accepted call: the answer
- * in the state is 1 before the call, and a library that writes none (one of another build) has refused. */
+ * Each answers with the answer's number, and refuses null pointers with 1 (planner_respond: the bytes written, and 0). None takes the library's
+ * word alone for an accepted call: the answer in the state is 1 before it, and a library that writes none (one of another build) has refused. */
 
 /* Whether memory of so many bytes can be a state: not null, aligned, and of the one size that this header and the library both have. */
 static inline int planner_fits(const void *memory, size_t bytes) {
@@ -142,24 +145,24 @@ static inline int planner_fits(const void *memory, size_t bytes) {
 /* The five numbers of the last answer, which stand last in the state. */
 static inline uint64_t planner_answer(const uint64_t *state, uint64_t answer[5]) {
     if (!state || !answer) return 1;
-    for (size_t i = 0; i < PLANNER_ANSWER; i++) answer[i] = state[PLANNER_STATE_WORDS - PLANNER_ANSWER + i];
+    for (size_t i = 0; i < PLANNER_ANSWER; i++) answer[i] = state[PLANNER_SAID + i];
     return 0;
 }
 
-/* Before a call: no answer yet, which is 1. */
-static inline void planner_unsay(uint64_t *state) {
-    for (size_t i = 0; i < PLANNER_ANSWER; i++) state[PLANNER_STATE_WORDS - PLANNER_ANSWER + i] = i == 0;
+/* No answer yet, which is 1. */
+static inline void planner_unsay(uint64_t answer[5]) {
+    for (size_t i = 0; i < PLANNER_ANSWER; i++) answer[i] = i == 0;
 }
 
-/* After it: the number that it answered with, if the state says the same. */
+/* The number that a call answered with, if the state says the same. */
 static inline uint64_t planner_said(const uint64_t *state, uint64_t number) {
-    return state[PLANNER_STATE_WORDS - PLANNER_ANSWER] == number ? number : 1;
+    return state[PLANNER_SAID] == number ? number : 1;
 }
 
 /* A fresh state. */
 static inline uint64_t planner_begin(uint64_t *state) {
     if (!planner_fits(state, PLANNER_STATE_SIZE)) return 1;
-    planner_unsay(state);
+    planner_unsay(state + PLANNER_SAID);
     return planner_said(state, planner_fresh(state, PLANNER_STATE_SIZE));
 }
 
@@ -167,14 +170,14 @@ static inline uint64_t planner_begin(uint64_t *state) {
 static inline uint64_t planner_do(uint64_t *state, const uint64_t *numbers, size_t n) {
     uint64_t none[1];
     if (!state || !numbers) return 1;
-    planner_unsay(state);
+    planner_unsay(state + PLANNER_SAID);
     return planner_said(state, planner_call(state, PLANNER_STATE_SIZE, numbers, n, none, 0));
 }
 
 /* One request with its record. */
 static inline uint64_t planner_ask(uint64_t *state, const uint64_t request[12], uint64_t record[9]) {
     if (!state || !request || !record) return 1;
-    planner_unsay(state);
+    planner_unsay(state + PLANNER_SAID);
     return planner_said(state, planner_allocate(state, PLANNER_STATE_SIZE, request, PLANNER_REQUEST, record, PLANNER_RECORD));
 }
 
@@ -188,14 +191,14 @@ static inline size_t planner_granted(const uint64_t answer[5], size_t count) {
 /* A plan of `count` requests, with room for as many records; the answer's five numbers, written whatever comes of it. Over 128 requests are 11. */
 static inline uint64_t planner_run(uint64_t *state, const uint64_t *requests, size_t count, uint64_t *results, uint64_t answer[5]) {
     if (!answer) return 1;
-    for (size_t i = 0; i < PLANNER_ANSWER; i++) answer[i] = i == 0;
+    planner_unsay(answer);
     if (!state || !requests || !results) return 1;
     if (count > PLANNER_MOST) count = PLANNER_MOST + 1; /* one too many says it: 12 times any count may be no size */
-    planner_unsay(state);
+    planner_unsay(state + PLANNER_SAID);
     uint64_t filled = planner_plan(state, PLANNER_STATE_SIZE, requests, PLANNER_REQUEST * count, results, PLANNER_RECORD * count);
     planner_answer(state, answer);
     if (filled == PLANNER_RECORD * planner_granted(answer, count)) return answer[0];
-    for (size_t i = 0; i < PLANNER_ANSWER; i++) answer[i] = i == 0;
+    planner_unsay(answer);
     return 1;
 }
 
@@ -213,6 +216,14 @@ static inline uint64_t planner_row(const uint64_t *state, uint64_t part, uint64_
     const uint64_t what[3] = {part, kind, i};
     if (!state || !row) return 1;
     return planner_read(state, PLANNER_STATE_SIZE, what, 3, row, PLANNER_ROW);
+}
+
+/* What the planner's program answers to a text, in front of `out`, which has room for PLANNER_TEXT_OUTPUT bytes; how many bytes it wrote, or 0. */
+static inline size_t planner_respond(const char *text, size_t n, char *out, size_t m) {
+    if (!text || !out || m < PLANNER_TEXT_OUTPUT) return 0;
+    out[0] = 0; /* no answer begins so: a library that writes nothing is seen */
+    uint64_t written = planner_text((const uint8_t *)text, n, (uint8_t *)out, m);
+    return out[0] != 0 && written <= PLANNER_TEXT_OUTPUT ? (size_t)written : 0;
 }
 
 /* Starts: the owners become the reservations, and all grants are forgotten. */

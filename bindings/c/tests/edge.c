@@ -116,6 +116,14 @@ static void unread(void) {
     EXPECT(planner_start(state) == 0 && planner_ask(state, irq, record) == 0);
 }
 
+static void texts(void) {
+    static char out[PLANNER_TEXT_OUTPUT];
+    EXPECT(planner_respond("", 0, out, sizeof out) == 6 && memcmp(out, "end\t0\n", 6) == 0);
+    EXPECT(planner_respond("no newline", 10, out, sizeof out) == 14 && memcmp(out, "no\t1\t10\t0\t0\t0\n", 14) == 0);
+    EXPECT(planner_respond("", 0, out, sizeof out - 1) == 0 && out[0] == 'n');
+    EXPECT(planner_respond(NULL, 0, out, sizeof out) == 0 && planner_respond("", 0, NULL, sizeof out) == 0);
+}
+
 int main(void) {
     nulls();
     sizes();
@@ -123,6 +131,7 @@ int main(void) {
     too_long();
     refused();
     unread();
+    texts();
     puts("the C face's edge holds");
     return 0;
 }

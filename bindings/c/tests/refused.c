@@ -3,6 +3,7 @@
 #include "expect.h"
 
 static uint64_t state[PLANNER_STATE_WORDS]; /* zeros: the answer in it is accepted */
+static char out[PLANNER_TEXT_OUTPUT] = "end";
 
 static void plans(void) {
     for (size_t count = 0; count < 3; count++) {
@@ -16,11 +17,13 @@ static void plans(void) {
 
 int main(void) {
     uint64_t request[PLANNER_REQUEST] = {4, 1}, record[PLANNER_RECORD] = {7};
+    EXPECT(planner_fits(state, PLANNER_STATE_SIZE) == (planner_state_size() == PLANNER_STATE_SIZE));
     EXPECT(planner_begin(state) == 1);
     EXPECT(planner_pool_host(state, 0, 1, 2) == 1);
     EXPECT(planner_hold_host(state, 1, 1, 2) == 1);
     EXPECT(planner_start(state) == 1);
     EXPECT(planner_ask(state, request, record) == 1 && record[0] == 7);
     plans();
+    EXPECT(planner_respond("", 0, out, sizeof out) == 0);
     return 0;
 }

@@ -1,4 +1,4 @@
-//! A safe face of the device planner that hands no number to two devices, but for a wired input that both share.
+//! A safe face of the device planner that hands no number to two devices, but for a wired input that both hold as Shared.
 //!
 //! The planner itself is proved; what stands here only puts typed requests into its lists of numbers and reads its
 //! answers back. A [`Planner`] owns its state, a [`Plan`] its requests and results: nothing is allocated.

@@ -1,7 +1,8 @@
-//! The wrapper over a library that does nothing, as one built for another size: whatever that answers, no call is accepted, and nothing is granted or pinned.
+//! The wrapper over a library that does nothing, as one built for another size, or that says one thing and writes another: whatever it answers, no call is
+//! accepted, and nothing is granted or pinned.
 //! The exported functions are defined here, so the linker takes none from the planner's library.
 
-use std::sync::atomic::{AtomicU64, Ordering::SeqCst};
+use std::sync::atomic::{AtomicBool, AtomicU64, Ordering::SeqCst};
 use thurgoleo::{
     text, Choice, Hold, Kind, Part, Plan, PlanRefusal, Planner, Pool, Refusal, Request, Use, Want,
     STATE_SIZE, TEXT_OUTPUT,
@@ -9,9 +10,18 @@ use thurgoleo::{
 
 static SIZE: AtomicU64 = AtomicU64::new(0);
 static ANSWER: AtomicU64 = AtomicU64::new(0);
+/// Whether an accepted answer is written into the state.
+static WRITES: AtomicBool = AtomicBool::new(false);
 
 fn answer() -> u64 {
     ANSWER.load(SeqCst)
+}
+
+fn answer_on(state: *mut u64) -> u64 {
+    if WRITES.load(SeqCst) {
+        unsafe { state.add(STATE_SIZE / 8 - 5).write_bytes(0, 5) };
+    }
+    answer()
 }
 
 #[no_mangle]
@@ -20,44 +30,44 @@ extern "C" fn planner_state_size() -> u64 {
 }
 
 #[no_mangle]
-extern "C" fn planner_fresh(_: *mut u64, _: u64) -> u64 {
-    answer()
+extern "C" fn planner_fresh(state: *mut u64, _: u64) -> u64 {
+    answer_on(state)
 }
 
 #[no_mangle]
 extern "C" fn planner_call(
-    _: *mut u64,
+    state: *mut u64,
     _: u64,
     _: *const u64,
     _: usize,
     _: *mut u64,
     _: usize,
 ) -> u64 {
-    answer()
+    answer_on(state)
 }
 
 #[no_mangle]
 extern "C" fn planner_allocate(
-    _: *mut u64,
+    state: *mut u64,
     _: u64,
     _: *const u64,
     _: usize,
     _: *mut u64,
     _: usize,
 ) -> u64 {
-    answer()
+    answer_on(state)
 }
 
 #[no_mangle]
 extern "C" fn planner_plan(
-    _: *mut u64,
+    state: *mut u64,
     _: u64,
     _: *const u64,
     _: usize,
     _: *mut u64,
     _: usize,
 ) -> u64 {
-    answer()
+    answer_on(state)
 }
 
 #[no_mangle]
@@ -124,10 +134,13 @@ fn nothing_is_accepted(size: u64) {
 
 #[test]
 fn whatever_it_answers() {
+    let silent = [0, 1, 2, 9, 18, u64::MAX].map(|number| (number, false));
+    let writing = [1, 2, u64::MAX].map(|number| (number, true));
     for size in [STATE_SIZE as u64, 0, 1, 8, STATE_SIZE as u64 + 8, u64::MAX] {
-        for number in [0, 1, 2, 9, 18, u64::MAX] {
+        for (number, writes) in silent.into_iter().chain(writing) {
             SIZE.store(size, SeqCst);
             ANSWER.store(number, SeqCst);
+            WRITES.store(writes, SeqCst);
             nothing_is_accepted(size);
             let mut out = [b'e'; TEXT_OUTPUT];
             assert_eq!(text(b"", &mut out), Err(Refusal::Malformed));
