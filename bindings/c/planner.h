@@ -17,8 +17,9 @@
  *
  * The state
  * ---------
- * It is your memory: PLANNER_STATE_SIZE bytes, aligned to 8, lent to every call. Any bytes may stand in it: each call judges them,
- * and refuses with 1 what is not sound. Its last five numbers are the last answer, written by every call but those that read.
+ * It is your memory: PLANNER_STATE_SIZE bytes, aligned to 8, lent to every call. planner_begin makes a fresh one; bytes that were kept
+ * elsewhere, or any others, may stand in it too: each call judges them, and refuses with 1 what is not sound. Its last five numbers are
+ * the last answer, written by every call but those that read.
  * It holds 28 tables, one of each part and kind. Parts: 1 automatic pools, 2 fixed pools (32 rows a table), 3 reservations, 4 owners
  * (128 rows a table). Kinds: 1 MMIO, 2 PIO, 3 input, 4 host IRQ, 5 device, 6 event, 7 LPI. A row more than a table has is refused with 9.
  * A start makes the owners copies of the reservations and forgets all grants. After a reservation made since then the owners no longer

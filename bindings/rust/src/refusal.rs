@@ -105,7 +105,9 @@ impl fmt::Display for Refusal {
     /// ```
     fn fmt(&self, f: &mut fmt::Formatter<'_>) -> fmt::Result {
         match *self {
-            Refusal::Malformed => f.write_str("the tables handed in are not sound"),
+            Refusal::Malformed => {
+                f.write_str("the tables are not sound, or the library is of another size")
+            }
             Refusal::BadInput => f.write_str("a number or a code makes no sense"),
             Refusal::BadOwner => f.write_str("owner 0 is nobody"),
             Refusal::EmptyRange => f.write_str("the range holds no number"),
