@@ -1,7 +1,7 @@
 #!/usr/bin/env python3
 """The table-level rules of 01, written down once more in Python, and the commands that try them.
 
-Says whether crates/rows/stdin (commands for the program `rows`) and crates/rows/stdout (what it must print) are what this model makes; with --write, lays them out so.
+Says whether tests/rows/commands (for bindings/rust/tests/rows.rs) and tests/rows/answers (what it must give) are what this model makes; with --write, lays them out so.
 A command is a line of at most thirteen numbers, parted by single blanks; those left out are 0:
   0                                    a fresh state
   1 use kind numbers..                 add a pool range (use 0 automatic, 1 fixed; kind 1 mmio 2 pio 3 input 4 host 5 msi)
@@ -20,7 +20,7 @@ import pathlib
 import random
 import sys
 
-ROWS_CRATE = pathlib.Path(__file__).resolve().parent.parent / "crates/rows"
+FILES = pathlib.Path(__file__).resolve().parent / "rows"
 ROWS, POOL = 128, 32
 W16, W32, W64 = 2**16 - 1, 2**32 - 1, 2**64 - 1
 TOP = {1: W64, 2: W16, 3: W64, 4: W64, 5: W32, 6: W32, 7: W32}
@@ -777,13 +777,13 @@ def main():
         part(r)
     random_calls(r, 1, 30)
     random_requests(r, 2, 150)
-    files = {"stdin": "\n".join(r.commands) + "\n", "stdout": "\n".join(r.out) + "\n"}
+    files = {"commands": "\n".join(r.commands) + "\n", "answers": "\n".join(r.out) + "\n"}
     for name, text in files.items():
         if "--write" in sys.argv:
-            (ROWS_CRATE / name).write_text(text)
-        if (ROWS_CRATE / name).read_text() != text:
-            sys.exit(f"crates/rows/{name} is not what the model makes: tests/rows.py --write")
-    print(f"{len(r.commands)} commands for rows")
+            (FILES / name).write_text(text)
+        if (FILES / name).read_text() != text:
+            sys.exit(f"tests/rows/{name} is not what the model makes: tests/rows.py --write")
+    print(f"{len(r.commands)} commands")
 
 
 main()
