@@ -1,31 +1,27 @@
-"""Says whether crates/texts/data holds the cases of oracle/cases, each text and output as a file of its own; with --write, lays them out so."""
+#!/usr/bin/env python3
+"""The stored texts with the original's answers (oracle/cases), for tests; with a folder named, lays each out there as a file, NUMBER.i, beside its output, NUMBER.o."""
 import pathlib
 import sys
 
-ROOT = pathlib.Path(__file__).resolve().parent.parent
-DATA = ROOT / "crates/texts/data"
+CASES = pathlib.Path(__file__).resolve().parent.parent / "oracle/cases"
 
 
 def parts(name):
     """The texts of a file of cases: a length in decimal and a newline before each."""
-    left = (ROOT / "oracle/cases" / name).read_bytes()
+    left = (CASES / name).read_bytes()
     while left:
         size, _, left = left.partition(b"\n")
         yield left[: int(size)]
         left = left[int(size) :]
 
 
-def wanted():
-    for number, (text, output) in enumerate(zip(parts("cases.in"), parts("cases.out"), strict=True)):
-        yield f"{number:03}.i", text
-        yield f"{number:03}.o", output
+def texts():
+    return list(zip(parts("cases.in"), parts("cases.out"), strict=True))
 
 
-files = dict(wanted())
-if "--write" in sys.argv:
-    DATA.mkdir(exist_ok=True)
-    for name, content in files.items():
-        (DATA / name).write_bytes(content)
-if {path.name: path.read_bytes() for path in DATA.iterdir()} != files:
-    sys.exit("crates/texts/data is not what oracle/cases has: tests/stored.py --write")
-print(f"{len(files) // 2} stored texts")
+if __name__ == "__main__":
+    folder = pathlib.Path(sys.argv[1])
+    folder.mkdir(exist_ok=True)
+    for number, (text, output) in enumerate(texts()):
+        (folder / f"{number:03}.i").write_bytes(text)
+        (folder / f"{number:03}.o").write_bytes(output)

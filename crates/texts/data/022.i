@@ -1,1 +1,0 @@
-pool	fixed	host	9	8

@@ -1,1 +1,0 @@
-pool	auto	input	1	7	7

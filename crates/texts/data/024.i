@@ -1,1 +1,0 @@
-pool	fixed	input	1	7	6

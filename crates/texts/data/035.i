@@ -1,2 +1,0 @@
-pool	auto	host	1	2
-want	1	0	host	1

@@ -1,1 +1,0 @@
-hold	0	host	0	1

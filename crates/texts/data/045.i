@@ -1,1 +1,0 @@
-hold	0	input	0	0	0	0

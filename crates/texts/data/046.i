@@ -1,1 +1,0 @@
-hold	0	device	0	0	0	1

@@ -1,1 +1,0 @@
-hold	0	event	0	0	0	0	1

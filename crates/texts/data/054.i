@@ -1,1 +1,0 @@
-hold	1	host	3	3

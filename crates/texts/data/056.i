@@ -1,1 +1,0 @@
-hold	1	event	0	0	8	4	4

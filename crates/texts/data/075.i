@@ -1,1 +1,0 @@
-hold	0	input	1	1	4	0

@@ -1,2 +1,0 @@
-pool	auto	pio	0	9
-want	0	1	pio	1	1	auto

@@ -1,3 +1,0 @@
-pool	fixed	mmio	0	9
-hold	5	mmio	3	4
-want	1	1	mmio	1	2	3

@@ -1,1 +1,0 @@
-poll	auto	mmio	0	1

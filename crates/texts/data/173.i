@@ -1,1 +1,0 @@
-pools	auto	mmio	0	1

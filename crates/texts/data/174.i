@@ -1,1 +1,0 @@
-pool	both	mmio	0	1

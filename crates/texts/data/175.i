@@ -1,1 +1,0 @@
-pool	autos	mmio	0	1

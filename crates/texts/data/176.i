@@ -1,1 +1,0 @@
-pool	auto	mem	0	1

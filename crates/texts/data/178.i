@@ -1,1 +1,0 @@
-pool	auto	device	0	0	0	1

@@ -1,1 +1,0 @@
-want	1	1	lpi	0	auto

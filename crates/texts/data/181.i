@@ -1,1 +1,0 @@
-hold	1	memory	0	1

@@ -1,1 +1,0 @@
-pool	auto	mmio	auto	1

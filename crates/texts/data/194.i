@@ -1,1 +1,0 @@
-pool	1	mmio	0	1

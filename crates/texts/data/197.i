@@ -1,1 +1,0 @@
-POOL	auto	mmio	0	1

@@ -1,1 +1,0 @@
-pool	Auto	mmio	0	1

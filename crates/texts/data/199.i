@@ -1,1 +1,0 @@
-pool	auto	MMIO	0	1

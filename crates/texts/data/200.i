@@ -1,1 +1,0 @@
-Hold	1	mmio	0	1

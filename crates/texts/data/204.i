@@ -1,1 +1,0 @@
-hold	01	mmio	0	1

@@ -1,1 +1,0 @@
-hold		mmio	0	1

@@ -1,1 +1,0 @@
-pool		mmio	0	1

@@ -1,1 +1,0 @@
-pool	auto	pio	65536	1

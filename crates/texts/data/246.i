@@ -1,1 +1,0 @@
-pool	auto	mmio	0	1want	1	1	mmio	1	1	auto

@@ -1,2 +1,0 @@
-pool	auto	mmio	0	9
-

@@ -1,2 +1,0 @@
-nonsense
-pool	auto	mmio	1	1

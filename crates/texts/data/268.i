@@ -1,2 +1,0 @@
-pool	auto	mmio	1	1
-nonsense

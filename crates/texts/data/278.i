@@ -1,2 +1,0 @@
-want	1	1	host	auto
-pool	auto	host	0	9

@@ -1,1 +1,0 @@
-pool	auto	host	0	9	0

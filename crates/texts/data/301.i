@@ -1,1 +1,0 @@
-pool	fixed	input	4294967296	0	9

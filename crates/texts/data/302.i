@@ -1,1 +1,0 @@
-pool	fixed	input	4294967295	0	9

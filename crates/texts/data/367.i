@@ -1,1 +1,0 @@
-hold	1	input	0	0	0

@@ -1,1 +1,0 @@
-hold	1	device	0	0	0

@@ -1,1 +1,0 @@
-hold	1	event	0	0	0	0

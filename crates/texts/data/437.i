@@ -1,1 +1,0 @@
-want	1	1	pio	65536	1	auto

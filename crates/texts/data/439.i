@@ -1,1 +1,0 @@
-want	1	1	pio	1	65536	auto

@@ -1,1 +1,0 @@
-want	1	1	pio	1	1	auto	0

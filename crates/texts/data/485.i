@@ -1,1 +1,0 @@
-want	4294967295	1	host	auto

@@ -1,1 +1,0 @@
-want	1	4294967296	host	auto

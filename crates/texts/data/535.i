@@ -1,2 +1,0 @@
-pool	auto	host
-want	1	1	host	auto

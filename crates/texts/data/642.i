@@ -1,3 +1,0 @@
-pool	auto	input	4294967295	65528	65538
-pool	fixed	input	1	65528	65538
-pool	fixed	input	4294967295	65527	65529

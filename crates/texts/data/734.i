@@ -1,9 +1,0 @@
-pool	auto	host	2	11
-pool	fixed	host	2	10
-pool	auto	host	3	4
-hold	3	host	10	11
-pool	fixed	host	1	2
-want	3	4294967295	host	auto
-want	9	4294967295	host	5
-want	1	1	host	auto
-want	3	4294967295	host	auto

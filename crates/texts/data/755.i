@@ -1,2 +1,0 @@
-pool	auto	4	65525	655P6
-hold	9	host	65532	65533

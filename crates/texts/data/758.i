@@ -1,3 +1,0 @@
-pool	fixed	msi	2		0	12	30	40	65531	65539
-pool	auto	msi	4294967295	4294967295	0	12	30	41	65529	65540
-want	1	1	mmio	1	1	auto	

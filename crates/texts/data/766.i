@@ -1,9 +1,0 @@
-pool	auto	host	27	37
-pool	fixed	host	26	36
-hold	1	host	25	27
-pool	fixed	host	26	35
-hold	1	host	29	31
-pool	auto	host	36	43
-hold	want	host	26	28
-pool	fixed	host	30	37
-pool	fixed	host	33	34
