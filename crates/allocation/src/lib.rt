@@ -6,6 +6,7 @@ use finding::value;
 use request::Request;
 use request::Want;
 use tables::Holders;
+use tables::RECORD;
 use tables::State;
 ghost use mathlib.Core.Path.{_≡_};
 ghost use Prim.Native.Nat.{_≤_};
@@ -240,7 +241,7 @@ pub fn allocate_into(s: State, r: Request, out: &mut [u64]) -> State
     ensures { λ t. ⌜ lent (stateView t) (now (out .exit)) ≡ allocateInto kinds (requestOf r) (stateView s) (now (out .entry)) ⌝ }
 {
     if sound::sound(s) {
-        if 9 <= out.len() {
+        if RECORD <= out.len() {
             let o = resolve(s, r);
             let t = o.state;
             let bases = o.bases;

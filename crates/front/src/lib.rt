@@ -1,11 +1,10 @@
 // The filled front part of a results list: nine numbers for each request that the plan accepted.
+use tables::RECORD;
 ghost use mathlib.Core.Path.{_≡_};
 ghost use Prim.Native.Nat.{_*_};
 ghost use lib.ListN.{take};
 ghost use Rattle.definition.specs.Tables.{recordSize};
 ghost use Rattle.front.specs.Front.{acceptedOf};
-
-const RECORD: usize = 9;
 
 // How many of n requests an answer's number and index say were accepted: all of them, or those before the refused one.
 pub fn accepted(number: u64, index: u64, n: usize) -> usize

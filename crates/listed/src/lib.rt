@@ -1,5 +1,6 @@
 // 01's form of a plan over request structs: a thin function reads a request from the lent list and hands it by value to the covered single-request allocation, the state by value too. Nothing leans on it; `plan::list` answers each request where the state stands.
 use request::Request;
+use tables::RECORD;
 use tables::State;
 ghost use mathlib.Core.Path.{_≡_};
 ghost use Prim.Native.Nat.{_<_};
@@ -9,8 +10,6 @@ ghost use Rattle.tables.specs.Views.{stateView};
 ghost use Rattle.request.specs.Asked.{requestOf};
 ghost use Rattle.steps.specs.Steps.{numbered, turned};
 ghost use Rattle.plan.specs.Nobody.{nobody};
-
-const RECORD: usize = 9;
 
 // A refusal names its request.
 pub fn number(t: State, i: usize) -> State

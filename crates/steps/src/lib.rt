@@ -1,6 +1,8 @@
 // The parts of a plan's turns, over plain values: whether the plan fits, whether a request has its turn, the index of its answer, and its record in the results.
 use finding::Bases;
 use request::Request;
+use tables::PLAN;
+use tables::RECORD;
 ghost use mathlib.Core.Path.{_≡_};
 ghost use mathlib.Core.Bool.{_&&_};
 ghost use Prim.Native.Nat.{_+_, _*_, _/_, _≤_};
@@ -9,11 +11,7 @@ ghost use lib.ListN.{length};
 ghost use Rattle.definition.specs.Tables.{planLimit, recordSize};
 ghost use Rattle.steps.specs.Steps.{indexFor, writtenAt};
 
-const PLAN: usize = 128;
-
-const RECORD: usize = 9;
-
-// At most 128 requests, and room for their records: 11 if not.
+// No more requests than a plan has, and room for their records: 11 if not.
 pub fn fits(n: usize, room: usize) -> bool
     ensures { λ r. ⌜ r ≡ leb n planLimit && leb (recordSize * n) room ⌝ }
 {

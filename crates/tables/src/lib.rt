@@ -5,10 +5,14 @@ ghost use Rattle.definition.specs.Tables.{poolLimit, rowLimit};
 ghost use Rattle.tables.specs.Views.{pool, ranges, wires, poolAt, rangeAt, wireAt, rangeOf, wireOf};
 ghost use Rattle.tables.specs.Whole.{pushedRange, pushedWire, freshPool, freshRanges, freshWires, freshPools, freshHolders, freshState};
 
-// The rows of a reservation or owner table, and of a pool table.
+// The sizes, each stated here alone: rows of a reservation or owner table, rows of a pool table, requests of a plan, numbers of a record.
 pub const ROWS: usize = 128;
 
 pub const POOL_ROWS: usize = 32;
+
+pub const PLAN: usize = 128;
+
+pub const RECORD: usize = 9;
 
 // A pool table of any kind. A domain number that a kind does not use is 0 in every row.
 #[repr(C)]
