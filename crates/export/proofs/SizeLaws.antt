@@ -1,17 +1,23 @@
--- The two ways by the size. Assumes nothing.
+-- The size is that of the state's layout, and the two ways by it. Assumes nothing.
 use mathlib.Core.Path.{_≡_, refl, ap, _∙_}
 use mathlib.Core.Bool.{Bool, false, not}
 use mathlib.Core.List.{List}
 use Prim.Native.Nat.{ℕ}
 use lib.Dec.{T, eqb}
+use prog.Memory.{size as sizeOf}
 use Rattle.definition.specs.BaseLaws.{T-true}
 use Rattle.definition.specs.Calls.{State as Given}
 use Rattle.definition.specs.Plan.{Lent, lent}
 use Rattle.tables.specs.Whole.{freshState}
 use Rattle.tables.specs.declared.State.{State}
+use Rattle.tables.proofs.State.Laws.{mir}
 use Rattle.face.specs.Lent.{filledIn}
 use Rattle.face.specs.Rows.{Told, told}
 use Rattle.export.specs.Export.{stateSize, Answered, answered, numbered, counted, sized, sizedRead, begun, sizedFresh}
+
+-- THE SIZE IS THE STATE'S: as many bytes as the struct has where the machine lays it out
+pub size-is : stateSize ≡ sizeOf mir
+size-is = refl
 
 fails : (b : Bool) → T (not b) → b ≡ false
 fails false t = refl

@@ -1,8 +1,10 @@
 -- What an exported call leaves and answers, by the size of the state that it is lent. Assumes nothing.
 use mathlib.Core.Bool.{true, false}
 use mathlib.Core.List.{List}
-use Prim.Native.Nat.{ℕ}
+use Prim.Native.Nat.{ℕ, _+_, _*_, _-_}
 use lib.Dec.{eqb}
+use lib.ListN.{length}
+use Rattle.definition.specs.Tables.{poolLimit, rowLimit, kinds}
 use Rattle.definition.specs.Calls.{State as Given}
 use Rattle.definition.specs.Plan.{Lent, lent}
 use Rattle.tables.specs.Whole.{freshState}
@@ -11,9 +13,29 @@ use Rattle.text.specs.Respond.{Replied}
 use Rattle.face.specs.Lent.{filledIn}
 use Rattle.face.specs.Rows.{Told, told}
 
--- the bytes of a state: 14 pool tables of 776, 12 range tables of 4104, 2 input tables of 3080, and five numbers
+-- ---- the bytes of a state
+
+-- a table of so many rows: its count, and its columns, of which a row has so many bytes
+abbrev pub tableSize : ℕ → ℕ → ℕ
+tableSize rows columns = 8 + rows * columns
+
+-- controller, ITS, start, end
+abbrev pub poolSize : ℕ
+poolSize = tableSize poolLimit (4 + 4 + 8 + 8)
+
+-- controller, ITS, device, start, end, owner
+abbrev pub rangesSize : ℕ
+rangesSize = tableSize rowLimit (4 + 4 + 4 + 8 + 8 + 4)
+
+-- controller, input, trigger, sharing, owner
+abbrev pub wiresSize : ℕ
+wiresSize = tableSize rowLimit (4 + 8 + 4 + 4 + 4)
+
+-- automatic and fixed pools of each kind; reservations and owners of inputs and of each other kind; the answer's five numbers
 abbrev pub stateSize : ℕ
-stateSize = 66312
+stateSize = 2 * (length kinds * poolSize) + 2 * (wiresSize + (length kinds - 1) * rangesSize) + 5 * 8
+
+-- ---- what a call leaves and answers
 
 -- the state and the list afterwards, and the number answered
 pub record Answered : Type 0 where
