@@ -14,7 +14,7 @@ use Rattle.definition.specs.Plan.{run, recordOf, records, written, lent, roomy,
 use Rattle.definition.specs.RequestLaws.{AutoInFixed, insideOne, autoInFixed, inside-says}
 use Rattle.definition.specs.ReplayLaws.{now, later, Pick, stop, pick}
 use Rattle.flat.specs.Flat.{requestSize, readable, wantAt, requestIn, requestAt, requestsFrom, requestsOf, wholeRequests, flatPlan}
-use Rattle.pin.specs.Pin.{pinChoiceAt, pinOne, pinFrom, pinnedNumbers}
+use Rattle.pin.specs.Pin.{pinChoiceAt, pinChoices, tellsOf, ownRecord, pinOne, pinFrom, pinnedNumbers}
 use Rattle.again.specs.Again.{blocks, indices, rowsFor, firstResults, runAgain}
 use Rattle.again.proofs.AgainLaws.{flat-replay}
 
@@ -66,7 +66,7 @@ written-back : blocks requestSize (pinnedNumbers numbers (firstResults stand num
     ∷ 3 ∷ 3 ∷ 3 ∷ 1 ∷ 0 ∷ 1 ∷ 1 ∷ 32 ∷ 0 ∷ 0 ∷ 0 ∷ 0
     ∷ 2 ∷ 3 ∷ 5 ∷ 4 ∷ 4 ∷ 0 ∷ 1 ∷ 0x60 ∷ 0 ∷ 0 ∷ 0 ∷ 0
     ∷ 5 ∷ 3 ∷ 1 ∷ 1 ∷ 2 ∷ 2 ∷ 1 ∷ 8 ∷ 1 ∷ 0 ∷ 1 ∷ 8192 ∷ []
-unfolding blocks pinnedNumbers pinFrom pinOne pinChoiceAt flatPlan wholeRequests requestsOf requestsFrom requestAt requestIn readable wantAt plan records recordOf stand made results numbers anyOf allOf pairsOf firstOf lower leastOf sameKind sameDom within sameSpan sameRow overlap meets joins clash require tidy fits fitsSpan goodRow goodSpan begins inOrder soundTable insert unlessThere addRange rowsOf _⊕_ room unreserved allUnreserved reserve onesIn goodChoice oneBit goodWant goodRequest rowAt aligned holds free alignUp candidates lowest allowed unjoined obstacle detail found unopposed place claims resolve givenAt soundAt given sound pushAll addAll serve run roomy planRun
+unfolding blocks pinnedNumbers pinFrom pinOne ownRecord tellsOf pinChoices pinChoiceAt flatPlan wholeRequests requestsOf requestsFrom requestAt requestIn readable wantAt plan records recordOf stand made results numbers anyOf allOf pairsOf firstOf lower leastOf sameKind sameDom within sameSpan sameRow overlap meets joins clash require tidy fits fitsSpan goodRow goodSpan begins inOrder soundTable insert unlessThere addRange rowsOf _⊕_ room unreserved allUnreserved reserve onesIn goodChoice oneBit goodWant goodRequest rowAt aligned holds free alignUp candidates lowest allowed unjoined obstacle detail found unopposed place claims resolve givenAt soundAt given sound pushAll addAll serve run roomy planRun
 written-back = refl
 
 -- demand 3 applied: from the same pools and reservations they get what they had

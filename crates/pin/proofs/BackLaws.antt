@@ -1,19 +1,19 @@
 -- What is written back is the definition's `pinned`: an accepted plan's requests, pinned with its results, are the grants' pinned requests. Assumes nothing.
 use mathlib.Core.Path.{_≡_, refl, sym, subst, ap, _∙_}
-use mathlib.Core.Bool.{Bool, true, false, _&&_}
+use mathlib.Core.Bool.{Bool, true, false, not, _&&_}
 use mathlib.Core.List.{List, [], _∷_, _++_, map}
 use Prim.Native.Nat.{ℕ, zero, suc, _+_, _*_, _/_, _≤_, _<_, min}
 use native.Mathlib.Omega.{arith}
-use lib.Dec.{T}
-use borrow.Author.Tests.{le-leb}
+use lib.Dec.{T, eqb, ltb, ltb→lt}
+use borrow.Author.Tests.{le-leb, eq-eqb, ne-eqb}
 use lib.ListN.{length, getD, set, drop, length-set, length-append, length-map, List·getD-append}
 use lib.Seq.{getD-set-same, getD-set-other, getD-append-add}
-use Rattle.definition.specs.BaseLaws.{and-r, T-true}
+use Rattle.definition.specs.BaseLaws.{and-l, and-r, T-true}
 use Rattle.definition.specs.Tables.{top, recordSize, Kind, kinds}
 use Rattle.definition.specs.Pools.{Claim}
 use Rattle.definition.specs.Request.{Choice, Want, memory, ports, wire, irq, msi, Request, goodRequest}
 use Rattle.definition.specs.Calls.{State, poolsOf, ownersOf}
-use Rattle.definition.specs.Plan.{Grant, grant, done, planRun, baseAt, recordOf, records, written, pinChoice, pinWant, pinned}
+use Rattle.definition.specs.Plan.{Grant, grant, done, planRun, baseAt, record-of, recordOf, records, written, pinChoice, pinWant, pinned}
 use Rattle.definition.specs.RunLaws.{record-length, records-length}
 use Rattle.definition.specs.ResolveLaws.{Ground}
 use Rattle.definition.specs.RowLaws.{every-kind}
@@ -21,8 +21,8 @@ use Rattle.definition.specs.StateLaws.{sound-ground, sound-for}
 use Rattle.definition.specs.PlanLaws.{plan-says, plan-requests}
 use Rattle.flat.specs.Flat.{requestSize, known, choiceAt, fits, named, allFit, Form, unknown, mmio, pio, input, host, messages, formAt, readable, wantAt, orBad, requestIn, numberAt, requestAt, requestsFrom, requestsOf}
 use Rattle.flat.proofs.FlatLaws.{request-reads, requests-read, requests-length}
-use Rattle.pin.specs.Pin.{ifAuto, pinChoiceAt, pinForm, grantedAt, pinOne, pinFrom, pinnedNumbers}
-use Rattle.pin.proofs.PinLaws.{pin-choice-length, one-length}
+use Rattle.pin.specs.Pin.{ifAuto, pinChoiceAt, pinForm, grantedAt, pinChoices, tellsOf, ownRecord, pinOne, pinFrom, pinnedNumbers}
+use Rattle.pin.proofs.PinLaws.{pin-choice-length, one-own, one-length}
 use Rattle.pin.proofs.NarrowLaws.{Narrow, Good, AllGood, run-good}
 
 -- ---- the numbers of a list with one choice pinned
@@ -242,19 +242,79 @@ unfolding goodRequest
 good-reads true r t = tt
 good-reads false r t = t
 
--- the i-th request, pinned from a record that holds the grant's numbers
-pub one-pinned : (res : List ℕ) (i : ℕ) (rq : List ℕ) (g : Grant) → requestSize * i + requestSize ≤ length rq → requestAt rq i ≡ g .request → Good g
-    → ((j : ℕ) → j < recordSize → grantedAt res i j ≡ getD (recordOf g) j 0) → requestAt (pinOne res i rq) i ≡ pinned g
-unfolding pinOne requestAt requestIn
-one-pinned res i rq g long e good gr =
-    let f : Form = formAt (numberAt rq i 0) in
-    let r : Request = asked i rq (grantedAt res i) (g .rows) long f in
-    let b : Bool = can-read i rq (grantedAt res i) (g .rows) long f in
-    let t : T b = good-reads b r (subst (λ (v : Request). T (goodRequest v)) (sym e) (good .0)) in
-    let is : requestAt rq i ≡ r = ap (λ (v : Bool). orBad v r) (T-true b t) in
-    let same : g .request ≡ r = sym e ∙ is in
-    by-form i rq (grantedAt res i) (g .rows) long f refl t (subst (λ (v : Request). Narrow (v .want) (g .rows)) same (good .1)) (λ j s. gr j s ∙ ap (λ (v : Request). getD (recordOf (grant v (g .rows))) j 0) same)
-    ∙ ap (λ (v : Request). pinned (grant v (g .rows))) (sym same)
+-- a readable request's record begins with its kind's number
+kind-told : (k q s a b c x n y m z l : ℕ) (cs : List Claim) → T (readable (formAt k) a b c x n y m z l)
+    → getD (record-of q s (wantAt (formAt k) a b c (choiceAt x n) (choiceAt y m) (choiceAt z l)) cs) 0 0 ≡ k
+unfolding readable wantAt
+kind-told zero q s a b c x n y m z l cs t = absurd t
+kind-told (suc zero) q s a b c x n y m z l cs t = refl
+kind-told (suc (suc zero)) q s a b c x n y m z l cs t = refl
+kind-told (suc (suc (suc zero))) q s a b c x n y m z l cs t = refl
+kind-told (suc (suc (suc (suc zero)))) q s a b c x n y m z l cs t = refl
+kind-told (suc (suc (suc (suc (suc zero))))) q s a b c x n y m z l cs t = refl
+kind-told (suc (suc (suc (suc (suc (suc k)))))) q s a b c x n y m z l cs t = absurd t
+
+-- .. then its requester and its slot
+requester-told : (q s : ℕ) (w : Want) (cs : List Claim) → getD (record-of q s w cs) 1 0 ≡ q
+requester-told q s (memory n a c) cs = refl
+requester-told q s (ports n a c) cs = refl
+requester-told q s (wire k t h c) cs = refl
+requester-told q s (irq c) cs = refl
+requester-told q s (msi k i n d e l) cs = refl
+
+slot-told : (q s : ℕ) (w : Want) (cs : List Claim) → getD (record-of q s w cs) 2 0 ≡ s
+slot-told q s (memory n a c) cs = refl
+slot-told q s (ports n a c) cs = refl
+slot-told q s (wire k t h c) cs = refl
+slot-told q s (irq c) cs = refl
+slot-told q s (msi k i n d e l) cs = refl
+
+-- somebody asks
+good-somebody : (r : Request) → T (goodRequest r) → eqb (r .requester) 0 ≡ false
+unfolding goodRequest
+good-somebody r t = let l : T (ltb 0 (r .requester)) = and-l (ltb 0 (r .requester)) _ t in ne-eqb (r .requester) 0 (λ e. omega (arith, ltb→lt 0 (r .requester) l))
+
+-- the i-th request, and a record that holds the numbers of its grant
+module _ (res : List ℕ) (i : ℕ) (rq : List ℕ) (g : Grant) (long : requestSize * i + requestSize ≤ length rq) (e : requestAt rq i ≡ g .request) (good : Good g)
+    (gr : (j : ℕ) → j < recordSize → grantedAt res i j ≡ getD (recordOf g) j 0) where
+  abbrev F : Form
+  F = formAt (numberAt rq i 0)
+
+  abbrev R : Request
+  R = asked i rq (grantedAt res i) (g .rows) long F
+
+  abbrev reads-it : Bool
+  reads-it = can-read i rq (grantedAt res i) (g .rows) long F
+
+  could-read : T reads-it
+  unfolding requestAt requestIn
+  could-read = good-reads reads-it R (subst (λ (v : Request). T (goodRequest v)) (sym e) (good .0))
+
+  same : g .request ≡ R
+  unfolding requestAt requestIn
+  same = let is : requestAt rq i ≡ R = ap (λ (v : Bool). orBad v R) (T-true reads-it could-read) in sym e ∙ is
+
+  -- it is the request's own ..
+  own-record : ownRecord res i rq ≡ true
+  unfolding ownRecord tellsOf recordOf
+  own-record =
+      let N : ℕ → ℕ = λ j. numberAt rq i j in
+      let t : T (readable F (N 3) (N 4) (N 5) (N 6) (N 7) (N 8) (N 9) (N 10) (N 11)) = and-r (fits (N 2)) _ (and-r (fits (N 1)) _ could-read) in
+      let some : eqb (requestAt rq i .requester) 0 ≡ false = ap (λ (v : Request). eqb (v .requester) 0) e ∙ good-somebody (g .request) (good .0) in
+      let k : grantedAt res i 0 ≡ N 0 = gr 0 (omega arith) ∙ ap (λ (v : Request). getD (recordOf (grant v (g .rows))) 0 0) same ∙ kind-told (N 0) (N 1) (N 2) (N 3) (N 4) (N 5) (N 6) (N 7) (N 8) (N 9) (N 10) (N 11) (g .rows) t in
+      let q : grantedAt res i 1 ≡ requestAt rq i .requester = gr 1 (omega arith) ∙ requester-told (g .request .requester) (g .request .slot) (g .request .want) (g .rows) ∙ ap (λ (v : Request). v .requester) (sym e) in
+      let s : grantedAt res i 2 ≡ requestAt rq i .slot = gr 2 (omega arith) ∙ slot-told (g .request .requester) (g .request .slot) (g .request .want) (g .rows) ∙ ap (λ (v : Request). v .slot) (sym e) in
+      λ t. not (some t) && (eq-eqb _ _ k t && (eq-eqb _ _ q t && eq-eqb _ _ s t))
+
+  -- .. so the request is pinned at what was granted
+  choices-pinned : requestAt (pinChoices res i rq) i ≡ pinned g
+  unfolding pinChoices
+  choices-pinned =
+      by-form i rq (grantedAt res i) (g .rows) long F refl could-read (subst (λ (v : Request). Narrow (v .want) (g .rows)) same (good .1)) (λ j s. gr j s ∙ ap (λ (v : Request). getD (recordOf (grant v (g .rows))) j 0) same)
+      ∙ ap (λ (v : Request). pinned (grant v (g .rows))) (sym same)
+
+  pub one-pinned : requestAt (pinOne res i rq) i ≡ pinned g
+  one-pinned = ap (λ (v : List ℕ). requestAt v i) (sym (one-own res i rq own-record)) ∙ choices-pinned
 
 -- ---- the list
 
@@ -276,8 +336,12 @@ form-other f G i rq h j s u = go f
         one 10 (G 7) (pinChoiceAt (p + 8) (G 6) (pinChoiceAt (p + 6) (G 5) rq)) (omega arith) ∙ one 8 (G 6) (pinChoiceAt (p + 6) (G 5) rq) (omega arith) ∙ one 6 (G 5) rq (omega arith)
 
 one-other : (res : List ℕ) (i : ℕ) (rq : List ℕ) (h j : ℕ) → j < requestSize → (h ≡ i → ⊥) → numberAt (pinOne res i rq) h j ≡ numberAt rq h j
-unfolding pinOne
-one-other res i rq h j s u = form-other (formAt (numberAt rq i 0)) (grantedAt res i) i rq h j s u
+unfolding pinOne pinChoices
+one-other res i rq h j s u = go (ownRecord res i rq)
+  where
+    go : (b : Bool) → numberAt (elim b as (λ _. List ℕ) [ true ↦ pinChoices res i rq | false ↦ rq ]) h j ≡ numberAt rq h j
+    go true = form-other (formAt (numberAt rq i 0)) (grantedAt res i) i rq h j s u
+    go false = refl
 
 from-before : (res : List ℕ) (i k : ℕ) (rq : List ℕ) (h j : ℕ) → j < requestSize → h < i → numberAt (pinFrom res i k rq) h j ≡ numberAt rq h j
 unfolding pinFrom

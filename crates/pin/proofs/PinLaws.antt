@@ -1,12 +1,16 @@
 -- One law for each way out of the code. Assumes nothing.
 use mathlib.Core.Path.{_≡_, refl, sym, ap, _∙_}
+use mathlib.Core.Bool.{Bool, true, false, not, _&&_}
 use mathlib.Core.List.{List}
 use Prim.Native.Nat.{ℕ, zero, suc, _+_, _-_, _*_, _≤_, _<_}
 use native.Mathlib.Omega.{arith}
+use lib.Dec.{eqb}
+use borrow.Author.Tests.{eq-eqb, ne-eqb}
 use lib.ListN.{length, getD, set, length-set}
-use Rattle.flat.specs.Flat.{requestSize, Form, unknown, mmio, pio, input, host, messages, formAt, numberAt}
+use Rattle.definition.specs.Tables.{recordSize}
+use Rattle.flat.specs.Flat.{requestSize, Form, unknown, mmio, pio, input, host, messages, formAt, numberAt, requestAt}
 use Rattle.flat.proofs.FormLaws.{form-past}
-use Rattle.pin.specs.Pin.{ifAuto, pinChoiceAt, pinForm, grantedAt, pinOne, pinFrom}
+use Rattle.pin.specs.Pin.{ifAuto, pinChoiceAt, pinForm, grantedAt, pinChoices, tellsOf, ownRecord, pinOne, pinFrom}
 
 -- ---- one choice
 
@@ -30,11 +34,11 @@ pin-choice-length p g rq = go (getD rq p 0)
     go zero = length-set (set rq p 1) (p + 1) g ∙ length-set rq p 1
     go (suc code) = refl
 
--- ---- one request, by its kind's number
+-- ---- a request's choices, by its kind's number
 
-pub one-is : (res : List ℕ) (i : ℕ) (rq : List ℕ) → pinOne res i rq ≡ pinForm (formAt (getD rq (requestSize * i) 0)) (grantedAt res i) (requestSize * i) rq
-unfolding pinOne
-one-is res i rq =
+pub choices-is : (res : List ℕ) (i : ℕ) (rq : List ℕ) → pinChoices res i rq ≡ pinForm (formAt (getD rq (requestSize * i) 0)) (grantedAt res i) (requestSize * i) rq
+unfolding pinChoices
+choices-is res i rq =
     let e : requestSize * i + 0 ≡ requestSize * i = omega arith in
     ap (λ (k : ℕ). pinForm (formAt (getD rq k 0)) (grantedAt res i) (requestSize * i) rq) e
 
@@ -48,20 +52,20 @@ module _ (res : List ℕ) (i : ℕ) (rq : List ℕ) where
   abbrev g : ℕ → ℕ
   g = grantedAt res i
 
-  pub one-zero : kind ≡ 0 → rq ≡ pinOne res i rq
-  one-zero e = sym (one-is res i rq ∙ ap (λ (k : ℕ). pinForm (formAt k) g to rq) e)
+  pub choices-zero : kind ≡ 0 → rq ≡ pinChoices res i rq
+  choices-zero e = sym (choices-is res i rq ∙ ap (λ (k : ℕ). pinForm (formAt k) g to rq) e)
 
-  pub one-past : 5 < kind → rq ≡ pinOne res i rq
-  one-past l = sym (one-is res i rq ∙ ap (λ (f : Form). pinForm f g to rq) (form-past kind l))
+  pub choices-past : 5 < kind → rq ≡ pinChoices res i rq
+  choices-past l = sym (choices-is res i rq ∙ ap (λ (f : Form). pinForm f g to rq) (form-past kind l))
 
-  pub one-input : kind ≡ 3 → pinChoiceAt (to + 6) (g 4) rq ≡ pinOne res i rq
-  one-input e = sym (one-is res i rq ∙ ap (λ (k : ℕ). pinForm (formAt k) g to rq) e)
+  pub choices-input : kind ≡ 3 → pinChoiceAt (to + 6) (g 4) rq ≡ pinChoices res i rq
+  choices-input e = sym (choices-is res i rq ∙ ap (λ (k : ℕ). pinForm (formAt k) g to rq) e)
 
-  pub one-messages : kind ≡ 5 → pinChoiceAt (to + 10) (g 7) (pinChoiceAt (to + 8) (g 6) (pinChoiceAt (to + 6) (g 5) rq)) ≡ pinOne res i rq
-  one-messages e = sym (one-is res i rq ∙ ap (λ (k : ℕ). pinForm (formAt k) g to rq) e)
+  pub choices-messages : kind ≡ 5 → pinChoiceAt (to + 10) (g 7) (pinChoiceAt (to + 8) (g 6) (pinChoiceAt (to + 6) (g 5) rq)) ≡ pinChoices res i rq
+  choices-messages e = sym (choices-is res i rq ∙ ap (λ (k : ℕ). pinForm (formAt k) g to rq) e)
 
-  pub one-plain : (kind ≡ 0 → ⊥) → kind ≤ 5 → (kind ≡ 3 → ⊥) → (kind ≡ 5 → ⊥) → pinChoiceAt (to + 6) (g 3) rq ≡ pinOne res i rq
-  one-plain n₀ l n₃ n₅ = sym (one-is res i rq ∙ go kind n₀ l n₃ n₅)
+  pub choices-plain : (kind ≡ 0 → ⊥) → kind ≤ 5 → (kind ≡ 3 → ⊥) → (kind ≡ 5 → ⊥) → pinChoiceAt (to + 6) (g 3) rq ≡ pinChoices res i rq
+  choices-plain n₀ l n₃ n₅ = sym (choices-is res i rq ∙ go kind n₀ l n₃ n₅)
     where
       go : (k : ℕ) → (k ≡ 0 → ⊥) → k ≤ 5 → (k ≡ 3 → ⊥) → (k ≡ 5 → ⊥) → pinForm (formAt k) g to rq ≡ pinChoiceAt (to + 6) (g 3) rq
       go zero m₀ h m₃ m₅ = absurd (m₀ refl)
@@ -82,9 +86,61 @@ form-length messages g p rq =
     pin-choice-length (p + 10) (g 7) (pinChoiceAt (p + 8) (g 6) (pinChoiceAt (p + 6) (g 5) rq)) ∙ pin-choice-length (p + 8) (g 6) (pinChoiceAt (p + 6) (g 5) rq)
     ∙ pin-choice-length (p + 6) (g 5) rq
 
-pub one-length : (res : List ℕ) (i : ℕ) (rq : List ℕ) → length (pinOne res i rq) ≡ length rq
-unfolding pinOne
-one-length res i rq = form-length (formAt (numberAt rq i 0)) (grantedAt res i) (requestSize * i) rq
+pub choices-length : (res : List ℕ) (i : ℕ) (rq : List ℕ) → length (pinChoices res i rq) ≡ length rq
+unfolding pinChoices
+choices-length res i rq = form-length (formAt (numberAt rq i 0)) (grantedAt res i) (requestSize * i) rq
+
+-- ---- whether a record is the request's own, one law for each way out
+
+-- q and s are the request's requester and slot, as it is read
+module _ (res : List ℕ) (i : ℕ) (rq : List ℕ) (q s : ℕ) (q-is : q ≡ requestAt rq i .requester) (s-is : s ≡ requestAt rq i .slot) where
+  abbrev h : ℕ → ℕ
+  h = grantedAt res i
+
+  abbrev h₀ : ℕ
+  h₀ = getD res (recordSize * i) 0
+
+  abbrev k : ℕ
+  k = getD rq (requestSize * i) 0
+
+  abbrev told : Bool → Bool → Bool → Bool → Bool
+  told nobody kind requester slot = not nobody && (kind && (requester && slot))
+
+  own-is : ownRecord res i rq ≡ told (eqb q 0) (eqb h₀ k) (eqb (h 1) q) (eqb (h 2) s)
+  unfolding ownRecord tellsOf
+  own-is =
+      let a : recordSize * i + 0 ≡ recordSize * i = omega arith in
+      let b : requestSize * i + 0 ≡ requestSize * i = omega arith in
+      λ t. told (eqb (sym q-is t) 0) (eqb (getD res (a t) 0) (getD rq (b t) 0)) (eqb (h 1) (sym q-is t)) (eqb (h 2) (sym s-is t))
+
+  pub asked-by-nobody : q ≡ 0 → false ≡ ownRecord res i rq
+  asked-by-nobody e = sym (own-is ∙ ap (λ (b : Bool). told b (eqb h₀ k) (eqb (h 1) q) (eqb (h 2) s)) (eq-eqb q 0 e))
+
+  pub other-kind : (q ≡ 0 → ⊥) → (h₀ ≡ k → ⊥) → false ≡ ownRecord res i rq
+  other-kind z n = sym (own-is ∙ (λ t. told (ne-eqb q 0 z t) (ne-eqb h₀ k n t) (eqb (h 1) q) (eqb (h 2) s)))
+
+  pub other-requester : (q ≡ 0 → ⊥) → h₀ ≡ k → (h 1 ≡ q → ⊥) → false ≡ ownRecord res i rq
+  other-requester z e n = sym (own-is ∙ (λ t. told (ne-eqb q 0 z t) (eq-eqb h₀ k e t) (ne-eqb (h 1) q n t) (eqb (h 2) s)))
+
+  pub by-slot : (q ≡ 0 → ⊥) → h₀ ≡ k → h 1 ≡ q → eqb (h 2) s ≡ ownRecord res i rq
+  by-slot z e f = sym (own-is ∙ (λ t. told (ne-eqb q 0 z t) (eq-eqb h₀ k e t) (eq-eqb (h 1) q f t) (eqb (h 2) s)))
+
+module _ (res : List ℕ) (i : ℕ) (rq : List ℕ) where
+  pub one-own : ownRecord res i rq ≡ true → pinChoices res i rq ≡ pinOne res i rq
+  unfolding pinOne
+  one-own e = rw (e, pinOne)
+
+  pub one-stays : ownRecord res i rq ≡ false → rq ≡ pinOne res i rq
+  unfolding pinOne
+  one-stays e = rw (e, pinOne)
+
+  pub one-length : length (pinOne res i rq) ≡ length rq
+  unfolding pinOne
+  one-length = go (ownRecord res i rq)
+    where
+      go : (b : Bool) → length {A = ℕ} (elim b as (λ _. List ℕ) [ true ↦ pinChoices res i rq | false ↦ rq ]) ≡ length rq
+      go true = choices-length res i rq
+      go false = refl
 
 -- ---- the loop
 

@@ -1,11 +1,12 @@
 // The granted numbers of a plan written back into its requests: what was automatic then asks for what it was given.
 use flat::REQUEST;
+use flat::request_at;
 ghost use mathlib.Core.Path.{_≡_};
 ghost use Prim.Native.Nat.{_+_, _*_, _≤_, min};
 ghost use lib.ListN.{length};
 ghost use Rattle.definition.specs.Tables.{recordSize};
 ghost use Rattle.flat.specs.Flat.{requestSize};
-ghost use Rattle.pin.specs.Pin.{pinChoiceAt, pinOne, pinnedNumbers};
+ghost use Rattle.pin.specs.Pin.{pinChoiceAt, pinChoices, ownRecord, pinOne, pinnedNumbers};
 
 // The numbers of one record.
 const RECORD: usize = 9;
@@ -33,10 +34,10 @@ pub fn pin_choice(requests: &mut [u64], to: usize, granted: u64)
 }
 
 // The choices that the kind uses.
-pub fn pin_one(requests: &mut [u64], results: &[u64], i: usize)
+pub fn pin_choices(requests: &mut [u64], results: &[u64], i: usize)
     requires { ⌜ requestSize * i + requestSize ≤ length (now requests) ⌝ }
     requires { ⌜ recordSize * i + recordSize ≤ length (now results) ⌝ }
-    ensures { λ _. ⌜ now (requests .exit) ≡ pinOne (now (results .entry)) i (now (requests .entry)) ⌝ }
+    ensures { λ _. ⌜ now (requests .exit) ≡ pinChoices (now (results .entry)) i (now (requests .entry)) ⌝ }
 {
     let to = REQUEST * i;
     let from = RECORD * i;
@@ -60,7 +61,39 @@ pub fn pin_one(requests: &mut [u64], results: &[u64], i: usize)
     pin_choice(requests, to + 6, results[from + 3]);
 }
 
-// Every whole request that has a whole record.
+// Whether a request's record is its own: of its kind, its requester and its slot. To requester 0 nothing is granted, and what cannot be read is read as one.
+pub fn own_record(requests: &[u64], results: &[u64], i: usize) -> bool
+    requires { ⌜ requestSize * i + requestSize ≤ length (now requests) ⌝ }
+    requires { ⌜ recordSize * i + recordSize ≤ length (now results) ⌝ }
+    ensures { λ r. ⌜ r ≡ ownRecord (now (results .entry)) i (now (requests .entry)) ⌝ }
+{
+    let request = request_at(requests, i);
+    if request.requester == 0 {
+        return false;
+    }
+    let from = RECORD * i;
+    if results[from] != requests[REQUEST * i] {
+        return false;
+    }
+    if results[from + 1] != request.requester as u64 {
+        return false;
+    }
+    results[from + 2] == request.slot as u64
+}
+
+// A request whose record is its own: behind a refused plan's records the list holds what no plan wrote.
+pub fn pin_one(requests: &mut [u64], results: &[u64], i: usize)
+    requires { ⌜ requestSize * i + requestSize ≤ length (now requests) ⌝ }
+    requires { ⌜ recordSize * i + recordSize ≤ length (now results) ⌝ }
+    ensures { λ _. ⌜ now (requests .exit) ≡ pinOne (now (results .entry)) i (now (requests .entry)) ⌝ }
+{
+    if !own_record(requests, results, i) {
+        return;
+    }
+    pin_choices(requests, results, i);
+}
+
+// Every whole request that has a whole record of its own.
 pub fn pin(requests: &mut [u64], results: &[u64])
     ensures { λ _. ⌜ now (requests .exit) ≡ pinnedNumbers (now (requests .entry)) (now (results .entry)) ⌝ }
 {
