@@ -1,42 +1,57 @@
 // The plan-reading program: a plan's text from standard input, its answer to standard output. A read that fails prints nothing.
-ghost use Prim.Native.Nat.{_≤_};
-ghost use lib.ListN.{length};
+use text::OUTPUT;
+use text::TEXT;
+use text::respond;
+ghost use Prim.Native.Nat.{_≤_, _<_};
+ghost use lib.ListN.{length, take};
+ghost use Rattle.lines.specs.Base.{textLimit};
+ghost use Rattle.lines.specs.Output.{outputLimit};
+ghost use Rattle.planner.specs.Program.{Stopped, Prints};
 
-// How many bytes were read, and whether all reads went well.
+// One byte more than the longest text is read, so that a longer one is seen.
+const INPUT: usize = TEXT + 1;
+
+// How many bytes were read, and what the last read answered: a negative number where it failed, 0 at the input's end.
 struct Input {
-    good: bool,
     n: usize,
+    last: isize,
 }
 
 // Reads until the buffer is full, the input ends or a read fails.
 fn read_input(buf: &mut [u8]) -> Input
-    ensures { λ r. ⌜ r .n ≤ length (now (buf .exit)) ⌝ }
+    ensures { λ r. ⌜ Stopped (length (now (buf .exit))) (r .n) (r .last) ⌝ }
 {
     let mut n: usize = 0;
     while n < buf.len() {
         let got = libc::read(0, &mut buf[n..]);
-        if got < 0 {
-            return Input { good: false, n };
+        if got <= 0 {
+            return Input { n, last: got };
         }
-        let more = io::count(got, &buf[n..]);
-        if more == 0 {
-            return Input { good: true, n };
-        }
-        n += more;
+        n += io::count(got, &buf[n..]);
     }
-    Input { good: true, n }
+    // full: the last read brought something
+    Input { n, last: 1 }
 }
 
-// One byte more than the longest text is read, so that a longer one is seen.
-fn main() {
-    let mut text = [0u8; 32769];
-    let input = read_input(&mut text);
-    if !input.good {
-        return;
+// What the program prints, in front of `out`, and how many bytes it is: all that is decided between reading and writing.
+fn printed(buf: &[u8], input: Input, out: &mut [u8]) -> usize
+    requires { ⌜ textLimit < length (now buf) ⌝ }
+    requires { ⌜ Stopped (length (now buf)) (input .n) (input .last) ⌝ }
+    requires { ⌜ outputLimit ≤ length (now out) ⌝ }
+    ensures { λ r. ⌜ Prints (take (input .n) (now (buf .entry))) (input .last) r (now (out .exit)) ⌝ }
+{
+    if input.last < 0 {
+        return 0;
     }
     let n = input.n;
-    let mut out = [0u8; 22553];
-    let r = text::respond(&text[..n], &mut out);
-    let m = r.length;
+    let r = respond(&buf[..n], out);
+    r.length
+}
+
+fn main() {
+    let mut buf = [0u8; INPUT];
+    let input = read_input(&mut buf);
+    let mut out = [0u8; OUTPUT];
+    let m = printed(&buf, input, &mut out);
     io::write_all(1, &out[..m]);
 }

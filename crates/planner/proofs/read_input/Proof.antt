@@ -1,11 +1,15 @@
--- No more bytes are counted than the buffer has. Assumes nothing.
+-- Reading stops for a reason. Assumes nothing.
 use mathlib.Core.Path.{_≡_, _∙_}
-use Prim.Native.Nat.{ℕ, _≤_, _-_, _+_}
+use Prim.Native.Nat.{ℕ, _≤_, _<_, _-_}
 use native.Mathlib.Omega.{arith}
 use mathlib.Core.List.{List}
+use mir.Syntax.{w64}
+use mir.Val.{toZ, ofZ}
 use lib.ListN.{length, take, drop, length-take, length-drop}
 use borrow.Author.Needs.{needs}
 use borrow.Rule.Slice.PartMut.{putMid, same-len-mid}
+use Rattle.io.specs.Counts.{clamped}
+use Rattle.planner.proofs.PrintLaws.{stops, brings}
 use Rattle.planner.proofs.read_input.Statement.{statement}
 use Rattle.planner.proofs.read_input.Tie as tie
 
@@ -34,7 +38,12 @@ same-length : tie.Need-same-length Inv-loop μ-loop
 same-length c = search needs
 
 returns : tie.Need-returns Inv-loop μ-loop
-returns c = search needs
+returns c =
+    let l = c .before .before .before .before .before .before .loop in
+    let x = c .before .before .before .read in
+    let e = same-len-mid (l .n) (length (l .buf) - l .n) (l .buf) (x .last .1 .0) (x .kept .1 .0) in
+    let b : List ℕ = putMid (l .n) (length (l .buf) - l .n) (l .buf) (x .last .1 .0) in
+    stops (length b) (l .n) (toZ w64 (ofZ w64 (x .result))) (c .if1 .taken) (omega (arith, e, l .inv .0))
 
 sub-count : tie.Need-sub-count Inv-loop μ-loop
 sub-count c = search needs
@@ -48,36 +57,55 @@ part-count-end c = search needs
 count-requires : tie.Need-count-requires Inv-loop μ-loop
 count-requires c κs = search needs
 
+add-n : tie.Need-add-n Inv-loop μ-loop
+add-n c = search needs
+
+loop-less : tie.Need-loop-less Inv-loop μ-loop
+loop-less c =
+    let l = c .before .before .before .before .before .before .before .before .before .loop in
+    let x = c .before .before .before .before .before .before .read in
+    let e = same-len-mid (l .n) (length (l .buf) - l .n) (l .buf) (x .last .1 .0) (x .kept .1 .0) in
+    let b : List ℕ = putMid (l .n) (length (l .buf) - l .n) (l .buf) (x .last .1 .0) in
+    let k : c .count .result ≤ length (take (length b - l .n) (drop (l .n) b)) = c .count .ensures .0 .0 in
+    let room : length (take (length b - l .n) (drop (l .n) b)) ≡ length (l .buf) - l .n = omega (arith, length-take (length b - l .n) (drop (l .n) b), length-drop (l .n) b, e, l .inv .0) in
+    let m : 0 < clamped (toZ w64 (ofZ w64 (x .result))) (length (take (length b - l .n) (drop (l .n) b))) = brings (toZ w64 (ofZ w64 (x .result))) (length (take (length b - l .n) (drop (l .n) b))) (c .before .before .before .if1 .left) (omega (arith, room)) in
+    omega (arith, k, room, m, c .count .ensures .1, l .inv .1)
+
+loop-again : tie.Need-loop-again Inv-loop μ-loop
+loop-again c =
+    let l = c .before .before .before .before .before .before .before .before .before .loop in
+    let x = c .before .before .before .before .before .before .read in
+    let e = same-len-mid (l .n) (length (l .buf) - l .n) (l .buf) (x .last .1 .0) (x .kept .1 .0) in
+    let b : List ℕ = putMid (l .n) (length (l .buf) - l .n) (l .buf) (x .last .1 .0) in
+    let k : c .count .result ≤ length (take (length b - l .n) (drop (l .n) b)) = c .count .ensures .0 .0 in
+    let room : length (take (length b - l .n) (drop (l .n) b)) ≡ length (l .buf) - l .n = omega (arith, length-take (length b - l .n) (drop (l .n) b), length-drop (l .n) b, e, l .inv .0) in
+    (omega (arith, e, k, room, l .inv .0), e ∙ l .inv .1)
+
 same-length-2 : tie.Need-same-length-2 Inv-loop μ-loop
 same-length-2 c = search needs
 
 returns-2 : tie.Need-returns-2 Inv-loop μ-loop
 returns-2 c = search needs
 
-add-n : tie.Need-add-n Inv-loop μ-loop
-add-n c = search needs
-
-loop-less : tie.Need-loop-less Inv-loop μ-loop
-loop-less c = search needs
-
-loop-again : tie.Need-loop-again Inv-loop μ-loop
-loop-again c =
-    let l = c .before .before .before .before .before .before .before .before .before .before .loop in
-    let x = c .before .before .before .before .before .before .before .read in
-    let e = same-len-mid (l .n) (length (l .buf) - l .n) (l .buf) (x .last .1 .0) (x .kept .1 .0) in
-    let m = c .before .count .result in
-    let b : List ℕ = putMid (l .n) (length (l .buf) - l .n) (l .buf) (x .last .1 .0) in
-    let k : m ≤ length (take (length b - l .n) (drop (l .n) b)) = c .before .count .ensures .0 .0 in
-    let h : l .n + m ≤ length (l .buf) = omega (arith, k, length-take (length b - l .n) (drop (l .n) b), length-drop (l .n) b, e, l .inv .0) in
-    (omega (arith, e, h), e ∙ l .inv .1)
-
-same-length-3 : tie.Need-same-length-3 Inv-loop μ-loop
-same-length-3 c = search needs
-
-returns-3 : tie.Need-returns-3 Inv-loop μ-loop
-returns-3 c = search needs
-
 pub read-input-spec : {M : Type 1} → statement M
 read-input-spec =
-    tie.close (tie.spec Inv-loop μ-loop loop-holds sub-read part-read-start part-read-end read-requires same-length returns sub-count part-count-start
-    part-count-end count-requires same-length-2 returns-2 add-n loop-less loop-again same-length-3 returns-3)
+    tie.close
+    (tie.spec
+    Inv-loop
+    μ-loop
+    loop-holds
+    sub-read
+    part-read-start
+    part-read-end
+    read-requires
+    same-length
+    returns
+    sub-count
+    part-count-start
+    part-count-end
+    count-requires
+    add-n
+    loop-less
+    loop-again
+    same-length-2
+    returns-2)

@@ -1,0 +1,36 @@
+-- Nothing where a read failed, else the definition's output. Assumes nothing.
+use mathlib.Core.Path.{sym}
+use mathlib.Core.Bool.{true, false}
+use mir.Syntax.{w64}
+use mir.Val.{SFits}
+use lib.ListN.{take}
+use lib.Seq.{length-take-le}
+use Rattle.planner.proofs.PrintLaws.{read-back, prints-nothing, prints-output, within}
+use borrow.Author.Needs.{needs}
+use Rattle.planner.proofs.printed.Statement.{statement}
+use Rattle.planner.proofs.printed.Tie as tie
+
+returns : tie.Need-returns
+returns c =
+    let s = c .before .before .before .before .before in
+    let f : SFits w64 (s .args .input .last) = search needs in
+    prints-nothing (take (s .args .input .n) (s .args .buf .now)) (s .args .input .last) (s .args .out .now) (read-back (s .args .input .last) f true (c .if1 .taken))
+
+slice-aggregate-respond : tie.Need-slice-aggregate-respond
+slice-aggregate-respond c = let s = c .before .before .before .before .before .before in sym (length-take-le (s .args .input .n) (s .args .buf .now) (within _ (s .args .input .n) (s .args .input .last) (s .pre .1 .0)))
+
+respond-requires : tie.Need-respond-requires
+respond-requires c κs = search needs
+
+same-length : tie.Need-same-length
+same-length c = search needs
+
+returns-2 : tie.Need-returns-2
+returns-2 c =
+    let s = c .before .before .before .before .before .before .before .before .before .before in
+    let f : SFits w64 (s .args .input .last) = search needs in
+    prints-output (s .args .buf .now) (s .args .out .now) _ (s .args .input .n) _ _ (s .args .input .last) (read-back (s .args .input .last) f false (c .before .before .before .before .before .if1 .left)) (s .pre .0) (s .pre .1 .0) (s .pre .1 .1) (c .before .before .respond .ensures)
+
+pub printed-spec : {M : Type 1} → statement M
+printed-spec =
+    tie.close (tie.spec returns slice-aggregate-respond respond-requires same-length returns-2)
