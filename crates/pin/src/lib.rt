@@ -1,15 +1,13 @@
 // The granted numbers of a plan written back into its requests: what was automatic then asks for what it was given.
 use flat::REQUEST;
 use flat::request_at;
+use tables::RECORD;
 ghost use mathlib.Core.Path.{_≡_};
 ghost use Prim.Native.Nat.{_+_, _*_, _≤_, min};
 ghost use lib.ListN.{length};
 ghost use Rattle.definition.specs.Tables.{recordSize};
 ghost use Rattle.flat.specs.Flat.{requestSize};
 ghost use Rattle.pin.specs.Pin.{pinChoiceAt, pinChoices, ownRecord, pinOne, pinnedNumbers};
-
-// The numbers of one record.
-const RECORD: usize = 9;
 
 pub fn lesser(a: usize, b: usize) -> usize
     ensures { λ r. ⌜ r ≡ min a b ⌝ }
