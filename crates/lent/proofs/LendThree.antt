@@ -36,14 +36,15 @@ module _ {M : Type 1} (𝓤 : URA M) (H : Heap 𝓤) (A : Atoms 𝓤) (W : Given
   abbrev pub Leaves : ℕ → ℕ → (Y .Denot → SProp 𝓤) → Val → Item 𝓤
   Leaves ν μ ens v = later (some (λ (y : Y .Denot). (Tokens ν μ ⊛ ‵ (Y .own y (v ∷ []))) ⊛ raw (ens y)))
 
-  pub lent-three : (f : Name) (h : T .Denot) (val : Y .Denot → Val) → ((y : Y .Denot) (v : Val) → Is Y y (v ∷ []) → v ≡ val y) → (zs : List ℕ) → length zs ≡ n → Room u64 n → (P : T .Denot → List ℕ → Y .Denot → Type 0) (ens : ℕ → ℕ → GName → GName → Y .Denot → SProp 𝓤)
+  -- vs is what it is called with
+  pub lent-three : (f : Name) (vs : List Val) (h : T .Denot) (val : Y .Denot → Val) → ((y : Y .Denot) (v : Val) → Is Y y (v ∷ []) → v ≡ val y) → (zs : List ℕ) → length zs ≡ n → Room u64 n → (P : T .Denot → List ℕ → Y .Denot → Type 0) (ens : ℕ → ℕ → GName → GName → Y .Denot → SProp 𝓤)
       → ((ν μ : ℕ) (δ ε : GName) (y : Y .Denot) → ent 𝓤 (ens ν μ δ ε y) (mean 𝓤 H A (some (λ (d : T .Denot). some (λ (us : List ℕ). ‵ (fres δ (T .coded .code d)) ⊛ (‵ (finally u64 ε us) ⊛ raw (fact 𝓤 ((length us ≡ n) × P d us y))))))))
-      → ((ν μ : ℕ) (δ ε : GName) → ent 𝓤 (mean 𝓤 H A (Handed ν μ δ ε h zs)) (C f (vptr b o ∷ rqv ∷ zv ∷ []) (λ v. mean 𝓤 H A (Leaves ν μ (ens ν μ δ ε) v))))
-      → Acts 𝓤 H A W C f (vptr b o ∷ rqv ∷ zv ∷ []) (Held h zs) (T .Denot × (List ℕ × Y .Denot)) (λ x. Held (x .0) (x .1 .0)) (λ x. val (x .1 .1)) (λ x. (length (x .1 .0) ≡ n) × (Is Y (x .1 .1) (val (x .1 .1) ∷ []) × P (x .0) (x .1 .0) (x .1 .1)))
-  lent-three f h val tells zs len room P ens told met =
+      → ((ν μ : ℕ) (δ ε : GName) → ent 𝓤 (mean 𝓤 H A (Handed ν μ δ ε h zs)) (C f vs (λ v. mean 𝓤 H A (Leaves ν μ (ens ν μ δ ε) v))))
+      → Acts 𝓤 H A W C f vs (Held h zs) (T .Denot × (List ℕ × Y .Denot)) (λ x. Held (x .0) (x .1 .0)) (λ x. val (x .1 .1)) (λ x. (length (x .1 .0) ≡ n) × (Is Y (x .1 .1) (val (x .1 .1) ∷ []) × P (x .0) (x .1 .0) (x .1 .1)))
+  lent-three f vs h val tells zs len room P ens told met =
       via 𝓤 (⋆ 𝓤 H A (Held h zs ∷ ‵ Rq ∷ [])) twice
-      (beside 𝓤 H A W C fm f (vptr b o ∷ rqv ∷ zv ∷ []) (Held h zs) (T .Denot × (List ℕ × Y .Denot)) (λ x. (Stands (x .0) ⊛ Results (x .1 .0)) ⊛ ‵ (flft κ₂ q₂)) (λ x. val (x .1 .1)) (λ x. (length (x .1 .0) ≡ n) × (Is Y (x .1 .1) (val (x .1 .1) ∷ []) × P (x .0) (x .1 .0) (x .1 .1))) (‵ Rq) (λ x. Held (x .0) (x .1 .0)) back
-      (lent-with 𝓤 H A W C fm T Y κ q b o γ f (vptr b o ∷ rqv ∷ zv ∷ []) h val tells ℓ κ₁ q₁ b′ o′ γ′ n Asked (‵ (flft κ₂ q₂)) Tokens tokens (named 0) (named 2) zs len room P ens told met))
+      (beside 𝓤 H A W C fm f vs (Held h zs) (T .Denot × (List ℕ × Y .Denot)) (λ x. (Stands (x .0) ⊛ Results (x .1 .0)) ⊛ ‵ (flft κ₂ q₂)) (λ x. val (x .1 .1)) (λ x. (length (x .1 .0) ≡ n) × (Is Y (x .1 .1) (val (x .1 .1) ∷ []) × P (x .0) (x .1 .0) (x .1 .1))) (‵ Rq) (λ x. Held (x .0) (x .1 .0)) back
+      (lent-with 𝓤 H A W C fm T Y κ q b o γ f vs h val tells ℓ κ₁ q₁ b′ o′ γ′ n Asked (‵ (flft κ₂ q₂)) Tokens tokens (named 0) (named 2) zs len room P ens told met))
     where
       twice : ent 𝓤 (mean 𝓤 H A (Held h zs)) (⋆ 𝓤 H A (Held h zs ∷ ‵ Rq ∷ []))
       twice =

@@ -11,7 +11,7 @@ use lib.Dec.{T, leb}
 use lib.ListN.{length, getD, drop, drop-of-length-le}
 use lib.Seq.{drop-cons}
 use borrow.Author.Tests.{leb-true}
-use Rattle.definition.specs.BaseLaws.{T-true, true-T, and-r}
+use Rattle.definition.specs.BaseLaws.{T-true, true-T, and-l, and-r}
 use Rattle.definition.specs.Base.{Refusal, malformed, short, Said, silence, tell}
 use Rattle.definition.specs.Tables.{planLimit, recordSize, Kind, kinds}
 use Rattle.definition.specs.Request.{Request}
@@ -37,7 +37,7 @@ module _ (c : Kind → ℕ) (t : State) where
   cut-refused : (t .said .number ≡ 0 → ⊥) → cutBack c t ≡ cutting c t
   cut-refused f = ap (λ (b : Bool). elim b as (λ _. State) [ true ↦ t | false ↦ cutting c t ]) (not-clear t f)
 
--- qs on s, lent zs₀; n is what is judged, their number where none is too many
+-- qs on s, lent zs₀; n is their number
 module _ (qs : List Request) (q : Request) (s : State) (zs₀ : List ℕ) (n : ℕ) where
   abbrev first : State
   first = opened n (length zs₀) s
@@ -56,16 +56,28 @@ module _ (qs : List Request) (q : Request) (s : State) (zs₀ : List ℕ) (n : �
   one-more i d zs l =
       ap (λ (rs : List Request). turns i rs d zs) (drop-cons qs i q l) ∙ ap (λ (k : ℕ). turns (i + 1) (drop k qs) (turned i (getD qs i q) d zs .state) (turned i (getD qs i q) d zs .results)) (sym (add-one i))
 
-  module _ (long-is : clear first ≡ true → length qs ≡ n) where
-    none-left : (t i : ℕ) → i < t → t ≡ turnsAfter n first → clear first ≡ true
-    none-left t i l e = go (clear first) refl
-      where
-        go : (b : Bool) → clear first ≡ b → clear first ≡ true
-        go true u = u
-        go false u = let z : t ≡ 0 = e ∙ ap (λ (x : Bool). elim x as (λ _. ℕ) [ false ↦ 0 | true ↦ n ]) u in absurd (omega arith)
+  none-left : (t i : ℕ) → i < t → t ≡ turnsAfter n first → clear first ≡ true
+  none-left t i l e = go (clear first) refl
+    where
+      go : (b : Bool) → clear first ≡ b → clear first ≡ true
+      go true u = u
+      go false u = let z : t ≡ 0 = e ∙ ap (λ (x : Bool). elim x as (λ _. ℕ) [ false ↦ 0 | true ↦ n ]) u in absurd (omega arith)
 
+  -- where a request has its turn, there are no more than a plan has
+  pub few : (t i : ℕ) (d : State) (zs : List ℕ) → i < t → Left t i d zs → n ≤ planLimit
+  few t i d zs l left = go (sound kinds s) refl (leb n planLimit && leb (recordSize * n) (length zs₀)) refl
+    where
+      refuses : (x : Refusal) → saying (tell 0 x) s ≡ first → n ≤ planLimit
+      refuses x e = absurd (true-T false (sym (not-clear (saying (tell 0 x) s) (tell-number 0 x)) ∙ ap clear e ∙ none-left t i l (left .1 .0)))
+
+      go : (b : Bool) → sound kinds s ≡ b → (f : Bool) → leb n planLimit && leb (recordSize * n) (length zs₀) ≡ f → n ≤ planLimit
+      go false e f u = refuses malformed (opened-unsound n (length zs₀) s e)
+      go true e false u = refuses short (opened-short n (length zs₀) s e u)
+      go true e true u = leb-true n planLimit (T-true _ (and-l (leb n planLimit) (leb (recordSize * n) (length zs₀)) (true-T _ u)))
+
+  module _ (long-is : length qs ≡ n) where
     all-turns : (t : ℕ) → t ≡ turnsAfter n first → clear first ≡ true → t ≡ length qs
-    all-turns t e u = e ∙ ap (λ (x : Bool). elim x as (λ _. ℕ) [ false ↦ 0 | true ↦ n ]) u ∙ sym (long-is u)
+    all-turns t e u = e ∙ ap (λ (x : Bool). elim x as (λ _. ℕ) [ false ↦ 0 | true ↦ n ]) u ∙ sym long-is
 
     pub inside : (t i : ℕ) (d : State) (zs : List ℕ) → i < t → Left t i d zs → i < length qs
     inside t i d zs l left = let e : t ≡ length qs = all-turns t (left .1 .0) (none-left t i l (left .1 .0)) in omega arith
@@ -113,10 +125,9 @@ module _ (qs : List Request) (q : Request) (s : State) (zs₀ : List ℕ) (n : �
         runs : sound kinds s ≡ true → leb n planLimit && leb (recordSize * n) (length zs₀) ≡ true → cutBack counts (whole .state) ≡ settled s (whole .state)
         runs e f =
             let h : T (sound kinds s) = true-T (sound kinds s) e in
-            let clears : clear first ≡ true = ap clear (sym (opened-clear n (length zs₀) s e f)) in
             let room : recordSize * n ≤ length zs₀ = leb-true (recordSize * n) (length zs₀) (T-true _ (and-r (leb n planLimit) (leb (recordSize * n) (length zs₀)) (true-T _ f))) in
             let p : whole ≡ finished 0 (saying silence s) zs₀ (run (poolsOf s) (ownersOf s) qs) =
-            ap (λ (u : State). turns 0 qs u zs₀) (sym (opened-clear n (length zs₀) s e f)) ∙ turns-run qs 0 (saying silence s) zs₀ (λ k m. sound-saying silence s k (sound-for kinds s h k m)) refl (omega (arith, room, long-is clears)) in
+            ap (λ (u : State). turns 0 qs u zs₀) (sym (opened-clear n (length zs₀) s e f)) ∙ turns-run qs 0 (saying silence s) zs₀ (λ k m. sound-saying silence s k (sound-for kinds s h k m)) refl (omega (arith, room, long-is)) in
             ap (λ (y : Lent). cutBack counts (y .state)) p ∙ running h (run (poolsOf s) (ownersOf s) qs) ∙ sym (ap (λ (y : Lent). settled s (y .state)) p)
 
         go : (b : Bool) → sound kinds s ≡ b → (f : Bool) → leb n planLimit && leb (recordSize * n) (length zs₀) ≡ f → cutBack counts (whole .state) ≡ settled s (whole .state)

@@ -1,4 +1,4 @@
--- The walk of a plan's loop on a lent state, over any types of states and of requests: how many there are and how one is read are its parameters. What holds after i turns is `Left`, and is not looked into. Assumes `Given`.
+-- The walk of a plan's loop on a lent state, over any types of states and of requests: how one is read is its parameter. How many there are is the code's own. What holds after i turns is `Left`, and is not looked into. Assumes `Given`.
 --     planCode     the code of such a plan
 --     plan-walk    given what each callee does to what is held
 use Rattle.walks.proofs.Prelude.{_≡_, refl, true, false, none, WellFounded, InvImage·wf, [], _∷_, List, ℕ, _+_, _-_, _≤_, _<_, _^_, zero-le, lt-of-le-of-lt, add-one-le, add-one-dec, length, Nat·lt-wfRel, T as Holds, ltb, ltb→lt, nltb→le, lit<, URA, Name, Ty, Local, local, valueLocal, named, erased, imm, mut, tyRef, w64, tyUnit, tyInt, tyBool, place, field, deref, unsigned, copy, int, opdUnit, seq, assign, call, block, loop, cond, skip, exit, return, op2, lt, add, rvOpd, addrOf, aggregate, Fn, Val, WT, hasTy, vint, vptr, vunit, vbool, SProp, ent, Heap, Out, Env, afterSeq, afterBlock, afterTurn, Calls, Wp, atReturn, WpFn, Tables, Atoms, FmC, fmOf, Given, Item, mean, anyQ, atRet, _$_, !, load, lit, bin, unit-lit, of-opd, and-then, no-more, addr, hop, fld, from, stop, first, blocks, exec, Below, again, loops, agg, whole, sub, sliceTy, sliceVal}
@@ -25,27 +25,26 @@ last settle τ = seq (assign (place 18 []) (addrOf (place 1 (deref τ ∷ []))))
 abbrev pub planLocals : (α π ρ μ : Ty) → List Local
 planLocals α π ρ μ =
     local tyUnit valueLocal ∷ local (tyRef (named 0) mut π) valueLocal ∷ local (sliceTy (tyRef (named 1) imm α)) valueLocal ∷ local (sliceTy (tyRef (named 2) mut (tyInt w64))) valueLocal ∷ local (tyInt w64) valueLocal ∷ local μ valueLocal ∷ local (tyInt w64) valueLocal
-    ∷ local (tyInt w64) valueLocal ∷ local ρ valueLocal ∷ local (tyInt w64) valueLocal ∷ local (tyRef erased imm π) valueLocal ∷ local (tyRef erased mut π) valueLocal ∷ local tyBool valueLocal ∷ local tyUnit valueLocal ∷ local (tyRef erased mut π) valueLocal
+    ∷ local (tyInt w64) valueLocal ∷ local ρ valueLocal ∷ local (tyRef erased imm π) valueLocal ∷ local (tyRef erased mut π) valueLocal ∷ local (tyInt w64) valueLocal ∷ local tyBool valueLocal ∷ local tyUnit valueLocal ∷ local (tyRef erased mut π) valueLocal
     ∷ local (tyRef erased mut (tyInt w64)) valueLocal ∷ local (sliceTy (tyRef erased mut (tyInt w64))) valueLocal ∷ local tyUnit valueLocal ∷ local (tyRef erased mut π) valueLocal ∷ []
 
-abbrev pub planCode : (count peek begin read turn settle : Name) (α π τ ρ μ : Ty) → Fn
-planCode count peek begin read turn settle α π τ ρ μ = record {
+abbrev pub planCode : (peek begin read turn settle : Name) (α π τ ρ μ : Ty) → Fn
+planCode peek begin read turn settle α π τ ρ μ = record {
   lifetimes = 3;
   outlives = [];
-  params = 3;
+  params = 4;
   locals = planLocals α π ρ μ;
   body =
-      seq (assign (place 9 []) (rvOpd (copy (place 2 (field 1 ∷ []))))) (seq (call count (copy (place 9 []) ∷ []) (place 4 []))
-      (seq (assign (place 10 []) (addrOf (place 1 (deref τ ∷ [])))) (seq (call peek (copy (place 10 []) ∷ []) (place 5 []))
-      (seq (assign (place 11 []) (addrOf (place 1 (deref τ ∷ [])))) (seq (assign (place 9 []) (rvOpd (copy (place 3 (field 1 ∷ []))))) (seq (call begin (copy (place 11 []) ∷ copy (place 4 []) ∷ copy (place 9 []) ∷ []) (place 6 []))
-      (seq (assign (place 7 []) (rvOpd (int w64 0))) (seq (block (loop (once read turn τ))) (last settle τ)))))))));
+      seq (assign (place 9 []) (addrOf (place 1 (deref τ ∷ [])))) (seq (call peek (copy (place 9 []) ∷ []) (place 5 []))
+      (seq (assign (place 10 []) (addrOf (place 1 (deref τ ∷ [])))) (seq (assign (place 11 []) (rvOpd (copy (place 3 (field 1 ∷ []))))) (seq (call begin (copy (place 10 []) ∷ copy (place 4 []) ∷ copy (place 11 []) ∷ []) (place 6 []))
+      (seq (assign (place 7 []) (rvOpd (int w64 0))) (seq (block (loop (once read turn τ))) (last settle τ)))))));
 }
 
-module _ {M : Type 1} (𝓤 : URA M) (H : Heap 𝓤) (A : Atoms 𝓤) (W : Given 𝓤 H A) (𝓣 : Tables 𝓤 H) (count peek begin read turn settle : Name) (α π τ ρ μ : Ty) (D R K : Type 0) (valR : R → Val) (valK : K → Val)
+module _ {M : Type 1} (𝓤 : URA M) (H : Heap 𝓤) (A : Atoms 𝓤) (W : Given 𝓤 H A) (𝓣 : Tables 𝓤 H) (peek begin read turn settle : Name) (α π τ ρ μ : Ty) (D R K : Type 0) (valR : R → Val) (valK : K → Val)
     -- the state at (b, o); the requests at (b₁, o₁), long of them; the results at (b₂, o₂), room of them
-    (b o b₁ o₁ long b₂ o₂ room : ℕ) (long-fits : long < 2 ^ 64) (room-fits : room < 2 ^ 64) (h : D) (zs₀ : List ℕ) (Held : D → List ℕ → Item 𝓤)
-    -- what is known on the way: of the count n, the marks, the turns, a request that was read, one that had its turn, the end
-    (n : ℕ) (n-fits : n < 2 ^ 64) (Counted : Type 0) (Marked : K → Type 0) (Opened : D → ℕ → Type 0) (Left : ℕ → ℕ → D → List ℕ → Type 0) (Read : ℕ → R → Type 0) (Did : ℕ → R → D → List ℕ → D × (List ℕ × Unit {0}) → Type 0) (Settled : K → D → D × Unit {0} → Type 0)
+    (b o b₁ o₁ long b₂ o₂ room : ℕ) (room-fits : room < 2 ^ 64) (h : D) (zs₀ : List ℕ) (Held : D → List ℕ → Item 𝓤)
+    -- n are counted; what is known on the way: of the marks, the turns, a request that was read, one that had its turn, the end
+    (n : ℕ) (n-fits : n < 2 ^ 64) (Marked : K → Type 0) (Opened : D → ℕ → Type 0) (Left : ℕ → ℕ → D → List ℕ → Type 0) (Read : ℕ → R → Type 0) (Did : ℕ → R → D → List ℕ → D × (List ℕ × Unit {0}) → Type 0) (Settled : K → D → D × Unit {0} → Type 0)
     (marks-wt : (m : K) → Marked m → Holds (hasTy μ (valK m)) × WT (valK m)) (turns-fit : (d : D) (t : ℕ) → Opened d t → t < 2 ^ 64) (read-wt : (i : ℕ) (r : R) → Read i r → Holds (hasTy ρ (valR r)) × WT (valR r))
     (long-stays : (i : ℕ) (r : R) (d : D) (zs : List ℕ) (x : D × (List ℕ × Unit {0})) → Did i r d zs x → length (x .1 .0) ≡ room) where
   abbrev C : Calls 𝓤 H
@@ -64,7 +63,6 @@ module _ {M : Type 1} (𝓤 : URA M) (H : Heap 𝓤) (A : Atoms 𝓤) (W : Given
   fm = fmOf 𝓤 H (W .laws) 𝓣
 
   module _ (s-wt : Holds (hasTy (sliceTy (tyRef (named 1) imm α)) sv) × WT sv)
-      (counts : Acts 𝓤 H A W C count (vint w64 long ∷ []) (Held h zs₀) (Unit {0}) (λ u. Held h zs₀) (λ u. vint w64 n) (λ u. Counted))
       (peeks : Acts 𝓤 H A W C peek (vptr b o ∷ []) (Held h zs₀) K (λ m. Held h zs₀) valK Marked)
       (opens : Acts 𝓤 H A W C begin (vptr b o ∷ vint w64 n ∷ vint w64 room ∷ []) (Held h zs₀) (D × ℕ) (λ x. Held (x .0) zs₀) (λ x. vint w64 (x .1)) (λ x. Opened (x .0) (x .1)))
       (starts : (d : D) (t : ℕ) → Opened d t → Left t 0 d zs₀)
@@ -93,7 +91,7 @@ module _ {M : Type 1} (𝓤 : URA M) (H : Heap 𝓤) (A : Atoms 𝓤) (W : Given
       -- the locals whenever the test is reached
       abbrev store : ℕ → Store
       store i =
-          none ∷ some (vptr b o) ∷ some sv ∷ some zv ∷ some (vint w64 n) ∷ some (valK m) ∷ some (vint w64 t) ∷ some (vint w64 i) ∷ none ∷ some (vint w64 room) ∷ some (vptr b o) ∷ some (vptr b o) ∷ []
+          none ∷ some (vptr b o) ∷ some sv ∷ some zv ∷ some (vint w64 n) ∷ some (valK m) ∷ some (vint w64 t) ∷ some (vint w64 i) ∷ none ∷ some (vptr b o) ∷ some (vptr b o) ∷ some (vint w64 room) ∷ []
 
       abbrev Here : Upto → List (Item 𝓤)
       Here u = At W C (𝓣 .Λ) ls l (Held (u .1 .1 .0) (u .1 .1 .1 .0)) (store (u .0))
@@ -102,7 +100,7 @@ module _ {M : Type 1} (𝓤 : URA M) (H : Heap 𝓤) (A : Atoms 𝓤) (W : Given
       Turned u = afterTurn 𝓤 H (Below 𝓤 H A Nearer Here u) (afterBlock 𝓤 H (afterSeq 𝓤 H (Wp 𝓤 H C (𝓣 .Λ) En (last settle τ) (atReturn 𝓤 H En Kf)) (atReturn 𝓤 H En Kf)))
 
       finish : (i : ℕ) (d : D) (zs : List ℕ) (c : Val) → t ≤ i → length zs ≡ room → Left t i d zs
-          → Does W C (𝓣 .Λ) ls l (Held d zs) (none ∷ some (vptr b o) ∷ some sv ∷ some zv ∷ some (vint w64 n) ∷ some (valK m) ∷ some (vint w64 t) ∷ some (vint w64 i) ∷ none ∷ some (vint w64 room) ∷ some (vptr b o) ∷ some (vptr b o) ∷ some c ∷ []) (last settle τ) (atRet En Kf)
+          → Does W C (𝓣 .Λ) ls l (Held d zs) (none ∷ some (vptr b o) ∷ some sv ∷ some zv ∷ some (vint w64 n) ∷ some (valK m) ∷ some (vint w64 t) ∷ some (vint w64 i) ∷ none ∷ some (vptr b o) ∷ some (vptr b o) ∷ some (vint w64 room) ∷ some c ∷ []) (last settle τ) (atRet En Kf)
       finish i d zs c over len left =
           points W C (𝓣 .Λ) ls l refl refl tt tt (tt, tt) (acted W C (𝓣 .Λ) ls l fm (D × Unit {0}) (λ e. Held (e .0) zs) (λ e. vunit) (Settled m d) (arg refl tt (arg refl tt nil)) (settles m d zs marked) tt (λ e k. (tt, tt)) (λ e k.
           sets W C (𝓣 .Λ) ls l vunit (of-opd ! (unit-lit !)) tt (tt, tt) (gives W C (𝓣 .Λ) ls l Kf vunit refl tt (ends m t i d zs e marked over len left k))))
@@ -146,19 +144,14 @@ module _ {M : Type 1} (𝓤 : URA M) (H : Heap 𝓤) (A : Atoms 𝓤) (W : Given
           next-fits less = lt-of-le-of-lt (add-one-le (ltb→lt i t less)) t-fits
 
     -- the locals at the entry, and before the plan is opened
-    abbrev σ₀ : Store
-    σ₀ = none ∷ given W (vptr b o ∷ sv ∷ zv ∷ [])
-
     abbrev before : K → Store
-    before m = set 11 (vptr b o) (set 5 (valK m) (set 10 (vptr b o) (set 4 (vint w64 n) (set 9 (vint w64 long) σ₀))))
+    before m = set 10 (vptr b o) (set 5 (valK m) (set 9 (vptr b o) (none ∷ given W (vptr b o ∷ sv ∷ zv ∷ vint w64 n ∷ []))))
 
-    pub plan-walk : ent 𝓤 (mean 𝓤 H A (Held h zs₀)) (WpFn 𝓤 H C (𝓣 .Λ) (planCode count peek begin read turn settle α π τ ρ μ) (vptr b o ∷ sv ∷ zv ∷ []) Kf)
-    plan-walk = entering W C (𝓣 .Λ) (Held h zs₀) (planCode count peek begin read turn settle α π τ ρ μ) (local tyUnit valueLocal) (others ls) (vptr b o ∷ sv ∷ zv ∷ []) Kf refl ((tt, tt), (s-wt, ((tt, (tt, (record { fits = room-fits }, tt))), tt))) (λ l.
-        sets W C (𝓣 .Λ) ls l (vint w64 long) (of-opd ! (load ! (from ! (fld ! refl (stop !))) (part-reads W C (𝓣 .Λ) ls l (Held h zs₀) σ₀ 2 sv refl tt (sub ! 1 refl (whole !))))) tt (tt, record { fits = long-fits })
-        (acted W C (𝓣 .Λ) ls l fm (Unit {0}) (λ u. Held h zs₀) (λ u. vint w64 n) (λ u. Counted) (arg refl tt nil) counts tt (λ u k. (tt, record { fits = n-fits })) (λ u k.
+    pub plan-walk : ent 𝓤 (mean 𝓤 H A (Held h zs₀)) (WpFn 𝓤 H C (𝓣 .Λ) (planCode peek begin read turn settle α π τ ρ μ) (vptr b o ∷ sv ∷ zv ∷ vint w64 n ∷ []) Kf)
+    plan-walk = entering W C (𝓣 .Λ) (Held h zs₀) (planCode peek begin read turn settle α π τ ρ μ) (local tyUnit valueLocal) (others ls) (vptr b o ∷ sv ∷ zv ∷ vint w64 n ∷ []) Kf refl ((tt, tt), (s-wt, ((tt, (tt, (record { fits = room-fits }, tt))), ((tt, record { fits = n-fits }), tt)))) (λ l.
         points W C (𝓣 .Λ) ls l refl refl tt tt (tt, tt) (acted W C (𝓣 .Λ) ls l fm K (λ m. Held h zs₀) valK Marked (arg refl tt nil) peeks tt marks-wt (λ m mk.
         points W C (𝓣 .Λ) ls l refl refl tt tt (tt, tt)
         (sets W C (𝓣 .Λ) ls l (vint w64 room) (of-opd ! (load ! (from ! (fld ! refl (stop !))) (part-reads W C (𝓣 .Λ) ls l (Held h zs₀) (before m) 3 zv refl tt (sub ! 1 refl (whole !))))) tt (tt, record { fits = room-fits })
         (acted W C (𝓣 .Λ) ls l fm (D × ℕ) (λ x. Held (x .0) zs₀) (λ x. vint w64 (x .1)) (λ x. Opened (x .0) (x .1)) (arg refl tt (arg refl tt (arg refl tt nil))) opens tt (λ x g. (tt, record { fits = turns-fit (x .0) (x .1) g })) (λ x g.
         sets W C (𝓣 .Λ) ls l (vint w64 0) (of-opd ! (lit ! tt)) tt (tt, record { fits = lit< tt })
-        (record { seq-of = first ! $ blocks ! $ loops ! 𝓣 (Nearer l m mk (x .1) (turns-fit (x .0) (x .1) g)) (Nearer-wf l m mk (x .1) (turns-fit (x .0) (x .1) g)) (Here l m mk (x .1) (turns-fit (x .0) (x .1) g)) (λ u. one-turn l m mk (x .1) (turns-fit (x .0) (x .1) g) u .seq-of) (0, (zero-le, (x .0, (zs₀, (long₀, starts (x .0) (x .1) g))))) })))))))))
+        (record { seq-of = first ! $ blocks ! $ loops ! 𝓣 (Nearer l m mk (x .1) (turns-fit (x .0) (x .1) g)) (Nearer-wf l m mk (x .1) (turns-fit (x .0) (x .1) g)) (Here l m mk (x .1) (turns-fit (x .0) (x .1) g)) (λ u. one-turn l m mk (x .1) (turns-fit (x .0) (x .1) g) u .seq-of) (0, (zero-le, (x .0, (zs₀, (long₀, starts (x .0) (x .1) g))))) })))))))

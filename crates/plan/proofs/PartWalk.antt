@@ -23,7 +23,7 @@ abbrev Slice : Type 0
 Slice = RefT (List ℕ)
 
 abbrev pub Parts : RattleType → Ended
-Parts E = record { signature = record { lifetimes = 3; outlives = []; params = lists E; result = mutSliceOf (2 ∷ []) tt (plain (λ _. u64)) }; kept = (yes, (yes, (no, tt))) }
+Parts E = record { signature = record { lifetimes = 3; outlives = []; params = lists E []; result = mutSliceOf (2 ∷ []) tt (plain (λ _. u64)) }; kept = (yes, (yes, (no, tt))) }
 
 -- α is how a listed request is written, π a state; τ and μ are the types of a state and of the marks
 abbrev pub partCode : (plan count : Name) (α π τ μ : Ty) → Fn

@@ -1,6 +1,7 @@
--- The walk of a plan on a lent state (LoopWalk.antt) at the crate's state, its marks and its requests. How the requests are counted and read is its parameter. Assumes `Given`.
-use Rattle.walks.proofs.Prelude.{_≡_, refl, _∙_, ℕ, _<_, _^_, true, [], _∷_, List, length, getD, URA, T as Holds, Name, Ty, named, imm, tyRef, w64, Val, WT, hasTy, vint, vunit, vptr, SProp, ent, GName, Lft, Share, Memory, Routine, Heap, WpFn, Tables, Atoms, Fun, FmC, fmOf, Given, Item, mean, _⊛_, RattleType, Is, usize, u64, unit, RefT, sliceTy, sliceVal, Room, Triple}
+-- The walk of a plan on a lent state (LoopWalk.antt) at the crate's state, its marks and its requests. How a request is read is its parameter. Assumes `Given`.
+use Rattle.walks.proofs.Prelude.{_≡_, refl, subst, _∙_, ℕ, _≤_, _<_, _^_, [], _∷_, List, length, getD, URA, T as Holds, Name, Ty, named, imm, tyRef, w64, Val, WT, hasTy, vint, vunit, vptr, SProp, ent, GName, Lft, Share, Memory, Routine, Heap, WpFn, Tables, Atoms, Fun, FmC, fmOf, Given, Item, mean, _⊛_, RattleType, Is, usize, u64, unit, RefT, sliceTy, sliceVal, Room, Triple}
 use denote.Struct.Laws as LL
+use Rattle.definition.specs.Tables.{planLimit}
 use Rattle.definition.specs.Request as D
 use Rattle.definition.specs.Calls as C
 use Rattle.definition.specs.Plan.{Lent, lent}
@@ -12,7 +13,7 @@ use Rattle.request.specs.Asked.{requestOf}
 use Rattle.request.specs.declared.Request.{Request}
 use Rattle.request.proofs.Request as R
 use Rattle.request.proofs.Request.Laws as R′
-use Rattle.steps.specs.Steps.{clear, opened, turned, turns, settled}
+use Rattle.steps.specs.Steps.{opened, turned, turns, settled}
 use Rattle.lent.specs.Marks.{marksOf}
 use Rattle.lent.specs.declared.Marks.{Marks}
 use Rattle.lent.proofs.Marks as Ma
@@ -31,7 +32,7 @@ use Rattle.plan.proofs.settle.Symbol.{name as #settle}
 -- Elem is the type of what the requests are listed as, α how it is written
 module _ {M : Type 1} (𝓤 : URA M) (H : Heap 𝓤) (A : Atoms 𝓤) (W : Given 𝓤 H A) (at-mem : Memory → SProp 𝓤) (run : Routine → Fun 𝓤) (𝓣 : Tables 𝓤 H)
     (known-p : Triple 𝓤 (𝓣 .C #peek) (E.Peek 𝓤 H A at-mem run)) (known-o : Triple 𝓤 (𝓣 .C #begin) (E.Begin 𝓤 H A at-mem run)) (known-t : Triple 𝓤 (𝓣 .C #turn) (E.Turn 𝓤 H A at-mem run)) (known-s : Triple 𝓤 (𝓣 .C #settle) (E.Settle 𝓤 H A at-mem run))
-    (count read : Name) (Elem : RattleType) (α : Ty) (κ κ₁ κ₂ : Lft) (q q₁ q₂ : Share) (b o : ℕ) (γ : GName) (h : State) (rq : RefT (List (Elem .Denot))) (b₂ o₂ : ℕ) (γ₂ : GName) (zs₀ : List ℕ) (room : Room u64 (length zs₀)) where
+    (read : Name) (Elem : RattleType) (α : Ty) (κ κ₁ κ₂ : Lft) (q q₁ q₂ : Share) (b o : ℕ) (γ : GName) (h : State) (rq : RefT (List (Elem .Denot))) (b₂ o₂ : ℕ) (γ₂ : GName) (zs₀ : List ℕ) (room : Room u64 (length zs₀)) where
   abbrev fm : FmC 𝓤 H (W .laws) (𝓣 .C)
   fm = fmOf 𝓤 H (W .laws) 𝓣
 
@@ -76,22 +77,21 @@ module _ {M : Type 1} (𝓤 : URA M) (H : Heap 𝓤) (A : Atoms 𝓤) (W : Given
     abbrev Settled : Marks → State → State × Unit {0} → Type 0
     Settled m d e = Is unit (e .1) (vunit ∷ []) × (stateView (e .0) ≡ backTo m (stateView d))
 
-    pub plan-in-walk : (n < 2 ^ 64) → (long < 2 ^ 64) → (clear (opened n (length zs₀) s) ≡ true → length qs ≡ n) → (Holds (hasTy (sliceTy (tyRef (named 1) imm α)) (sliceVal (rq .ptr) long)) × WT (sliceVal (rq .ptr) long))
-        → ((I : Item 𝓤) → Acts 𝓤 H A W (𝓣 .C) count (vint w64 long ∷ []) I (Unit {0}) (λ u. I) (λ u. vint w64 n) (λ u. Is usize n (vint w64 n ∷ [])))
-        → ((i : ℕ) → i < length qs → Acts 𝓤 H A W (𝓣 .C) read (sliceVal (rq .ptr) long ∷ vint w64 i ∷ []) Asked Request (λ r. Asked) E.valR (Read i))
+    pub plan-in-walk : (n < 2 ^ 64) → length qs ≡ n → (Holds (hasTy (sliceTy (tyRef (named 1) imm α)) (sliceVal (rq .ptr) long)) × WT (sliceVal (rq .ptr) long))
+        → (n ≤ planLimit → (i : ℕ) → i < n → Acts 𝓤 H A W (𝓣 .C) read (sliceVal (rq .ptr) long ∷ vint w64 i ∷ []) Asked Request (λ r. Asked) E.valR (Read i))
         → (Kf : Val → SProp 𝓤) → ((e : State) (zs : List ℕ) → length zs ≡ length zs₀ → lent (stateView e) zs ≡ lent (settled s (whole .state)) (whole .results) → ent 𝓤 (mean 𝓤 H A (Held e zs)) (Kf vunit))
-        → ent 𝓤 (mean 𝓤 H A (Held h zs₀)) (WpFn 𝓤 H (𝓣 .C) (𝓣 .Λ) (planCode count #peek #begin read #turn #settle α (T.the-row .written .ty) T′.mir R′.mir Ma′.mir) (vptr b o ∷ sliceVal (rq .ptr) long ∷ sliceVal (b₂, o₂) (length zs₀) ∷ []) Kf)
-    plan-in-walk n-fits long-fits long-is s-wt counts reads Kf ends-with =
-        plan-walk 𝓤 H A W 𝓣 count #peek #begin read #turn #settle α (T.the-row .written .ty) T′.mir R′.mir Ma′.mir State Request Marks E.valR E.valM b o (rq .ptr .0) (rq .ptr .1) long b₂ o₂ (length zs₀) long-fits (room .0) h zs₀ Held
-        n n-fits (Is usize n (vint w64 n ∷ [])) Marked Opened Left Read Did Settled
+        → ent 𝓤 (mean 𝓤 H A (Held h zs₀)) (WpFn 𝓤 H (𝓣 .C) (𝓣 .Λ) (planCode #peek #begin read #turn #settle α (T.the-row .written .ty) T′.mir R′.mir Ma′.mir) (vptr b o ∷ sliceVal (rq .ptr) long ∷ sliceVal (b₂, o₂) (length zs₀) ∷ vint w64 n ∷ []) Kf)
+    plan-in-walk n-fits long-is s-wt reads Kf ends-with =
+        plan-walk 𝓤 H A W 𝓣 #peek #begin read #turn #settle α (T.the-row .written .ty) T′.mir R′.mir Ma′.mir State Request Marks E.valR E.valM b o (rq .ptr .0) (rq .ptr .1) long b₂ o₂ (length zs₀) (room .0) h zs₀ Held
+        n n-fits Marked Opened Left Read Did Settled
         (λ m k. LL.lawful Ma.the-type Ma′.the-laws 𝓤 H A W .typed m _ (k .0) .0) (λ d t k. k .0 .1) (λ i r k. LL.lawful R.the-type R′.the-laws 𝓤 H A W .typed r _ (k .0) .0) (λ i r d zs x k. k .0)
-        s-wt (counts (Held h zs₀))
+        s-wt
         (framed 𝓤 H A W (𝓣 .C) fm #peek (vptr b o ∷ []) (Stands h ⊛ Results zs₀) Marks (λ m. Stands h ⊛ Results zs₀) E.valM Marked Asked
         (framed 𝓤 H A W (𝓣 .C) fm #peek (vptr b o ∷ []) (Stands h) Marks (λ m. Stands h) E.valM Marked (Results zs₀) (E.peeks 𝓤 H A W at-mem run (𝓣 .C) fm κ q b o γ known-p h)))
         (framed 𝓤 H A W (𝓣 .C) fm #begin (vptr b o ∷ vint w64 n ∷ vint w64 (length zs₀) ∷ []) (Stands h ⊛ Results zs₀) (State × ℕ) (λ x. Stands (x .0) ⊛ Results zs₀) (λ x. vint w64 (x .1)) (λ x. Opened (x .0) (x .1)) Asked
         (framed 𝓤 H A W (𝓣 .C) fm #begin (vptr b o ∷ vint w64 n ∷ vint w64 (length zs₀) ∷ []) (Stands h) (State × ℕ) (λ x. Stands (x .0)) (λ x. vint w64 (x .1)) (λ x. Opened (x .0) (x .1)) (Results zs₀) (E.opens 𝓤 H A W at-mem run (𝓣 .C) fm κ q b o γ known-o h n (length zs₀) n-fits (room .0))))
         (λ d t k. L.starts qs none s zs₀ n t (stateView d) (k .1 .0) (k .1 .1))
-        (λ t i d zs l left. framed-left 𝓤 H A W (𝓣 .C) fm read (sliceVal (rq .ptr) long ∷ vint w64 i ∷ []) Asked Request (λ r. Asked) E.valR (Read i) (Stands d ⊛ Results zs) (reads i (L.inside qs none s zs₀ n long-is t i (stateView d) zs l left)))
+        (λ t i d zs l left. framed-left 𝓤 H A W (𝓣 .C) fm read (sliceVal (rq .ptr) long ∷ vint w64 i ∷ []) Asked Request (λ r. Asked) E.valR (Read i) (Stands d ⊛ Results zs) (reads (L.few qs none s zs₀ n t i (stateView d) zs l left) i (subst (λ (m : ℕ). i < m) long-is (L.inside qs none s zs₀ n long-is t i (stateView d) zs l left))))
         (λ t i d zs r l i-fits len left k. framed 𝓤 H A W (𝓣 .C) fm #turn (vptr b o ∷ E.valR r ∷ vint w64 i ∷ sliceVal (b₂, o₂) (length zs₀) ∷ []) (Stands d ⊛ Results zs) (State × (List ℕ × Unit {0})) (λ x. Stands (x .0) ⊛ Results (x .1 .0)) (λ x. vunit) (Did i r d zs) Asked
         (E.turned-by 𝓤 H A W at-mem run (𝓣 .C) fm κ q b o γ (named 2) κ₂ q₂ b₂ o₂ γ₂ (length zs₀) room known-t d r i zs (k .0) i-fits len (left .0 .0)))
         (λ t i d zs r x l left k g. L.goes-on qs none s zs₀ n long-is t i (stateView d) zs (requestOf r) (stateView (x .0)) (x .1 .0) l left (k .1) (g .1 .1))

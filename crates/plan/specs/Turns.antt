@@ -1,7 +1,7 @@
 -- The parts of a plan in place, as the code has them: what is judged first, how many turns are taken, and how a refusal puts the tables back. That they make the definition's plan is the law `plan-in-place`. Assumes nothing.
 use mathlib.Core.Path.{_≡_}
 use mathlib.Core.Bool.{Bool, true, false, _&&_}
-use Prim.Native.Nat.{ℕ, _+_, _*_, _/_}
+use Prim.Native.Nat.{ℕ, _+_, _*_, _/_, _≤_}
 use lib.Dec.{leb, eqb}
 use Rattle.definition.specs.Tables.{planLimit, recordSize}
 use Rattle.definition.specs.Base.{malformed, short, Said, silence, tell}
@@ -45,3 +45,7 @@ wholeCount long = elim (eqb (requestSize * (long / requestSize)) long) [ true �
 -- one request, or more than a plan has
 unfoldable pub oneCount : ℕ → ℕ
 oneCount long = elim (leb requestSize long) [ true ↦ 1 | false ↦ planLimit + 1 ]
+
+-- a list of so many numbers holds n requests, or n is more than a plan has
+abbrev pub Within : ℕ → ℕ → Type 0
+Within n long = n ≤ planLimit → requestSize * n ≤ long

@@ -29,11 +29,11 @@ pub fn read(requests: &[Request], i: usize) -> Request
     requests[i]
 }
 
-// The plan. The answer stands in the state afterwards; results past the accepted requests' records are as they were.
-pub fn plan_in(state: &mut State, requests: &[Request], results: &mut [u64])
+// All of them, n, on the state lent.
+fn run_in(state: &mut State, requests: &[Request], results: &mut [u64], n: usize)
+    requires { ⌜ n ≡ length (now requests) ⌝ }
     ensures { λ _. ⌜ lent (stateView (now (state .exit))) (now (results .exit)) ≡ plan (map requestOf (now (requests .entry))) (stateView (now (state .entry))) (now (results .entry)) ⌝ }
 {
-    let n = count(requests.len());
     let m = lent::peek(state);
     let turns = open(state, n, results.len());
     let mut i: usize = 0;
@@ -43,6 +43,14 @@ pub fn plan_in(state: &mut State, requests: &[Request], results: &mut [u64])
         i += 1;
     }
     settle(state, m);
+}
+
+// The plan. The answer stands in the state afterwards; results past the accepted requests' records are as they were.
+pub fn plan_in(state: &mut State, requests: &[Request], results: &mut [u64])
+    ensures { λ _. ⌜ lent (stateView (now (state .exit))) (now (results .exit)) ≡ plan (map requestOf (now (requests .entry))) (stateView (now (state .entry))) (now (results .entry)) ⌝ }
+{
+    let n = count(requests.len());
+    run_in(state, requests, results, n);
 }
 
 // The same plan, and its filled part is handed back: the caller's own first numbers, nine for each request accepted.

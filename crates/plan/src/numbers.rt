@@ -4,11 +4,12 @@ use super::settle;
 use super::turn;
 use tables::State;
 ghost use mathlib.Core.Path.{_≡_};
-ghost use Rattle.definition.specs.Plan.{lent};
+ghost use lib.ListN.{length};
+ghost use Rattle.definition.specs.Plan.{lent, plan};
 ghost use Rattle.tables.specs.Views.{stateView};
-ghost use Rattle.flat.specs.Flat.{flatPlan, flatAllocate};
+ghost use Rattle.flat.specs.Flat.{requestsFrom, flatPlan, flatAllocate};
 ghost use Rattle.plan.specs.Filled.{flatFilled};
-ghost use Rattle.plan.specs.Turns.{wholeCount, oneCount};
+ghost use Rattle.plan.specs.Turns.{wholeCount, oneCount, Within};
 
 const REQUEST: usize = 12;
 
@@ -36,11 +37,11 @@ pub fn one(long: usize) -> usize
     MANY
 }
 
-// The plan on the state lent. The answer stands in the state afterwards; results past the accepted requests' records are as they were.
-pub fn plan_in(state: &mut State, requests: &[u64], results: &mut [u64])
-    ensures { λ _. ⌜ lent (stateView (now (state .exit))) (now (results .exit)) ≡ flatPlan (now (requests .entry)) (stateView (now (state .entry))) (now (results .entry)) ⌝ }
+// So many requests, the list's first, on the state lent: THE loop over numbers, behind a plan and behind one request. Where more are asked for than a plan has, none is read.
+fn run_in(state: &mut State, requests: &[u64], results: &mut [u64], n: usize)
+    requires { ⌜ Within n (length (now requests)) ⌝ }
+    ensures { λ _. ⌜ lent (stateView (now (state .exit))) (now (results .exit)) ≡ plan (requestsFrom (now (requests .entry)) 0 n) (stateView (now (state .entry))) (now (results .entry)) ⌝ }
 {
-    let n = count(requests.len());
     let m = lent::peek(state);
     let turns = open(state, n, results.len());
     let mut i: usize = 0;
@@ -50,6 +51,14 @@ pub fn plan_in(state: &mut State, requests: &[u64], results: &mut [u64])
         i += 1;
     }
     settle(state, m);
+}
+
+// The plan on the state lent. The answer stands in the state afterwards; results past the accepted requests' records are as they were.
+pub fn plan_in(state: &mut State, requests: &[u64], results: &mut [u64])
+    ensures { λ _. ⌜ lent (stateView (now (state .exit))) (now (results .exit)) ≡ flatPlan (now (requests .entry)) (stateView (now (state .entry))) (now (results .entry)) ⌝ }
+{
+    let n = count(requests.len());
+    run_in(state, requests, results, n);
 }
 
 // The same plan, and its filled part is handed back: the caller's own first numbers, nine for each request accepted.
@@ -70,15 +79,7 @@ pub fn allocate_in(state: &mut State, request: &[u64], out: &mut [u64])
     ensures { λ _. ⌜ lent (stateView (now (state .exit))) (now (out .exit)) ≡ flatAllocate (now (request .entry)) (stateView (now (state .entry))) (now (out .entry)) ⌝ }
 {
     let n = one(request.len());
-    let m = lent::peek(state);
-    let turns = open(state, n, out.len());
-    let mut i: usize = 0;
-    while i < turns {
-        let r = flat::request_at(request, i);
-        turn(state, r, i, out);
-        i += 1;
-    }
-    settle(state, m);
+    run_in(state, request, out, n);
 }
 
 // The plan on a state by value: the state is lent from here.

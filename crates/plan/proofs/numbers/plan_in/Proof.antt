@@ -1,32 +1,32 @@
--- `numbers::plan_in` meets its contract: a plan of the requests that a lent list of plain numbers holds (PlanInFrame.antt). Assumes nothing.
-use Rattle.walks.proofs.Prelude.{sym, _∙_, URA, SProp, emp, id⊢, Memory, Routine, Heap, WpFn, Tables, Atoms, Fun, factI, fact-mono, givenOf, tables, tablesOf, Given, u64, Meets, tripleOf, Contract, Triple, entered, cited}
-use Rattle.flat.specs.Flat.{bad, requestsOf, flatPlan}
-use Rattle.plan.specs.Turns.{wholeCount}
-use Rattle.plan.proofs.NumbersLaws.{requests-few, request-inside, request-is, count-fits, count-is, ends-flat}
-use Rattle.plan.proofs.PlanInFrame.{Known, knows, counts-by, reads-of, plan-meets}
+-- `numbers::plan_in` meets its contract: as many requests as a lent list of plain numbers holds (CountWalk.antt). Assumes nothing.
+use Rattle.walks.proofs.Prelude.{URA, SProp, emp, id⊢, Memory, Routine, Heap, WpFn, Tables, Atoms, Fun, factI, givenOf, tables, tablesOf, Given, u64, Meets, tripleOf, Contract, Triple, entered, cited}
+use Rattle.definition.specs.Plan.{plan}
+use Rattle.flat.specs.Flat.{requestsFrom, flatPlan}
+use Rattle.plan.specs.Turns.{wholeCount, Within}
+use Rattle.plan.proofs.NumbersLaws.{whole-within, run-flat}
+use Rattle.plan.proofs.CountWalk.{counts-by, count-meets}
 use Rattle.plan.proofs.numbers.count as c
-use Rattle.flat.proofs.request_at as g
+use Rattle.plan.proofs.numbers.run_in as g
 use Rattle.plan.proofs.numbers.plan_in as f
 
 module _ {M : Type 1} (𝓤 : URA M) (H : Heap 𝓤) (A : Atoms 𝓤) (at-mem : Memory → SProp 𝓤) (run : Routine → Fun 𝓤) where
   abbrev Count : Contract 𝓤
   Count = tripleOf 𝓤 H A c.signature (c.spec 𝓤 H A at-mem run)
 
-  abbrev Read : Contract 𝓤
-  Read = tripleOf 𝓤 H A g.signature (g.spec 𝓤 H A at-mem run)
+  abbrev Run : Contract 𝓤
+  Run = tripleOf 𝓤 H A g.signature (g.spec 𝓤 H A at-mem run)
 
-  module _ (W : Given 𝓤 H A) (𝓣 : Tables 𝓤 H) (known : Known 𝓤 H A at-mem run (𝓣 .C)) (known-c : Triple 𝓤 (𝓣 .C c.Symbol.name) Count) (known-g : Triple 𝓤 (𝓣 .C g.Symbol.name) Read) where
+  module _ (W : Given 𝓤 H A) (𝓣 : Tables 𝓤 H) (known-c : Triple 𝓤 (𝓣 .C c.Symbol.name) Count) (known-g : Triple 𝓤 (𝓣 .C g.Symbol.name) Run) where
     f-meets : Meets 𝓤 H A f.signature (WpFn 𝓤 H (𝓣 .C) (𝓣 .Λ) f.Code.function) (f.spec 𝓤 H A at-mem run)
     f-meets =
-        plan-meets 𝓤 H A W at-mem run 𝓣 known c.Symbol.name g.Symbol.name u64 wholeCount requestsOf bad (counts-by 𝓤 H A W at-mem run 𝓣 c.Symbol.name (c.clauses 𝓤 H A at-mem run) known-c wholeCount (λ long. tt) (λ long. id⊢ 𝓤 _) (λ long d e. id⊢ 𝓤 _))
-        (reads-of 𝓤 H A W at-mem run 𝓣 g.Symbol.name u64 requestsOf bad (g.clauses 𝓤 H A at-mem run) known-g requests-few (λ κs a. tt) (λ κs a l. factI 𝓤 _ (emp 𝓤) (request-inside (a .0 .now) (a .1 .0) l)) (λ κs a l r e. fact-mono 𝓤 _ _ (λ p. p ∙ sym (request-is (a .0 .now) (a .1 .0) bad l))))
-        count-fits count-is flatPlan ends-flat (f.clauses 𝓤 H A at-mem run) (λ κs a g d zs p. factI 𝓤 _ (emp 𝓤) p)
+        count-meets 𝓤 H A W 𝓣 u64 c.Symbol.name g.Symbol.name wholeCount (counts-by 𝓤 H A W 𝓣 c.Symbol.name (c.clauses 𝓤 H A at-mem run) known-c wholeCount (λ long. tt) (λ long. id⊢ 𝓤 _) (λ long d e. id⊢ 𝓤 _)) Within whole-within
+        (g.clauses 𝓤 H A at-mem run) known-g (λ κs a. tt) (λ κs a p. factI 𝓤 _ (emp 𝓤) p) (λ ys n. plan (requestsFrom ys 0 n)) (λ κs a d zs. id⊢ 𝓤 _) flatPlan run-flat (f.clauses 𝓤 H A at-mem run) (λ κs a g d zs p. factI 𝓤 _ (emp 𝓤) p)
 
 pub plan-in-spec : {M : Type 1} → f.Statement.statement M
 unfolding f.Code.routine tablesOf
 plan-in-spec 𝓤 H 𝓜 𝓖 𝓡 =
     entered 𝓤 H (tripleOf 𝓤 H (𝓖 .A) f.signature (f.spec 𝓤 H (𝓖 .A) (𝓜 .mem) (𝓡 .run)))
     (tables 𝓤 H 𝓜 𝓡 f.Code.env .C) (tables 𝓤 H 𝓜 𝓡 f.Code.env .Λ) f.Key.name f.Code.function (f.Code.unfolded 𝓤 H 𝓜 𝓡)
-    (f-meets 𝓤 H (𝓖 .A) (𝓜 .mem) (𝓡 .run) (givenOf 𝓤 H 𝓜 𝓖) (tablesOf 𝓤 H 𝓜 (tables 𝓤 H 𝓜 𝓡 f.Code.env)) (knows 𝓤 H 𝓜 𝓖 𝓡 f.Code.env f.Code.calls-lent·peek f.Code.calls-plan·open f.Code.calls-plan·turn f.Code.calls-plan·settle)
+    (f-meets 𝓤 H (𝓖 .A) (𝓜 .mem) (𝓡 .run) (givenOf 𝓤 H 𝓜 𝓖) (tablesOf 𝓤 H 𝓜 (tables 𝓤 H 𝓜 𝓡 f.Code.env))
     (cited 𝓤 H (Count 𝓤 H (𝓖 .A) (𝓜 .mem) (𝓡 .run)) 𝓜 𝓡 f.Code.env c.Symbol.name c.Symbol.routine f.Code.calls-plan·numbers·count (c.Met.met 𝓤 H 𝓜 𝓖 𝓡))
-    (cited 𝓤 H (Read 𝓤 H (𝓖 .A) (𝓜 .mem) (𝓡 .run)) 𝓜 𝓡 f.Code.env g.Symbol.name g.Symbol.routine f.Code.calls-flat·request-at (g.Met.met 𝓤 H 𝓜 𝓖 𝓡)))
+    (cited 𝓤 H (Run 𝓤 H (𝓖 .A) (𝓜 .mem) (𝓡 .run)) 𝓜 𝓡 f.Code.env g.Symbol.name g.Symbol.routine f.Code.calls-plan·numbers·run-in (g.Met.met 𝓤 H 𝓜 𝓖 𝓡)))
