@@ -16,11 +16,13 @@ use input::{flat, request, run, Input, RUN, SHORT};
 use stack::taken_by;
 use tables::State;
 use theirs::{spelt, Spelt, Theirs};
-use time::median;
+use time::{median, paired};
 
 const KINDS: [&str; 5] = ["MMIO", "PIO", "input", "host IRQ", "MSI"];
 /// Single calls in a sample: one is too short for the clock.
 const BATCH: usize = 4;
+/// Paired calls in a sample: what one takes beyond the other is shorter still.
+const PAIRED: usize = 64;
 
 fn main() {
     let inputs = [input::light(), input::heavy()];
@@ -34,11 +36,9 @@ fn main() {
         }
     }
     println!("answers and tables agree\n");
-    let tests = tests(&inputs);
-    plans(&inputs, &tests);
-    for (input, test) in inputs.iter().zip(&tests) {
-        requests(input, *test);
-    }
+    tests(&inputs);
+    plans(&inputs);
+    inputs.iter().for_each(requests);
     inputs.iter().for_each(by_value);
     stacks(&inputs[1]);
 }
@@ -57,26 +57,23 @@ fn started(input: &Input) -> Box<State> {
 }
 
 /// The test of handed-in tables, which is a plan of no requests, and a plain copy of a state beside it.
-fn tests(inputs: &[Input]) -> Vec<f64> {
+fn tests(inputs: &[Input]) {
     println!("| tables | the test of all tables | copying a state ({} bytes) once |", size_of::<State>());
     println!("|---|---|---|");
-    let rows = inputs.iter().map(|input| {
+    for input in inputs {
         let state = started(input);
-        let test = median(BATCH, || Lent::of(&state), |lent| lent.plan(&[]));
+        let test = median(BATCH, || Lent::of(&state), tested);
         let copy = median(1, || (state.clone(), state.clone()), |(to, from)| **to = **std::hint::black_box(from));
         println!("| {} | {test:.2} us | {copy:.2} us |", input.name);
-        test
-    });
-    let tests = rows.collect();
+    }
     println!();
-    tests
 }
 
 /// Plans, through the C face and through the doors over a list.
-fn plans(inputs: &[Input], tests: &[f64]) {
+fn plans(inputs: &[Input]) {
     println!("| plan | original | `planner_plan` | ratio | the test apart | ratio | `plan::list::plan_in` | ratio |");
     println!("|---|---|---|---|---|---|---|---|");
-    for (input, test) in inputs.iter().zip(tests) {
+    for input in inputs {
         for length in [RUN, SHORT] {
             let asked = run(length);
             let words: Vec<Spelt> = asked.iter().map(spelt).collect();
@@ -84,10 +81,9 @@ fn plans(inputs: &[Input], tests: &[f64]) {
             let list: Vec<_> = asked.iter().map(list::Request::of).collect();
             let (state, pools) = (started(input), Theirs::with(&input.adds));
             let all = |theirs: &mut Theirs| words.iter().filter(|one| theirs.allocate(one)).count();
-            let base = median(1, || pools.started(), all);
-            let took = median(1, || Lent::of(&state), |lent| lent.plan(&numbers));
-            let over = median(1, || Lent::of(&state), |lent| lent.list_in(&list));
-            let apart = took - test;
+            let (base, _) = paired(RUN / length, || pools.started(), |_| (), all);
+            let (took, apart) = paired(RUN / length, || Lent::of(&state), tested, |lent| lent.plan(&numbers));
+            let (over, _) = paired(RUN / length, || Lent::of(&state), tested, |lent| lent.list_in(&list));
             println!(
                 "| {}, {length} | {base:.2} us | {took:.2} us | {:.2} | {apart:.2} us | {:.2} | {over:.2} us | {:.2} |",
                 input.name,
@@ -100,17 +96,21 @@ fn plans(inputs: &[Input], tests: &[f64]) {
     println!();
 }
 
+/// The test of all tables: a plan of no requests.
+fn tested(lent: &mut Box<Lent>) -> u64 {
+    lent.plan(&[])
+}
+
 /// One request through the C face.
-fn requests(input: &Input, test: f64) {
+fn requests(input: &Input) {
     println!("| one request, {} | original | `planner_allocate` | ratio | the test apart | ratio |", input.name);
     println!("|---|---|---|---|---|---|");
     let (state, pools) = (started(input), Theirs::with(&input.adds));
     for (kind, fixed) in singles() {
         let asked = request(kind, fixed, 0);
         let (numbers, words) = (flat(&asked), spelt(&asked));
-        let base = median(BATCH, || pools.started(), |theirs| theirs.allocate(&words));
-        let took = median(BATCH, || Lent::of(&state), |lent| lent.allocate(&numbers));
-        let apart = took - test;
+        let (_, base) = paired(PAIRED, || pools.started(), |_| (), |theirs| theirs.allocate(&words));
+        let (took, apart) = paired(PAIRED, || Lent::of(&state), tested, |lent| lent.allocate(&numbers));
         println!(
             "| {} | {base:.3} us | {took:.2} us | {:.1} | {apart:.3} us | {:.2} |",
             named(kind, fixed),

@@ -5,6 +5,8 @@ use std::time::{Duration, Instant};
 
 /// The samples that a median is taken of.
 pub const SAMPLES: usize = 1000;
+/// The same of paired calls, which are more in a sample.
+const PAIRS: usize = 250;
 /// Samples before them that do not count.
 const WARM: usize = 50;
 
@@ -22,8 +24,45 @@ pub fn median<T, R>(batch: usize, mut make: impl FnMut() -> T, mut call: impl Fn
             samples.push(took.as_secs_f64() * 1e6 / batch as f64);
         }
     }
+    middle(samples)
+}
+
+/// The median time of a call, and the median of what it takes beyond another call, `less`, on the same tables, in microseconds.
+/// A sample is the mean of `batch` pairs. Each has tables of its own, made right before: `less` runs on them once untimed, so that
+/// they are at hand, then timed, and right behind it the call. What the clock itself takes is in both times.
+pub fn paired<T, L, R>(
+    batch: usize,
+    mut make: impl FnMut() -> T,
+    mut less: impl FnMut(&mut T) -> L,
+    mut call: impl FnMut(&mut T) -> R,
+) -> (f64, f64) {
+    let (mut whole, mut beyond) = (Vec::with_capacity(PAIRS), Vec::with_capacity(PAIRS));
+    for turn in 0..WARM + PAIRS {
+        let (mut before, mut took) = (0.0, 0.0);
+        for _ in 0..batch {
+            let mut tables = make();
+            black_box(less(black_box(&mut tables)));
+            before += passed(&mut tables, &mut less);
+            took += passed(&mut tables, &mut call);
+        }
+        if turn >= WARM {
+            whole.push(took * 1e6 / batch as f64);
+            beyond.push((took - before) * 1e6 / batch as f64);
+        }
+    }
+    (middle(whole), middle(beyond))
+}
+
+/// The seconds that one call takes.
+fn passed<T, R>(tables: &mut T, call: &mut impl FnMut(&mut T) -> R) -> f64 {
+    let start = Instant::now();
+    black_box(call(black_box(tables)));
+    start.elapsed().as_secs_f64()
+}
+
+fn middle(mut samples: Vec<f64>) -> f64 {
     samples.sort_by(f64::total_cmp);
-    samples[SAMPLES / 2]
+    samples[samples.len() / 2]
 }
 
 /// The shorter of the time that passed and the thread's own time on a processor. The first is exact for short work; the
