@@ -1,6 +1,7 @@
 // Demand 3 on random plans of all kinds: each is run, pinned, and some of its lines are run again in another order. The second answer must be 0, each record the one it had, and the owner tables the reservations and those lines' rows.
 mod checked;
 mod drawn;
+mod lends;
 mod pools;
 
 use tables::State;
@@ -12,11 +13,11 @@ pub enum Outcome {
     Failed,
 }
 
-// A plan that its first run accepts is run again by `replayed`.
+// A plan that its first run accepts is run again by `replay::replay`.
 pub fn again(s: State, requests: &mut [u64], selection: &[u64], first: &[u64]) -> Outcome {
     let mut results = [0u64; 1152];
     let mut second = [0u64; 1152];
-    let t = runs::replayed(s, requests, selection, &mut results, &mut second);
+    let t = lends::replay(s, requests, selection, &mut results, &mut second);
     if t.number != 0 {
         return Outcome::Failed;
     }
