@@ -1,15 +1,16 @@
 -- Two of the state's numbers behind a reference to it: `number`, which is read, and `index`, which is stored. Each is a `Cut` of the state in memory, at the field's offset. Assumes `Given`.
 use Rattle.walks.proofs.Prelude.{refl, ℕ, URA, fullShare, Heap, Atoms, Given, u64, Cut, look-at, put-at}
+use Rattle.walks.proofs.Columns.{offset}
 use Rattle.tables.specs.declared.State.{State}
 use Rattle.tables.proofs.State as T
 use Rattle.tables.proofs.State.Laws as T′
 
--- the five numbers are the last 40 of the state's 66312 bytes
+-- the first two of the five numbers, which stand behind the four groups of tables
 abbrev pub numberOffset : ℕ
-numberOffset = 66272
+numberOffset = offset T′.mir 4
 
 abbrev pub indexOffset : ℕ
-indexOffset = 66280
+indexOffset = offset T′.mir 5
 
 abbrev pub withIndex : ℕ → State → State
 withIndex x d =

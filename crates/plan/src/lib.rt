@@ -4,6 +4,7 @@ use finding::Finding;
 use lent::Marks;
 use request::Request;
 use request::Said;
+use tables::RECORD;
 use tables::State;
 ghost use mathlib.Core.Path.{_≡_};
 ghost use lib.Dec.{eqb};
@@ -17,9 +18,6 @@ ghost use Rattle.plan.specs.Turns.{judgedOf, turnsIn, turnsAfter, Opens,
 
 pub mod list;
 pub mod numbers;
-
-// The numbers of a record.
-const RECORD: usize = 9;
 
 // ---- what is judged before the first request
 

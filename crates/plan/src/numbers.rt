@@ -2,6 +2,8 @@
 use super::open;
 use super::settle;
 use super::turn;
+use flat::REQUEST;
+use tables::PLAN;
 use tables::State;
 ghost use mathlib.Core.Path.{_≡_};
 ghost use lib.ListN.{length};
@@ -11,10 +13,8 @@ ghost use Rattle.flat.specs.Flat.{requestsFrom, flatPlan, flatAllocate};
 ghost use Rattle.plan.specs.Filled.{flatFilled};
 ghost use Rattle.plan.specs.Turns.{wholeCount, oneCount, Within};
 
-const REQUEST: usize = 12;
-
 // One more than any plan has.
-const MANY: usize = 129;
+const MANY: usize = PLAN + 1;
 
 // How many requests a list of so many numbers holds: where it ends within one, more than any plan has.
 pub fn count(long: usize) -> usize
