@@ -2,10 +2,10 @@
 use mathlib.Core.Path.{_≡_}
 use mathlib.Core.Bool.{true, false}
 use mathlib.Core.List.{List, _++_}
-use Prim.Native.Nat.{ℕ, _*_, _/_, _≤_}
+use Prim.Native.Nat.{ℕ, suc, _*_, _/_, _≤_}
 use lib.Dec.{eqb}
 use lib.ListN.{length}
-use Rattle.definition.specs.Tables.{recordSize, Kind, kinds}
+use Rattle.definition.specs.Tables.{planLimit, recordSize, Kind, kinds}
 use Rattle.definition.specs.Base.{silence}
 use Rattle.definition.specs.Pools.{rowsOf}
 use Rattle.definition.specs.Calls.{State, poolsOf, heldOf, ownersOf, start, serve}
@@ -28,7 +28,7 @@ runs s rq res res′ = record { state = s; requests = rq; results = res; second 
 
 -- room for one line more than a plan has: of more lines than that the plan says 11 all the same
 abbrev pub mostTaken : ℕ
-mostTaken = 1548
+mostTaken = requestSize * suc planLimit
 
 -- the first run
 abbrev pub firstRun : List ℕ → State → List ℕ → Lent

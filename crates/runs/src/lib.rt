@@ -1,13 +1,15 @@
 // Demand 3 as a program, on a state by value: a plan, its answers written back into its lines, and some of these lines run again in any order.
+use flat::REQUEST;
 use plan::numbers::plan_by_value;
 use pool::start;
+use tables::PLAN;
 use tables::State;
 ghost use mathlib.Core.Path.{_≡_};
 ghost use Rattle.tables.specs.Views.{stateView};
 ghost use Rattle.again.specs.Runs.{runs, runsOf};
 
 // One line more than a plan has.
-const MOST: usize = 1548;
+const MOST: usize = REQUEST * (PLAN + 1);
 
 // Start, plan, pin; take the selected lines in the given order; start, plan. After a refused first plan nothing more is done.
 pub fn replayed(

@@ -10,6 +10,7 @@ use Rattle.request.specs.Asked.{requestOf}
 use Rattle.request.specs.declared.Request.{Request}
 use Rattle.request.proofs.Request as R
 use Rattle.request.proofs.Request.Laws as R′
+use Rattle.lending.specs.Most.{most}
 use Rattle.lending.proofs.ArrayWalk.{lendCode, lend-walk}
 use Rattle.plan.proofs.list.plan_in as g
 use Rattle.lending.proofs.place as f
@@ -25,10 +26,10 @@ abbrev Promise : State → List Request → List ℕ → State → List ℕ → 
 Promise h rs ys d zs = lent (stateView d) zs ≡ plan (map requestOf rs) (stateView h) ys
 
 abbrev stayed : Stays (f.ended .signature .params) (f.ended .kept)
-stayed = (stay-dropped (plain (λ _. T.the-row)) yes, (stay-dropped (arrayOf (plain (λ _. R.the-row)) 129) yes, (stay-dropped (plain (λ _. usize)) yes, (stay-slice (0 ∷ []) tt (plain (λ _. u64)), tt))))
+stayed = (stay-dropped (plain (λ _. T.the-row)) yes, (stay-dropped (arrayOf (plain (λ _. R.the-row)) most) yes, (stay-dropped (plain (λ _. usize)) yes, (stay-slice (0 ∷ []) tt (plain (λ _. u64)), tt))))
 
 -- the function's code is the walk's
-same-code : lendCode g.Symbol.name 129 (T.the-row .written .ty) (R.the-row .written .ty) T′.mir R′.mir ≡ f.Code.function
+same-code : lendCode g.Symbol.name most (T.the-row .written .ty) (R.the-row .written .ty) T′.mir R′.mir ≡ f.Code.function
 same-code = refl
 
 abbrev G : {M : Type 1} (𝓤 : URA M) (H : Heap 𝓤) (A : Atoms 𝓤) (at-mem : Memory → SProp 𝓤) (run : Routine → Fun 𝓤) → Contract 𝓤
@@ -107,19 +108,19 @@ module _ {M : Type 1} (𝓤 : URA M) (H : Heap 𝓤) (A : Atoms 𝓤) (W : Given
   typed d v is = LL.lawful T.the-type T′.the-laws 𝓤 H A W .typed d _ is .0
 
   abbrev Entry : SProp 𝓤
-  Entry = ⋆ 𝓤 H A (‵ (T.the-row .own h (valT h ∷ [])) ∷ ‵ (Array R.the-row 129 .own xs (arrayVals xs)) ∷ ‵ (MutSlice (named 0) κ u64 .own (z γ ys) (zv ∷ [])) ∷ ‵ (flft κ q) ∷ [])
+  Entry = ⋆ 𝓤 H A (‵ (T.the-row .own h (valT h ∷ [])) ∷ ‵ (Array R.the-row most .own xs (arrayVals xs)) ∷ ‵ (MutSlice (named 0) κ u64 .own (z γ ys) (zv ∷ [])) ∷ ‵ (flft κ q) ∷ [])
 
-  module _ (C : Calls 𝓤 H) (Λ : Loops 𝓤 H) (fm : FmC 𝓤 H (W .laws) C) (known : Triple 𝓤 (C g.Symbol.name) (G 𝓤 H A at-mem run)) (h-is : Is T.the-row h (valT h ∷ [])) (xs-is : Is (Array R.the-row 129) xs (arrayVals xs)) (n-fits : n < 2 ^ 64) (n-low : n ≤ 129) (room : Room u64 (length ys)) where
-    inner : ent 𝓤 Entry (WpFn 𝓤 H C Λ (lendCode g.Symbol.name 129 (T.the-row .written .ty) (R.the-row .written .ty) T′.mir R′.mir) (valT h ∷ only (arrayVals xs) ∷ vint w64 n ∷ zv ∷ []) Post)
+  module _ (C : Calls 𝓤 H) (Λ : Loops 𝓤 H) (fm : FmC 𝓤 H (W .laws) C) (known : Triple 𝓤 (C g.Symbol.name) (G 𝓤 H A at-mem run)) (h-is : Is T.the-row h (valT h ∷ [])) (xs-is : Is (Array R.the-row most) xs (arrayVals xs)) (n-fits : n < 2 ^ 64) (n-low : n ≤ most) (room : Room u64 (length ys)) where
+    inner : ent 𝓤 Entry (WpFn 𝓤 H C Λ (lendCode g.Symbol.name most (T.the-row .written .ty) (R.the-row .written .ty) T′.mir R′.mir) (valT h ∷ only (arrayVals xs) ∷ vint w64 n ∷ zv ∷ []) Post)
     inner =
         lend-walk 𝓤 H A W State T′.mir (T.the-row .written) (T.the-row .reaches) (T.the-row .own) (T.the-row .exit) (T.the-row .coded) valT (LL.tells T.the-type T′.the-laws) typed
         Request R′.mir (R.the-row .written) (R.the-row .reaches) (R.the-row .own) (R.the-row .exit) (R.the-row .coded) valR (LL.tells R.the-type R′.the-laws) (LL.lawful R.the-type R′.the-laws 𝓤 H A W)
-        κ q h h-is 129 xs xs-is n n-fits (subst (λ (m : ℕ). n ≤ m) (sym (xs-is .1 .0 .1)) n-low) (omega arith, omega arith) b o γ ys room (named 0) (named 1) (named 2) (T.the-row .written .ty) (R.the-row .written .ty) C Λ fm g.Symbol.name (Promise h (take n xs) ys) ens told
+        κ q h h-is most xs xs-is n n-fits (subst (λ (m : ℕ). n ≤ m) (sym (xs-is .1 .0 .1)) n-low) (omega arith, omega arith) b o γ ys room (named 0) (named 1) (named 2) (T.the-row .written .ty) (R.the-row .written .ty) C Λ fm g.Symbol.name (Promise h (take n xs) ys) ens told
         (λ ν₀ ν₁ ν₂ b₀ γ₀ b₁ γ₁ δ. via 𝓤 _ (goes-g ν₀ ν₁ ν₂ b₀ γ₀ b₁ γ₁ δ) (known (to-g ν₀ ν₁ ν₂ b₀ γ₀ b₁ γ₁ δ))) Post exits
 
     walk : ent 𝓤 (onEntry 𝓤 H A f.signature (κ, tt) (q, tt) x at) (WpFn 𝓤 H C Λ f.Code.function (valT h ∷ only (arrayVals xs) ∷ vint w64 n ∷ zv ∷ []) Post)
     walk =
-        qed W ((‵ (flft κ q) ⊛ ‵ ftrue) ∷ ‵ (owns (T.the-row ∷ Array R.the-row 129 ∷ usize ∷ MutSlice (named 0) κ u64 ∷ []) x at) ∷ []) ∵
+        qed W ((‵ (flft κ q) ⊛ ‵ ftrue) ∷ ‵ (owns (T.the-row ∷ Array R.the-row most ∷ usize ∷ MutSlice (named 0) κ u64 ∷ []) x at) ∷ []) ∵
         split ! $ move ! (2 ∷ []) $ fsplit ! $ move ! (1 ∷ []) $ fsplit ! $ move ! (1 ∷ []) $ fsplit ! $ drop ! $ fsplit ! $
         -- [the results; true; the array's 2; the state's 3; κ's token 4]
         keep ! (3 ∷ 2 ∷ 0 ∷ 4 ∷ []) $ by ! (subst (λ (c : Fn). ent 𝓤 Entry (WpFn 𝓤 H C Λ c (valT h ∷ only (arrayVals xs) ∷ vint w64 n ∷ zv ∷ []) Post)) same-code inner)
@@ -127,12 +128,12 @@ module _ {M : Type 1} (𝓤 : URA M) (H : Heap 𝓤) (A : Atoms 𝓤) (W : Given
 module _ {M : Type 1} (𝓤 : URA M) (H : Heap 𝓤) (A : Atoms 𝓤) (W : Given 𝓤 H A) (at-mem : Memory → SProp 𝓤) (run : Routine → Fun 𝓤) where
   f-walks : (C : Calls 𝓤 H) (Λ : Loops 𝓤 H) → FmC 𝓤 H (W .laws) C → Triple 𝓤 (C g.Symbol.name) (G 𝓤 H A at-mem run) → Walks 𝓤 H A f.ended stayed (WpFn 𝓤 H C Λ f.Code.function) (f.clauses 𝓤 H A at-mem run)
   f-walks C Λ fm known = walked 𝓤 H A f.ended stayed (f.clauses 𝓤 H A at-mem run) (WpFn 𝓤 H C Λ f.Code.function) (λ κs. (LL.vals T.the-type T′.the-laws, (arrayVals, (uint-vals w64, (slice-vals, tt)))))
-      (λ κs. (LL.tells T.the-type T′.the-laws, (array-tells R.the-row (λ e. valR e ∷ []) (LL.tells R.the-type R′.the-laws) 129, (uint-tells w64, (mut-slice-tells (named 0) (κs .0) u64, tt)))))
-      (λ κs qs bounds a _ are. needs 𝓤 (a .1 .1 .0 ≤ 129) _ (λ p. walk 𝓤 H A W at-mem run (κs .0) bounds (qs .0) (a .0) (a .1 .0) (a .1 .1 .0)
+      (λ κs. (LL.tells T.the-type T′.the-laws, (array-tells R.the-row (λ e. valR e ∷ []) (LL.tells R.the-type R′.the-laws) most, (uint-tells w64, (mut-slice-tells (named 0) (κs .0) u64, tt)))))
+      (λ κs qs bounds a _ are. needs 𝓤 (a .1 .1 .0 ≤ most) _ (λ p. walk 𝓤 H A W at-mem run (κs .0) bounds (qs .0) (a .0) (a .1 .0) (a .1 .1 .0)
       (a .1 .1 .1 .0 .ptr .0) (a .1 .1 .1 .0 .ptr .1) (a .1 .1 .1 .0 .name) (a .1 .1 .1 .0 .now) C Λ fm known (are .0) (are .1 .0) (are .1 .1 .0 .1) p (are .1 .1 .1 .0 .0 .1)))
 
   goes : AllGo 𝓤 H A W 1 (f.signature .params) (f.ended .kept) stayed
-  goes = (goes-dropped 𝓤 H A W 1 (plain (λ _. T.the-row)) yes (λ κs x f. refl), (goes-dropped 𝓤 H A W 1 (arrayOf (plain (λ _. R.the-row)) 129) yes (λ κs x f. refl), (goes-dropped 𝓤 H A W 1 (plain (λ _. usize)) yes (λ κs x f. refl), (goes-slice 𝓤 H A W 1 0 tt (plain (λ _. u64)), tt))))
+  goes = (goes-dropped 𝓤 H A W 1 (plain (λ _. T.the-row)) yes (λ κs x f. refl), (goes-dropped 𝓤 H A W 1 (arrayOf (plain (λ _. R.the-row)) most) yes (λ κs x f. refl), (goes-dropped 𝓤 H A W 1 (plain (λ _. usize)) yes (λ κs x f. refl), (goes-slice 𝓤 H A W 1 0 tt (plain (λ _. u64)), tt))))
 
 f-meets : {M : Type 1} (𝓤 : URA M) (H : Heap 𝓤) (A : Atoms 𝓤) → Given 𝓤 H A → (at-mem : Memory → SProp 𝓤) (run : Routine → Fun 𝓤) (𝓣 : Tables 𝓤 H) → Triple 𝓤 (𝓣 .C g.Symbol.name) (G 𝓤 H A at-mem run)
     → Meets 𝓤 H A f.signature (WpFn 𝓤 H (𝓣 .C) (𝓣 .Λ) f.Code.function) (f.spec 𝓤 H A at-mem run)

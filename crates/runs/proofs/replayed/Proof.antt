@@ -4,13 +4,14 @@ use Prim.Native.Nat.{ℕ}
 use mathlib.Core.List.{List}
 use lib.ListN.{replicate, length-replicate}
 use lib.Seq.{length-take-le}
+use Rattle.again.specs.Runs.{mostTaken}
 use Rattle.runs.proofs.ReplayedLaws.{stops, goes-on, fits-in}
 use borrow.Author.Needs.{needs}
 use Rattle.runs.proofs.replayed.Statement.{statement}
 use Rattle.runs.proofs.replayed.Tie as tie
 
 abbrev blank : List ℕ
-blank = replicate 1548 0
+blank = replicate mostTaken 0
 
 start-requires : tie.Need-start-requires
 start-requires c κs = search needs
