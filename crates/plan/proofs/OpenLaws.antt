@@ -56,7 +56,7 @@ keeping f s k =
       detail = f .said .detail;
     }
 
-kept-none : (f : Finding) (s : State) → f .kind ≡ 0 → stateView (kept f s) ≡ saying (saidOf (f .said)) (stateView s)
+pub kept-none : (f : Finding) (s : State) → f .kind ≡ 0 → stateView (kept f s) ≡ saying (saidOf (f .said)) (stateView s)
 kept-none f s e = ap (λ (k : ℕ). stateView (keeping f s k)) e
 
 -- ---- what is said, and how many turns follow

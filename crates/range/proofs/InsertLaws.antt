@@ -23,8 +23,9 @@ use Rattle.tables.specs.declared.PoolRow.{PoolRow}
 use Rattle.tables.proofs.ListedLaws.{listed-length, listed-ext, drop-out, drop-in}
 use Rattle.tables.proofs.TableLaws.{table, used-is}
 use Rattle.range.specs.Places.{before, placeOf, Opened}
-use Rattle.range.specs.Answers.{addAny, Entered, telling, storedOr}
+use Rattle.range.specs.Answers.{addAny, Entered, telling, heard, storedOr}
 use Rattle.range.specs.declared.Inserted.{Inserted}
+use Rattle.range.specs.declared.Reply.{Reply}
 use Rattle.tables.proofs.IndexLaws.{FirstIs, first-is}
 use Rattle.range.proofs.FirstLaws.{used-any, used-none}
 
@@ -158,3 +159,33 @@ module _ (t : Pool) (r : PoolRow) (good : T (tidy poolLimit (sameSpan blankSpan)
           entered t _ _ (accepted (insert (spanOf r) (used (poolView t))))
           (rw (lt-ltb (r .start) (r .end) l, used-none (sameSpan (spanOf r)) poolLimit (λ j. spanOf (poolAt t j)) (t .n) tidy-within e, used-count, lt-ltb (t .n) poolLimit f))
           (opened-stored t u at r f o good q) refl
+
+-- ---- what is told, beside the used rows of a table
+
+module _ (p : Span) (f : ℕ → Span) (n : ℕ) (good : T (tidy poolLimit (sameSpan blankSpan) (table poolLimit f n))) where
+  abbrev Says : Reply → Type 0
+  Says a = heard a ≡ telling (addAny p (used (table poolLimit f n)))
+
+  pub rows-within : n ≤ poolLimit
+  rows-within = tidy-says poolLimit (sameSpan blankSpan) (table poolLimit f n) good .within
+
+  rows-count : length (used (table poolLimit f n)) ≡ n
+  rows-count = used-length (table poolLimit f n) (omega (arith, rows-within, listed-length f poolLimit))
+
+  pub say-empty : p .end ≤ p .start → Says (record { number = 4; owner = 0 })
+  unfolding addAny require
+  say-empty l = rw (le-ltb (p .start) (p .end) l)
+
+  module _ (l : p .start < p .end) where
+    pub say-there : (i : ℕ) → At i ≡ first (λ j. sameSpan p (f j)) n → Says (record { number = 0; owner = 0 })
+    unfolding addAny require unlessThere
+    say-there i e = rw (lt-ltb (p .start) (p .end) l, used-any (sameSpan p) poolLimit f n rows-within i e)
+
+    module _ (e : Clear ≡ first (λ j. sameSpan p (f j)) n) where
+      pub say-full : poolLimit ≤ n → Says (record { number = 9; owner = 0 })
+      unfolding addAny require unlessThere
+      say-full m = rw (lt-ltb (p .start) (p .end) l, used-none (sameSpan p) poolLimit f n rows-within e, rows-count, le-ltb n poolLimit m)
+
+      pub say-new : n < poolLimit → Says (record { number = 0; owner = 0 })
+      unfolding addAny require unlessThere
+      say-new m = rw (lt-ltb (p .start) (p .end) l, used-none (sameSpan p) poolLimit f n rows-within e, rows-count, lt-ltb n poolLimit m)

@@ -154,6 +154,43 @@ pub fn insert_range(t: Pool, r: PoolRow) -> Inserted
     }
 }
 
+// What adding `r` to a table of `n` rows answers: 4, 9, or 0 where it goes in or is there already.
+pub fn refuse_pool<'a>(
+    n: usize,
+    controller: &'a [u32; POOL_ROWS],
+    its: &'a [u32; POOL_ROWS],
+    start: &'a [u64; POOL_ROWS],
+    end: &'a [u64; POOL_ROWS],
+    r: PoolRow,
+) -> Reply
+    requires { ⌜ T (tidy poolLimit (sameSpan blankSpan) (poolView (pool n (now controller) (now its) (now start) (now end)))) ⌝ }
+    ensures { λ a. ⌜ heard a ≡ telling (addAny (spanOf r) (used (poolView (pool n (now (controller .entry)) (now (its .entry)) (now (start .entry)) (now (end .entry)))))) ⌝ }
+{
+    if r.end <= r.start {
+        return Reply {
+            number: 4,
+            owner: 0,
+        };
+    }
+    let there = first_stop(n, controller, its, start, end, true, r);
+    if let Hit::At(_) = there {
+        return Reply {
+            number: 0,
+            owner: 0,
+        };
+    }
+    if POOL_ROWS <= n {
+        return Reply {
+            number: 9,
+            owner: 0,
+        };
+    }
+    Reply {
+        number: 0,
+        owner: 0,
+    }
+}
+
 // ---- reservations
 
 // What a reservation of `r` beside the first `n` rows answers: 3, 4, 5 with the owner of the first row that it overlaps, 9.

@@ -1,0 +1,20 @@
+-- Where the call has a row for the tables, and where it has none. Assumes nothing.
+use borrow.Author.Needs.{needs}
+use mathlib.Core.Path.{_∙_, sym}
+use Rattle.admit.proofs.ask_range.Statement.{statement}
+use Rattle.admit.proofs.ask_range.Tie as tie
+
+range-for-requires : tie.Need-range-for-requires
+range-for-requires c κs = search needs
+
+goes-requires : tie.Need-goes-requires
+goes-requires c κs = search needs
+
+returns : tie.Need-returns
+returns c = rw (sym (c .before .goes .ensures) ∙ c .if1 .taken, c .before .before .before .range-for .ensures)
+
+returns-2 : tie.Need-returns-2
+returns-2 c = rw (sym (c .before .goes .ensures) ∙ c .if1 .left, c .before .before .before .range-for .ensures)
+
+pub ask-range-spec : {M : Type 1} → statement M
+ask-range-spec = tie.close (tie.spec range-for-requires goes-requires returns returns-2)

@@ -1,0 +1,17 @@
+-- Where the call has a row for the table, and where it has none. Assumes nothing.
+use borrow.Author.Needs.{needs}
+use mathlib.Core.Path.{_∙_, sym}
+use Rattle.admit.proofs.ask_wire.Statement.{statement}
+use Rattle.admit.proofs.ask_wire.Tie as tie
+
+goes-requires : tie.Need-goes-requires
+goes-requires c κs = search needs
+
+returns : tie.Need-returns
+returns c = rw (sym (c .before .goes .ensures) ∙ c .if1 .taken)
+
+returns-2 : tie.Need-returns-2
+returns-2 c = rw (sym (c .before .goes .ensures) ∙ c .if1 .left)
+
+pub ask-wire-spec : {M : Type 1} → statement M
+ask-wire-spec = tie.close (tie.spec goes-requires returns returns-2)

@@ -1,0 +1,600 @@
+// A call that adds, over the tables of seven kinds: what those of each kind are asked, what comes of their answers, and the rows that are then stored. All over plain values, but for `answer`, which reads tables.
+use adding::insert;
+use adding::reserve;
+use adding::reserve::past;
+use range::Reply;
+use range::wide;
+use range::wide16;
+use request::call::Call;
+use request::call::Devices;
+use request::call::Events;
+use request::call::Hold;
+use request::call::Lpis;
+use request::call::PoolRange;
+use request::call::Use;
+use store::Put;
+use store::WirePut;
+use tables::DeviceId;
+use tables::Pool;
+use tables::PoolRow;
+use tables::RangeRow;
+use tables::WireRow;
+ghost use mathlib.Core.Path.{_≡_};
+ghost use lib.Dec.{T};
+ghost use Rattle.definition.specs.Tables.{poolLimit, sameSpan, blankSpan, tidy};
+ghost use Rattle.tables.specs.Views.{poolView};
+ghost use Rattle.adding.specs.Whole.{wireRow};
+ghost use Rattle.request.specs.declared.call.PoolRange.the-variants.{Msi as msiRange};
+ghost use Rattle.request.specs.declared.call.Hold.the-variants.{Devices as devicesHeld, Events as eventsHeld, Lpis as lpisHeld, Pair as pairHeld};
+ghost use Rattle.admit.specs.Adds.{noPoolRow, noRow, noWire, nothing, ranged, held, useNumber, goesTo, turnOf, rangeFor, askOf, wireAskOf, passesOf, startsOf, PoolAsked, HoldAsked, Asked};
+ghost use Rattle.admit.specs.Judged.{idleOf, oneOf, wholly, inTurn, verdictOf, staysOf, poolPutOf, heldPutOf, wirePutOf, enteredView};
+
+pub mod answer;
+
+// Where a call's rows go: to the automatic pools, the fixed pools, the reservations. 0 is nowhere.
+const AUTOMATIC: u64 = 1;
+
+const FIXED: u64 = 2;
+
+const HELD: u64 = 3;
+
+// The tables, as kinds: MMIO 1, ports 2, inputs 3, host IRQs 4, devices 5, events 6, LPIs 7. An MSI domain is for 5, 6 and 7, a pair for 3 and 4.
+const DOMAIN: u64 = 8;
+
+const PAIR: u64 = 9;
+
+// What a call adds: the kind, and the rows for its tables. Of `first`, `second` and `third` a kind other than an MSI domain has the first alone.
+pub struct Adds {
+    pub to: u64,
+    pub kind: u64,
+    pub first: PoolRow,
+    pub second: PoolRow,
+    pub third: PoolRow,
+    pub row: RangeRow,
+    pub wire: WireRow,
+}
+
+// What the tables of one kind are asked: nothing where `to` is 0, else whether the table that it names takes the row.
+pub struct Ask {
+    pub to: u64,
+    pub range: PoolRow,
+    pub row: RangeRow,
+}
+
+// .. those of inputs.
+pub struct WireAsk {
+    pub to: u64,
+    pub range: PoolRow,
+    pub row: WireRow,
+}
+
+// What comes of the answers: how many of the call's rows are stored, in their turn, and what is said.
+pub struct Verdict {
+    pub adds: Adds,
+    pub rows: u64,
+    pub reply: Reply,
+}
+
+// A range for a pool table, or none.
+pub struct PoolPut {
+    pub go: bool,
+    pub row: PoolRow,
+}
+
+// ---- what a call adds
+
+fn no_pool_row() -> PoolRow
+    ensures { λ r. ⌜ r ≡ noPoolRow ⌝ }
+{
+    PoolRow {
+        controller: 0,
+        its: 0,
+        start: 0,
+        end: 0,
+    }
+}
+
+fn no_row() -> RangeRow
+    ensures { λ r. ⌜ r ≡ noRow ⌝ }
+{
+    RangeRow {
+        controller: 0,
+        its: 0,
+        device: 0,
+        start: 0,
+        end: 0,
+        owner: 0,
+    }
+}
+
+// A row of an input.
+fn wire(controller: u32, input: u64, trigger: u32, sharing: u32, owner: u32) -> WireRow
+    ensures { λ r. ⌜ r ≡ wireRow controller input trigger sharing owner ⌝ }
+{
+    WireRow {
+        controller: controller,
+        input: input,
+        trigger: trigger,
+        sharing: sharing,
+        owner: owner,
+    }
+}
+
+// Ranges for the pools: one of a kind, or the three of an MSI domain.
+fn ranges(to: u64, kind: u64, first: PoolRow, second: PoolRow, third: PoolRow) -> Adds
+    ensures { λ q. ⌜ q ≡ ranged to kind first second third ⌝ }
+{
+    let row = no_row();
+    let none = wire(0, 0, 0, 0, 0);
+    Adds {
+        to,
+        kind,
+        first,
+        second,
+        third,
+        row,
+        wire: none,
+    }
+}
+
+// Rows for the reservations: a range, an input, or one of each.
+fn rows(kind: u64, row: RangeRow, input: WireRow) -> Adds
+    ensures { λ q. ⌜ q ≡ held kind row input ⌝ }
+{
+    let none = no_pool_row();
+    Adds {
+        to: HELD,
+        kind,
+        first: none,
+        second: none,
+        third: none,
+        row,
+        wire: input,
+    }
+}
+
+// The number of a use.
+fn use_number(u: Use) -> u64
+    ensures { λ n. ⌜ n ≡ useNumber u ⌝ }
+{
+    match u {
+        Use::Automatic => AUTOMATIC,
+        Use::Fixed => FIXED,
+    }
+}
+
+// An MSI domain: devices, events, LPIs.
+fn of_domain(
+    to: u64,
+    controller: u32,
+    its: u32,
+    devices: Devices,
+    events: Events,
+    lpis: Lpis,
+) -> Adds
+    ensures { λ q. ⌜ PoolAsked to (msiRange controller its devices events lpis) q ⌝ }
+{
+    let first = insert::row(controller, its, wide(devices.start.0), wide(devices.end.0));
+    let second = insert::row(controller, its, wide(events.start.0), wide(events.end.0));
+    let third = insert::row(controller, 0, wide(lpis.start.0), wide(lpis.end.0));
+    ranges(to, DOMAIN, first, second, third)
+}
+
+// A range for the pools of a use.
+fn of_pool(to: u64, p: PoolRange) -> Adds
+    ensures { λ q. ⌜ PoolAsked to p q ⌝ }
+{
+    match p {
+        PoolRange::Mmio(start, end) => {
+            let r = insert::row(0, 0, start, end);
+            ranges(to, 1, r, r, r)
+        }
+        PoolRange::Pio(start, end) => {
+            let r = insert::row(0, 0, wide16(start), wide16(end));
+            ranges(to, 2, r, r, r)
+        }
+        PoolRange::Host(start, end) => {
+            let r = insert::row(0, 0, start, end);
+            ranges(to, 4, r, r, r)
+        }
+        PoolRange::Input(controller, start, end) => {
+            let r = insert::row(controller, 0, start, end);
+            ranges(to, 3, r, r, r)
+        }
+        PoolRange::Msi(controller, its, devices, events, lpis) => of_domain(
+            to,
+            controller,
+            its,
+            devices,
+            events,
+            lpis,
+        ),
+    }
+}
+
+// A range of DeviceIDs of one ITS.
+fn of_devices(owner: u32, controller: u32, its: u32, ids: Devices) -> Adds
+    ensures { λ q. ⌜ HoldAsked owner (devicesHeld controller its ids) q ⌝ }
+{
+    let r = reserve::row(
+        controller,
+        its,
+        0,
+        wide(ids.start.0),
+        wide(ids.end.0),
+        owner,
+    );
+    rows(5, r, wire(0, 0, 0, 0, 0))
+}
+
+// A range of EventIDs of one DeviceID.
+fn of_events(owner: u32, controller: u32, its: u32, id: DeviceId, ids: Events) -> Adds
+    ensures { λ q. ⌜ HoldAsked owner (eventsHeld controller its id ids) q ⌝ }
+{
+    let r = reserve::row(
+        controller,
+        its,
+        id.0,
+        wide(ids.start.0),
+        wide(ids.end.0),
+        owner,
+    );
+    rows(6, r, wire(0, 0, 0, 0, 0))
+}
+
+// A range of LPIs of one controller.
+fn of_lpis(owner: u32, controller: u32, ids: Lpis) -> Adds
+    ensures { λ q. ⌜ HoldAsked owner (lpisHeld controller ids) q ⌝ }
+{
+    let r = reserve::row(controller, 0, 0, wide(ids.start.0), wide(ids.end.0), owner);
+    rows(7, r, wire(0, 0, 0, 0, 0))
+}
+
+// An input, Exclusive, with a host IRQ.
+fn of_pair(owner: u32, controller: u32, input: u64, trigger: u32, irq: u64) -> Adds
+    ensures { λ q. ⌜ HoldAsked owner (pairHeld controller input trigger irq) q ⌝ }
+{
+    let r = reserve::row(0, 0, 0, irq, past(irq), owner);
+    rows(PAIR, r, wire(controller, input, trigger, 0, owner))
+}
+
+// Something held by an owner.
+fn of_hold(owner: u32, h: Hold) -> Adds
+    ensures { λ q. ⌜ HoldAsked owner h q ⌝ }
+{
+    match h {
+        Hold::Mmio(a, b) => rows(1, reserve::row(0, 0, 0, a, b, owner), wire(0, 0, 0, 0, 0)),
+        Hold::Pio(a, b) => rows(
+            2,
+            reserve::row(0, 0, 0, wide16(a), wide16(b), owner),
+            wire(0, 0, 0, 0, 0),
+        ),
+        Hold::Host(a, b) => rows(4, reserve::row(0, 0, 0, a, b, owner), wire(0, 0, 0, 0, 0)),
+        Hold::Input(c, n, trigger, sharing) => rows(
+            3,
+            no_row(),
+            wire(c, n, trigger, sharing, owner),
+        ),
+        Hold::Devices(c, its, ids) => of_devices(owner, c, its, ids),
+        Hold::Events(c, its, id, ids) => of_events(owner, c, its, id, ids),
+        Hold::Lpis(c, ids) => of_lpis(owner, c, ids),
+        Hold::Pair(c, n, trigger, irq) => of_pair(owner, c, n, trigger, irq),
+    }
+}
+
+// No row for any table.
+fn nothing() -> Adds
+    ensures { λ q. ⌜ q ≡ nothing ⌝ }
+{
+    let none = no_pool_row();
+    ranges(0, 0, none, none, none)
+}
+
+// What a call adds; one that adds nothing has the kind 0.
+pub fn asked(c: Call) -> Adds
+    ensures { λ q. ⌜ Asked c q ⌝ }
+{
+    match c {
+        Call::Pool(u, p) => of_pool(use_number(u), p),
+        Call::Hold(owner, h) => of_hold(owner, h),
+        Call::Start => nothing(),
+        Call::Want(_) => nothing(),
+        Call::Bad => nothing(),
+    }
+}
+
+// ---- what a kind's tables are asked
+
+// Whether a call of this kind has a row for the tables of kind `k`.
+pub fn goes(kind: u64, k: u64) -> bool
+    ensures { λ b. ⌜ b ≡ goesTo kind k ⌝ }
+{
+    if kind == k {
+        return true;
+    }
+    if kind == DOMAIN {
+        return 5 <= k;
+    }
+    if kind == PAIR {
+        if k == 3 {
+            return true;
+        }
+        return k == 4;
+    }
+    false
+}
+
+// In an MSI domain devices come first, then events, then LPIs.
+pub fn turn(kind: u64, k: u64) -> u64
+    ensures { λ n. ⌜ n ≡ turnOf kind k ⌝ }
+{
+    if kind == DOMAIN {
+        if k == 6 {
+            return 1;
+        }
+        if k == 7 {
+            return 2;
+        }
+    }
+    0
+}
+
+// The range for the pools of a kind.
+pub fn range_for(q: Adds, k: u64) -> PoolRow
+    ensures { λ r. ⌜ r ≡ rangeFor q k ⌝ }
+{
+    if k == 6 {
+        return q.second;
+    }
+    if k == 7 {
+        return q.third;
+    }
+    q.first
+}
+
+// The tables of a kind of ranges.
+pub fn ask_range(q: Adds, k: u64) -> Ask
+    ensures { λ a. ⌜ a ≡ askOf q k ⌝ }
+{
+    let range = range_for(q, k);
+    let row = q.row;
+    if goes(q.kind, k) {
+        return Ask {
+            to: q.to,
+            range,
+            row,
+        };
+    }
+    Ask { to: 0, range, row }
+}
+
+// The tables of inputs.
+pub fn ask_wire(q: Adds) -> WireAsk
+    ensures { λ a. ⌜ a ≡ wireAskOf q ⌝ }
+{
+    let range = q.first;
+    let row = q.wire;
+    if goes(q.kind, 3) {
+        return WireAsk {
+            to: q.to,
+            range,
+            row,
+        };
+    }
+    WireAsk { to: 0, range, row }
+}
+
+// ---- what comes of the answers
+
+// All rows, or none.
+pub fn whole(q: Adds, reply: Reply) -> Verdict
+    ensures { λ v. ⌜ v ≡ wholly q reply ⌝ }
+{
+    let mut rows: u64 = 0;
+    if reply.number == 0 {
+        rows = 3;
+    }
+    Verdict {
+        adds: q,
+        rows,
+        reply,
+    }
+}
+
+// Devices, events, LPIs: each range gets its own answer in its turn, and rows before a refused range stay.
+pub fn in_turn(q: Adds, device: Reply, event: Reply, lpi: Reply) -> Verdict
+    ensures { λ v. ⌜ v ≡ inTurn q device event lpi ⌝ }
+{
+    if device.number != 0 {
+        return Verdict {
+            adds: q,
+            rows: 0,
+            reply: device,
+        };
+    }
+    if event.number != 0 {
+        return Verdict {
+            adds: q,
+            rows: 1,
+            reply: event,
+        };
+    }
+    if lpi.number != 0 {
+        return Verdict {
+            adds: q,
+            rows: 2,
+            reply: lpi,
+        };
+    }
+    Verdict {
+        adds: q,
+        rows: 3,
+        reply: lpi,
+    }
+}
+
+// The answer of the one table that is asked.
+pub fn one(
+    kind: u64,
+    mmio: Reply,
+    pio: Reply,
+    input: Reply,
+    host: Reply,
+    device: Reply,
+    event: Reply,
+    lpi: Reply,
+) -> Reply
+    ensures { λ r. ⌜ r ≡ oneOf kind mmio pio input host device event lpi ⌝ }
+{
+    if kind == 1 {
+        return mmio;
+    }
+    if kind == 2 {
+        return pio;
+    }
+    if kind == 3 {
+        return input;
+    }
+    if kind == 4 {
+        return host;
+    }
+    if kind == 5 {
+        return device;
+    }
+    if kind == 6 {
+        return event;
+    }
+    lpi
+}
+
+// What comes of the answers of all tables: of a pair the earlier, and both rows or neither.
+pub fn judge(
+    q: Adds,
+    mmio: Reply,
+    pio: Reply,
+    input: Reply,
+    host: Reply,
+    device: Reply,
+    event: Reply,
+    lpi: Reply,
+) -> Verdict
+    ensures { λ v. ⌜ v ≡ verdictOf q mmio pio input host device event lpi ⌝ }
+{
+    if q.kind == DOMAIN {
+        return in_turn(q, device, event, lpi);
+    }
+    if q.kind == PAIR {
+        return whole(q, answers::earlier(input, host));
+    }
+    whole(q, one(q.kind, mmio, pio, input, host, device, event, lpi))
+}
+
+// ---- what is stored
+
+// Whether the row of kind `k` is stored where it is to go.
+pub fn stays(v: Verdict, to: u64, k: u64) -> bool
+    ensures { λ b. ⌜ b ≡ staysOf v to k ⌝ }
+{
+    let q = v.adds;
+    if q.to != to {
+        return false;
+    }
+    if !goes(q.kind, k) {
+        return false;
+    }
+    turn(q.kind, k) < v.rows
+}
+
+// The range for a pool table.
+pub fn pool_put(v: Verdict, to: u64, k: u64) -> PoolPut
+    ensures { λ p. ⌜ p ≡ poolPutOf v to k ⌝ }
+{
+    let go = stays(v, to, k);
+    let q = v.adds;
+    let row = range_for(q, k);
+    PoolPut { go, row }
+}
+
+// The row for a reservation table of ranges.
+pub fn held_put(v: Verdict, k: u64) -> Put
+    ensures { λ p. ⌜ p ≡ heldPutOf v k ⌝ }
+{
+    let go = stays(v, HELD, k);
+    let q = v.adds;
+    let row = q.row;
+    Put { go, row }
+}
+
+// .. of inputs.
+pub fn wire_put(v: Verdict) -> WirePut
+    ensures { λ p. ⌜ p ≡ wirePutOf v ⌝ }
+{
+    let go = stays(v, HELD, 3);
+    let q = v.adds;
+    let row = q.wire;
+    WirePut { go, row }
+}
+
+// Whether the verdict has no row for the tables that `to` names.
+pub fn idle(v: Verdict, to: u64) -> bool
+    ensures { λ b. ⌜ b ≡ idleOf v to ⌝ }
+{
+    let q = v.adds;
+    if q.to == to {
+        return false;
+    }
+    true
+}
+
+// The pool table with the range, or as it was.
+pub fn entered(t: Pool, put: PoolPut) -> Pool
+    requires { ⌜ T (tidy poolLimit (sameSpan blankSpan) (poolView t)) ⌝ }
+    ensures { λ x. ⌜ poolView x ≡ enteredView put (poolView t) ⌝ }
+{
+    if !put.go {
+        return t;
+    }
+    let x = range::insert_range(t, put.row);
+    x.pool
+}
+
+// What is said.
+pub fn reply(v: Verdict) -> Reply
+    ensures { λ r. ⌜ r ≡ v .reply ⌝ }
+{
+    v.reply
+}
+
+// An answer that names no owner.
+pub fn plain(number: u64) -> Reply
+    ensures { λ r. ⌜ r ≡ record { number = number; owner = 0 } ⌝ }
+{
+    Reply { number, owner: 0 }
+}
+
+// ---- calls that add nothing
+
+// Whether a call is a request, or cannot be read.
+pub fn passes(c: Call) -> bool
+    ensures { λ b. ⌜ b ≡ passesOf c ⌝ }
+{
+    match c {
+        Call::Pool(_, _) => false,
+        Call::Hold(_, _) => false,
+        Call::Start => false,
+        Call::Want(_) => true,
+        Call::Bad => true,
+    }
+}
+
+pub fn starts(c: Call) -> bool
+    ensures { λ b. ⌜ b ≡ startsOf c ⌝ }
+{
+    match c {
+        Call::Pool(_, _) => false,
+        Call::Hold(_, _) => false,
+        Call::Start => true,
+        Call::Want(_) => false,
+        Call::Bad => false,
+    }
+}

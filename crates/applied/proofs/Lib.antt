@@ -1,0 +1,12 @@
+pub mod Parts
+pub mod Pieces
+pub mod CopyWalk
+pub mod PoolsWalk
+pub mod HeldWalk
+pub mod Asking
+pub mod KeptLaws
+pub mod GivenLaws
+pub mod FillLaws
+pub mod HoldLaws
+pub mod DecideLaws
+pub mod ApplyLaws

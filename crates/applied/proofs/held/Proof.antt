@@ -1,0 +1,218 @@
+-- `held` meets its contract: the walk of HeldWalk.antt at the crate's state. Assumes nothing.
+use Rattle.walks.proofs.Prelude.{_≡_, refl, sym, ap, subst, _∙_, Bool, true, false, not, ℕ, _+_, _<_, _^_, arith, [], _∷_, List, none, URA, fullShare, T as Holds, ltb, ltb→lt, lit<, Name, named, w64, field, Local, Fn, Val, WT, hasTy, vunit, vint, vbool, vptr, SProp, ent, emp, id⊢, GName, Lft, Share, Memory, Routine, Heap, Calls, WpFn, Tables, Atoms, Fun, factI, givenOf, tables, tablesOf, Given, Item, mean, _$_, _∵_, !, qed, fjoin, done, fld, stop, unit-lit, of-opd, fmOf, Is, uint-makes, uint-tells, bool-makes, bool-tells, nothing-makes, nothing-tells, u64, bool, unit, plain, owned, nothing, Meets, tripleOf, Contract, Triple, entered, cited, yes}
+use denote.Struct.Laws as LL
+use Rattle.tables.specs.Whole.{holders}
+use Rattle.tables.specs.declared.Ranges.{Ranges}
+use Rattle.tables.specs.Views.{stateView}
+use Rattle.tables.specs.declared.State.{State}
+use Rattle.tables.proofs.State as T
+use Rattle.tables.proofs.State.Laws as T′
+use Rattle.tables.proofs.Ranges as Ra
+use Rattle.tables.proofs.Ranges.Laws as Ra′
+use Rattle.tables.proofs.Wires as Wi
+use Rattle.tables.proofs.Holders.Laws as Ho′
+use Rattle.walks.proofs.Columns.{offset}
+use Rattle.store.specs.Store.{Free, putRange, putWire}
+use Rattle.store.specs.declared.Put.{Put}
+use Rattle.store.specs.declared.WirePut.{WirePut}
+use Rattle.store.proofs.Put as Pu
+use Rattle.store.proofs.Put.Laws as Pu′
+use Rattle.store.proofs.WirePut as Wp
+use Rattle.store.proofs.WirePut.Laws as Wp′
+use Rattle.store.proofs.range as r
+use Rattle.store.proofs.wire as w
+use Rattle.inplace.proofs.LendPart.{Makes, Leaves}
+use Rattle.inplace.proofs.Callees.{made, left}
+use Rattle.admit.specs.Judged.{heldPutOf, wirePutOf}
+use Rattle.admit.specs.declared.Verdict.{Verdict}
+use Rattle.admit.proofs.Verdict as Ve
+use Rattle.admit.proofs.Verdict.Laws as Ve′
+use Rattle.admit.proofs.held_put as p
+use Rattle.admit.proofs.wire_put as x
+use Rattle.plan.proofs.Beside.{Stands}
+use Rattle.applied.specs.Kept.{heldWith, HeldFree, withHeld}
+use Rattle.applied.proofs.Asking.{one-asks}
+use Rattle.applied.proofs.Pieces.{set-held-mmio, set-held-pio, set-held-input, set-held-host, set-held-device, set-held-event, set-held-lpi}
+use Rattle.applied.proofs.HeldWalk.{heldCode, Stage, held-walk}
+use Rattle.applied.proofs.held as f
+
+-- the function's code is the walk's
+same-code : heldCode p.Symbol.name x.Symbol.name r.Symbol.name w.Symbol.name (T.the-row .written .ty) (Ra.the-row .written .ty) (Wi.the-row .written .ty) T′.mir Ve′.mir Pu′.mir Wp′.mir ≡ f.Code.function
+same-code = refl
+
+abbrev valV : Verdict → Val
+valV x = LL.val Ve.the-type Ve′.the-laws x
+
+abbrev valP : Put → Val
+valP d = LL.val Pu.the-type Pu′.the-laws d
+
+abbrev valW : WirePut → Val
+valW d = LL.val Wp.the-type Wp′.the-laws d
+
+module _ {M : Type 1} (𝓤 : URA M) (H : Heap 𝓤) (A : Atoms 𝓤) (at-mem : Memory → SProp 𝓤) (run : Routine → Fun 𝓤) (W : Given 𝓤 H A) (𝓣 : Tables 𝓤 H) (known-p : Triple 𝓤 (𝓣 .C p.Symbol.name) (tripleOf 𝓤 H A p.signature (p.spec 𝓤 H A at-mem run))) (known-x : Triple 𝓤 (𝓣 .C x.Symbol.name) (tripleOf 𝓤 H A x.signature (x.spec 𝓤 H A at-mem run))) (known-r : Triple 𝓤 (𝓣 .C r.Symbol.name) (tripleOf 𝓤 H A r.signature (r.spec 𝓤 H A at-mem run))) (known-w : Triple 𝓤 (𝓣 .C w.Symbol.name) (tripleOf 𝓤 H A w.signature (w.spec 𝓤 H A at-mem run))) where
+  module _ (κ : Lft) (q : Share) (b o : ℕ) (γ : GName) (h : State) (v : Verdict) (v-is : Is Ve.the-row v (valV v ∷ [])) (free : HeldFree v (h .held)) where
+    abbrev h₀ : State
+    h₀ = h
+
+    abbrev h₁ : State
+    h₁ = withHeld (holders (putRange (h .held .mmio) (heldPutOf v 1)) (h .held .pio) (h .held .input) (h .held .host) (h .held .device) (h .held .event) (h .held .lpi)) h
+
+    abbrev h₂ : State
+    h₂ = withHeld (holders (putRange (h .held .mmio) (heldPutOf v 1)) (putRange (h .held .pio) (heldPutOf v 2)) (h .held .input) (h .held .host) (h .held .device) (h .held .event) (h .held .lpi)) h
+
+    abbrev h₃ : State
+    h₃ = withHeld (holders (putRange (h .held .mmio) (heldPutOf v 1)) (putRange (h .held .pio) (heldPutOf v 2)) (putWire (h .held .input) (wirePutOf v)) (h .held .host) (h .held .device) (h .held .event) (h .held .lpi)) h
+
+    abbrev h₄ : State
+    h₄ = withHeld (holders (putRange (h .held .mmio) (heldPutOf v 1)) (putRange (h .held .pio) (heldPutOf v 2)) (putWire (h .held .input) (wirePutOf v)) (putRange (h .held .host) (heldPutOf v 4)) (h .held .device) (h .held .event) (h .held .lpi)) h
+
+    abbrev h₅ : State
+    h₅ = withHeld (holders (putRange (h .held .mmio) (heldPutOf v 1)) (putRange (h .held .pio) (heldPutOf v 2)) (putWire (h .held .input) (wirePutOf v)) (putRange (h .held .host) (heldPutOf v 4)) (putRange (h .held .device) (heldPutOf v 5)) (h .held .event) (h .held .lpi)) h
+
+    abbrev h₆ : State
+    h₆ = withHeld (holders (putRange (h .held .mmio) (heldPutOf v 1)) (putRange (h .held .pio) (heldPutOf v 2)) (putWire (h .held .input) (wirePutOf v)) (putRange (h .held .host) (heldPutOf v 4)) (putRange (h .held .device) (heldPutOf v 5)) (putRange (h .held .event) (heldPutOf v 6)) (h .held .lpi)) h
+
+    abbrev h₇ : State
+    h₇ = withHeld (holders (putRange (h .held .mmio) (heldPutOf v 1)) (putRange (h .held .pio) (heldPutOf v 2)) (putWire (h .held .input) (wirePutOf v)) (putRange (h .held .host) (heldPutOf v 4)) (putRange (h .held .device) (heldPutOf v 5)) (putRange (h .held .event) (heldPutOf v 6)) (putRange (h .held .lpi) (heldPutOf v 7))) h
+
+    abbrev Good : Put → Type 0
+    Good y = Is Pu.the-row y (valP y ∷ [])
+
+    makes-put : (k : ℕ) → Holds (ltb k (2 ^ 64)) → Makes 𝓤 H A W (𝓣 .C) p.Symbol.name (valV v ∷ vint w64 k ∷ []) (valP (heldPutOf v k)) (Good (heldPutOf v k))
+    makes-put k low =
+        made 𝓤 H A W (𝓣 .C) (fmOf 𝓤 H (W .laws) 𝓣) p.Symbol.name (p.signature .params) (p.ended .kept) Pu.the-row valP (LL.tells Pu.the-type Pu′.the-laws) (p.clauses 𝓤 H A at-mem run) known-p (v, (k, tt)) (valV v ∷ [], (vint w64 k ∷ [], tt)) tt (heldPutOf v k)
+        (qed W [] ∵ nothing ! $ owned ! u64 (Is u64) (uint-makes 𝓤 H A W w64) k (vint w64 k ∷ []) (refl, ltb→lt k (2 ^ 64) low) $ fjoin ! $ owned ! Ve.the-row (Is Ve.the-row) (LL.makes Ve.the-type Ve′.the-plain 𝓤 H A) v _ v-is $ fjoin ! $ done !) (id⊢ 𝓤 _) (λ z y. id⊢ 𝓤 _)
+
+    makes-wire : Makes 𝓤 H A W (𝓣 .C) x.Symbol.name (valV v ∷ []) (valW (wirePutOf v)) (Is Wp.the-row (wirePutOf v) (valW (wirePutOf v) ∷ []))
+    makes-wire =
+        made 𝓤 H A W (𝓣 .C) (fmOf 𝓤 H (W .laws) 𝓣) x.Symbol.name (x.signature .params) (x.ended .kept) Wp.the-row valW (LL.tells Wp.the-type Wp′.the-laws) (x.clauses 𝓤 H A at-mem run) known-x (v, tt) (valV v ∷ [], tt) tt (wirePutOf v)
+        (qed W [] ∵ nothing ! $ owned ! Ve.the-row (Is Ve.the-row) (LL.makes Ve.the-type Ve′.the-plain 𝓤 H A) v _ v-is $ fjoin ! $ done !) (id⊢ 𝓤 _) (λ z y. id⊢ 𝓤 _)
+
+    abbrev spot : ℕ → ℕ
+    spot j = (o + offset T′.mir 2) + offset Ho′.mir j
+
+    stores : (j : ℕ) (t : Ranges) (y : Put) → Free (t .n) (y .go) → Good y → Leaves 𝓤 H A W (𝓣 .C) r.Symbol.name (named 0) Ra.the-row t (putRange t y) b (spot j) (valP y)
+    stores j t y room good =
+        left 𝓤 H A W (𝓣 .C) (fmOf 𝓤 H (W .laws) 𝓣) r.Symbol.name Ra.the-row Pu.the-row tt (r.clauses 𝓤 H A at-mem run) known-r b (spot j) t (putRange t y) y (valP y) (λ ν γ₁. tt) (LL.makes Pu.the-type Pu′.the-plain 𝓤 H A y _ good)
+        (λ ν γ₁. factI 𝓤 (Free (t .n) (y .go)) (emp 𝓤) room) (λ ν γ₁ ws. id⊢ 𝓤 _)
+
+    s₀ : Stage 𝓤 H A W (𝓣 .C) (fmOf 𝓤 H (W .laws) 𝓣) T.the-row T′.mir κ q b o γ (valV v) Ra.the-row Pu′.mir r.Symbol.name p.Symbol.name (valV v ∷ vint w64 1 ∷ []) 0 h₀ h₁
+    s₀ = record {
+      was = h .held .mmio;
+      is = putRange (h .held .mmio) (heldPutOf v 1);
+      row = valP (heldPutOf v 1);
+      spot = spot 0;
+      lies = refl;
+      good = Good (heldPutOf v 1);
+      typed = λ good. LL.lawful Pu.the-type Pu′.the-laws 𝓤 H A W .typed (heldPutOf v 1) _ good .0;
+      makes = makes-put 1 tt;
+      leaves = λ good. stores 0 (h .held .mmio) (heldPutOf v 1) (free .mmio) good;
+      piece = set-held-mmio 𝓤 H A W b o h₀ (putRange (h .held .mmio) (heldPutOf v 1));
+    }
+
+    s₁ : Stage 𝓤 H A W (𝓣 .C) (fmOf 𝓤 H (W .laws) 𝓣) T.the-row T′.mir κ q b o γ (valV v) Ra.the-row Pu′.mir r.Symbol.name p.Symbol.name (valV v ∷ vint w64 2 ∷ []) 1 h₁ h₂
+    s₁ = record {
+      was = h .held .pio;
+      is = putRange (h .held .pio) (heldPutOf v 2);
+      row = valP (heldPutOf v 2);
+      spot = spot 1;
+      lies = refl;
+      good = Good (heldPutOf v 2);
+      typed = λ good. LL.lawful Pu.the-type Pu′.the-laws 𝓤 H A W .typed (heldPutOf v 2) _ good .0;
+      makes = makes-put 2 tt;
+      leaves = λ good. stores 1 (h .held .pio) (heldPutOf v 2) (free .pio) good;
+      piece = set-held-pio 𝓤 H A W b o h₁ (putRange (h .held .pio) (heldPutOf v 2));
+    }
+
+    s₂ : Stage 𝓤 H A W (𝓣 .C) (fmOf 𝓤 H (W .laws) 𝓣) T.the-row T′.mir κ q b o γ (valV v) Wi.the-row Wp′.mir w.Symbol.name x.Symbol.name (valV v ∷ []) 2 h₂ h₃
+    s₂ = record {
+      was = h .held .input;
+      is = putWire (h .held .input) (wirePutOf v);
+      row = valW (wirePutOf v);
+      spot = spot 2;
+      lies = refl;
+      good = Is Wp.the-row (wirePutOf v) (valW (wirePutOf v) ∷ []);
+      typed = λ good. LL.lawful Wp.the-type Wp′.the-laws 𝓤 H A W .typed (wirePutOf v) _ good .0;
+      makes = makes-wire;
+      leaves = λ good.
+          left 𝓤 H A W (𝓣 .C) (fmOf 𝓤 H (W .laws) 𝓣) w.Symbol.name Wi.the-row Wp.the-row tt (w.clauses 𝓤 H A at-mem run) known-w b (spot 2) (h .held .input) (putWire (h .held .input) (wirePutOf v)) (wirePutOf v) (valW (wirePutOf v)) (λ ν γ₁. tt) (LL.makes Wp.the-type Wp′.the-plain 𝓤 H A (wirePutOf v) _ good)
+          (λ ν γ₁. factI 𝓤 (Free (h .held .input .n) (wirePutOf v .go)) (emp 𝓤) (free .input)) (λ ν γ₁ ws. id⊢ 𝓤 _);
+      piece = set-held-input 𝓤 H A W b o h₂ (putWire (h .held .input) (wirePutOf v));
+    }
+
+    s₃ : Stage 𝓤 H A W (𝓣 .C) (fmOf 𝓤 H (W .laws) 𝓣) T.the-row T′.mir κ q b o γ (valV v) Ra.the-row Pu′.mir r.Symbol.name p.Symbol.name (valV v ∷ vint w64 4 ∷ []) 3 h₃ h₄
+    s₃ = record {
+      was = h .held .host;
+      is = putRange (h .held .host) (heldPutOf v 4);
+      row = valP (heldPutOf v 4);
+      spot = spot 3;
+      lies = refl;
+      good = Good (heldPutOf v 4);
+      typed = λ good. LL.lawful Pu.the-type Pu′.the-laws 𝓤 H A W .typed (heldPutOf v 4) _ good .0;
+      makes = makes-put 4 tt;
+      leaves = λ good. stores 3 (h .held .host) (heldPutOf v 4) (free .host) good;
+      piece = set-held-host 𝓤 H A W b o h₃ (putRange (h .held .host) (heldPutOf v 4));
+    }
+
+    s₄ : Stage 𝓤 H A W (𝓣 .C) (fmOf 𝓤 H (W .laws) 𝓣) T.the-row T′.mir κ q b o γ (valV v) Ra.the-row Pu′.mir r.Symbol.name p.Symbol.name (valV v ∷ vint w64 5 ∷ []) 4 h₄ h₅
+    s₄ = record {
+      was = h .held .device;
+      is = putRange (h .held .device) (heldPutOf v 5);
+      row = valP (heldPutOf v 5);
+      spot = spot 4;
+      lies = refl;
+      good = Good (heldPutOf v 5);
+      typed = λ good. LL.lawful Pu.the-type Pu′.the-laws 𝓤 H A W .typed (heldPutOf v 5) _ good .0;
+      makes = makes-put 5 tt;
+      leaves = λ good. stores 4 (h .held .device) (heldPutOf v 5) (free .device) good;
+      piece = set-held-device 𝓤 H A W b o h₄ (putRange (h .held .device) (heldPutOf v 5));
+    }
+
+    s₅ : Stage 𝓤 H A W (𝓣 .C) (fmOf 𝓤 H (W .laws) 𝓣) T.the-row T′.mir κ q b o γ (valV v) Ra.the-row Pu′.mir r.Symbol.name p.Symbol.name (valV v ∷ vint w64 6 ∷ []) 5 h₅ h₆
+    s₅ = record {
+      was = h .held .event;
+      is = putRange (h .held .event) (heldPutOf v 6);
+      row = valP (heldPutOf v 6);
+      spot = spot 5;
+      lies = refl;
+      good = Good (heldPutOf v 6);
+      typed = λ good. LL.lawful Pu.the-type Pu′.the-laws 𝓤 H A W .typed (heldPutOf v 6) _ good .0;
+      makes = makes-put 6 tt;
+      leaves = λ good. stores 5 (h .held .event) (heldPutOf v 6) (free .event) good;
+      piece = set-held-event 𝓤 H A W b o h₅ (putRange (h .held .event) (heldPutOf v 6));
+    }
+
+    s₆ : Stage 𝓤 H A W (𝓣 .C) (fmOf 𝓤 H (W .laws) 𝓣) T.the-row T′.mir κ q b o γ (valV v) Ra.the-row Pu′.mir r.Symbol.name p.Symbol.name (valV v ∷ vint w64 7 ∷ []) 6 h₆ h₇
+    s₆ = record {
+      was = h .held .lpi;
+      is = putRange (h .held .lpi) (heldPutOf v 7);
+      row = valP (heldPutOf v 7);
+      spot = spot 6;
+      lies = refl;
+      good = Good (heldPutOf v 7);
+      typed = λ good. LL.lawful Pu.the-type Pu′.the-laws 𝓤 H A W .typed (heldPutOf v 7) _ good .0;
+      makes = makes-put 7 tt;
+      leaves = λ good. stores 6 (h .held .lpi) (heldPutOf v 7) (free .lpi) good;
+      piece = set-held-lpi 𝓤 H A W b o h₆ (putRange (h .held .lpi) (heldPutOf v 7));
+    }
+
+    walk : (Kf : Val → SProp 𝓤) → ((d : State) → d ≡ withHeld (heldWith v (h .held)) h → ent 𝓤 (mean 𝓤 H A (Stands 𝓤 H A W κ q b o γ d)) (Kf vunit)) → ent 𝓤 (mean 𝓤 H A (Stands 𝓤 H A W κ q b o γ h)) (WpFn 𝓤 H (𝓣 .C) (𝓣 .Λ) f.Code.function (vptr b o ∷ valV v ∷ []) Kf)
+    walk Kf exits = subst (λ (c : Fn). ent 𝓤 (mean 𝓤 H A (Stands 𝓤 H A W κ q b o γ h)) (WpFn 𝓤 H (𝓣 .C) (𝓣 .Λ) c (vptr b o ∷ valV v ∷ []) Kf)) same-code
+        (held-walk 𝓤 H A W (𝓣 .C) (fmOf 𝓤 H (W .laws) 𝓣) T.the-row T′.mir κ q b o γ (valV v) (𝓣 .Λ) p.Symbol.name x.Symbol.name r.Symbol.name w.Symbol.name (T.the-row .written .ty) (Ra.the-row .written .ty) (Wi.the-row .written .ty) Ve′.mir Pu′.mir Wp′.mir (LL.lawful Ve.the-type Ve′.the-laws 𝓤 H A W .typed v _ v-is .0)
+        Ra.the-row Wi.the-row h₀ h₁ h₂ h₃ h₄ h₅ h₆ h₇ s₀ s₁ s₂ s₃ s₄ s₅ s₆ Kf (exits h₇ refl))
+
+  f-meets : Meets 𝓤 H A f.signature (WpFn 𝓤 H (𝓣 .C) (𝓣 .Λ) f.Code.function) (f.spec 𝓤 H A at-mem run)
+  f-meets =
+      one-asks 𝓤 H A W Ve.the-row valV (LL.tells Ve.the-type Ve′.the-laws) (LL.makes Ve.the-type Ve′.the-plain 𝓤 H A) (λ v. tt) (λ κs v w. refl) 𝓣 f.Code.function (f.clauses 𝓤 H A at-mem run) (λ h v. HeldFree v (h .held)) (λ κs a g. id⊢ 𝓤 _) (λ h v d. d ≡ withHeld (heldWith v (h .held)) h)
+      (λ κs a g d p. factI 𝓤 _ (emp 𝓤) p) walk
+
+pub held-spec : {M : Type 1} → f.Statement.statement M
+unfolding f.Code.routine tablesOf
+held-spec 𝓤 H 𝓜 𝓖 𝓡 =
+    entered 𝓤 H (tripleOf 𝓤 H (𝓖 .A) f.signature (f.spec 𝓤 H (𝓖 .A) (𝓜 .mem) (𝓡 .run)))
+    (tables 𝓤 H 𝓜 𝓡 f.Code.env .C) (tables 𝓤 H 𝓜 𝓡 f.Code.env .Λ) f.Key.name f.Code.function (f.Code.unfolded 𝓤 H 𝓜 𝓡)
+    (f-meets 𝓤 H (𝓖 .A) (𝓜 .mem) (𝓡 .run) (givenOf 𝓤 H 𝓜 𝓖) (tablesOf 𝓤 H 𝓜 (tables 𝓤 H 𝓜 𝓡 f.Code.env))
+    (cited 𝓤 H (tripleOf 𝓤 H (𝓖 .A) p.signature (p.spec 𝓤 H (𝓖 .A) (𝓜 .mem) (𝓡 .run))) 𝓜 𝓡 f.Code.env p.Symbol.name p.Symbol.routine f.Code.calls-admit·held-put (p.Met.met 𝓤 H 𝓜 𝓖 𝓡))
+    (cited 𝓤 H (tripleOf 𝓤 H (𝓖 .A) x.signature (x.spec 𝓤 H (𝓖 .A) (𝓜 .mem) (𝓡 .run))) 𝓜 𝓡 f.Code.env x.Symbol.name x.Symbol.routine f.Code.calls-admit·wire-put (x.Met.met 𝓤 H 𝓜 𝓖 𝓡))
+    (cited 𝓤 H (tripleOf 𝓤 H (𝓖 .A) r.signature (r.spec 𝓤 H (𝓖 .A) (𝓜 .mem) (𝓡 .run))) 𝓜 𝓡 f.Code.env r.Symbol.name r.Symbol.routine f.Code.calls-store·range (r.Met.met 𝓤 H 𝓜 𝓖 𝓡))
+    (cited 𝓤 H (tripleOf 𝓤 H (𝓖 .A) w.signature (w.spec 𝓤 H (𝓖 .A) (𝓜 .mem) (𝓡 .run))) 𝓜 𝓡 f.Code.env w.Symbol.name w.Symbol.routine f.Code.calls-store·wire (w.Met.met 𝓤 H 𝓜 𝓖 𝓡)))

@@ -1,0 +1,98 @@
+-- `keep` meets its contract: its four parts, one after another. Assumes nothing.
+use Rattle.walks.proofs.Prelude.{_≡_, refl, sym, ap, subst, _∙_, Bool, true, false, not, ℕ, _+_, _<_, _^_, arith, [], _∷_, List, none, URA, fullShare, T as Holds, ltb, ltb→lt, lit<, Name, named, w64, field, Local, Fn, Val, WT, hasTy, vunit, vint, vbool, vptr, SProp, ent, emp, id⊢, GName, Lft, Share, Memory, Routine, Heap, Calls, WpFn, Tables, Atoms, Fun, factI, givenOf, tables, tablesOf, Given, Item, mean, _$_, _∵_, !, qed, fjoin, done, fld, stop, unit-lit, of-opd, fmOf, Is, uint-makes, uint-tells, bool-makes, bool-tells, nothing-makes, nothing-tells, u64, bool, unit, plain, owned, nothing, Meets, tripleOf, Contract, Triple, entered, cited, yes}
+use denote.Struct.Laws as LL
+use Rattle.definition.specs.Calls.{saying}
+use Rattle.tables.specs.Views.{stateView}
+use Rattle.tables.specs.declared.State.{State}
+use Rattle.tables.proofs.State as T
+use Rattle.tables.proofs.State.Laws as T′
+use Rattle.range.specs.Answers.{heard}
+use Rattle.range.specs.declared.Reply.{Reply}
+use Rattle.range.proofs.Reply as Re
+use Rattle.range.proofs.Reply.Laws as Re′
+use Rattle.admit.specs.declared.Verdict.{Verdict}
+use Rattle.admit.proofs.Verdict as Ve
+use Rattle.admit.proofs.Verdict.Laws as Ve′
+use Rattle.inplace.proofs.LendPart.{Makes}
+use Rattle.inplace.proofs.Callees.{made}
+use Rattle.admit.proofs.reply as p
+use Rattle.lent.proofs.Acts.{Acts, plainly}
+use Rattle.walks.proofs.Straight.{nil, arg, num, first, others}
+use Rattle.lent.proofs.Steps.{points, sets, acted, leaves-if, gives, gives-within, entering}
+use Rattle.plan.proofs.Beside.{Stands, lent-beside}
+use Rattle.applied.specs.Kept.{heldWith, withHeld, AutoKept, FixedKept, Ready, Kept}
+use Rattle.applied.proofs.Asking.{one-asks}
+use Rattle.applied.proofs.KeptLaws.{kept-all, ready-fixed, ready-held}
+use Rattle.applied.proofs.auto as a
+use Rattle.applied.proofs.fixed as x
+use Rattle.applied.proofs.held as e
+use Rattle.applied.proofs.say as t
+use Rattle.applied.proofs.keep as f
+
+abbrev valV : Verdict → Val
+valV x = LL.val Ve.the-type Ve′.the-laws x
+
+abbrev valR : Reply → Val
+valR x = LL.val Re.the-type Re′.the-laws x
+
+module _ {M : Type 1} (𝓤 : URA M) (H : Heap 𝓤) (A : Atoms 𝓤) (at-mem : Memory → SProp 𝓤) (run : Routine → Fun 𝓤) (W : Given 𝓤 H A) (𝓣 : Tables 𝓤 H) (known-a : Triple 𝓤 (𝓣 .C a.Symbol.name) (tripleOf 𝓤 H A a.signature (a.spec 𝓤 H A at-mem run))) (known-x : Triple 𝓤 (𝓣 .C x.Symbol.name) (tripleOf 𝓤 H A x.signature (x.spec 𝓤 H A at-mem run))) (known-e : Triple 𝓤 (𝓣 .C e.Symbol.name) (tripleOf 𝓤 H A e.signature (e.spec 𝓤 H A at-mem run))) (known-p : Triple 𝓤 (𝓣 .C p.Symbol.name) (tripleOf 𝓤 H A p.signature (p.spec 𝓤 H A at-mem run))) (known-t : Triple 𝓤 (𝓣 .C t.Symbol.name) (tripleOf 𝓤 H A t.signature (t.spec 𝓤 H A at-mem run))) where
+  abbrev ls : List Local
+  ls = f.Code.function .locals
+
+  module _ (κ : Lft) (q : Share) (b o : ℕ) (γ : GName) (v : Verdict) (v-is : Is Ve.the-row v (valV v ∷ [])) where
+    abbrev Held : State → Item 𝓤
+    Held = Stands 𝓤 H A W κ q b o γ
+
+    abbrev After : (State → Type 0) → State × Unit {0} → Type 0
+    After Q z = Is unit (z .1) (vunit ∷ []) × Q (z .0)
+
+    autos : (s : State) → Ready v s → Acts 𝓤 H A W (𝓣 .C) a.Symbol.name (vptr b o ∷ valV v ∷ []) (Held s) (State × Unit {0}) (λ z. Held (z .0)) (λ z. vunit) (After (AutoKept v s))
+    autos s ready =
+        lent-beside 𝓤 H A W κ q b o γ (𝓣 .C) (fmOf 𝓤 H (W .laws) 𝓣) a.Symbol.name (plain (λ _. Ve.the-row) ∷ []) (yes, tt) unit (λ u. vunit) nothing-tells (a.clauses 𝓤 H A at-mem run) known-a s (valV v ∷ []) (λ ν. (v, tt)) (λ ν. (valV v ∷ [], tt)) (λ ν. refl)
+        (λ ν. qed W [] ∵ nothing ! $ owned ! Ve.the-row (Is Ve.the-row) (LL.makes Ve.the-type Ve′.the-plain 𝓤 H A) v _ v-is $ fjoin ! $ done !) (λ ν δ. tt) (λ ν δ. factI 𝓤 _ (emp 𝓤) (ready .auto)) (λ d u. AutoKept v s d) (λ ν δ ws u. id⊢ 𝓤 _)
+
+    fixes : (s s₁ : State) → Ready v s → AutoKept v s s₁ → Acts 𝓤 H A W (𝓣 .C) x.Symbol.name (vptr b o ∷ valV v ∷ []) (Held s₁) (State × Unit {0}) (λ z. Held (z .0)) (λ z. vunit) (After (FixedKept v s₁))
+    fixes s s₁ ready k₁ =
+        lent-beside 𝓤 H A W κ q b o γ (𝓣 .C) (fmOf 𝓤 H (W .laws) 𝓣) x.Symbol.name (plain (λ _. Ve.the-row) ∷ []) (yes, tt) unit (λ u. vunit) nothing-tells (x.clauses 𝓤 H A at-mem run) known-x s₁ (valV v ∷ []) (λ ν. (v, tt)) (λ ν. (valV v ∷ [], tt)) (λ ν. refl)
+        (λ ν. qed W [] ∵ nothing ! $ owned ! Ve.the-row (Is Ve.the-row) (LL.makes Ve.the-type Ve′.the-plain 𝓤 H A) v _ v-is $ fjoin ! $ done !) (λ ν δ. tt) (λ ν δ. factI 𝓤 _ (emp 𝓤) (ready-fixed v s s₁ ready k₁)) (λ d u. FixedKept v s₁ d) (λ ν δ ws u. id⊢ 𝓤 _)
+
+    holds : (s s₁ s₂ : State) → Ready v s → AutoKept v s s₁ → FixedKept v s₁ s₂ → Acts 𝓤 H A W (𝓣 .C) e.Symbol.name (vptr b o ∷ valV v ∷ []) (Held s₂) (State × Unit {0}) (λ z. Held (z .0)) (λ z. vunit) (After (λ d. d ≡ withHeld (heldWith v (s₂ .held)) s₂))
+    holds s s₁ s₂ ready k₁ k₂ =
+        lent-beside 𝓤 H A W κ q b o γ (𝓣 .C) (fmOf 𝓤 H (W .laws) 𝓣) e.Symbol.name (plain (λ _. Ve.the-row) ∷ []) (yes, tt) unit (λ u. vunit) nothing-tells (e.clauses 𝓤 H A at-mem run) known-e s₂ (valV v ∷ []) (λ ν. (v, tt)) (λ ν. (valV v ∷ [], tt)) (λ ν. refl)
+        (λ ν. qed W [] ∵ nothing ! $ owned ! Ve.the-row (Is Ve.the-row) (LL.makes Ve.the-type Ve′.the-plain 𝓤 H A) v _ v-is $ fjoin ! $ done !) (λ ν δ. tt) (λ ν δ. factI 𝓤 _ (emp 𝓤) (ready-held v s s₁ ready k₁ s₂ k₂)) (λ d u. d ≡ withHeld (heldWith v (s₂ .held)) s₂) (λ ν δ ws u. id⊢ 𝓤 _)
+
+    replies : Makes 𝓤 H A W (𝓣 .C) p.Symbol.name (valV v ∷ []) (valR (v .reply)) (Is Re.the-row (v .reply) (valR (v .reply) ∷ []))
+    replies =
+        made 𝓤 H A W (𝓣 .C) (fmOf 𝓤 H (W .laws) 𝓣) p.Symbol.name (p.signature .params) (p.ended .kept) Re.the-row valR (LL.tells Re.the-type Re′.the-laws) (p.clauses 𝓤 H A at-mem run) known-p (v, tt) (valV v ∷ [], tt) tt (v .reply)
+        (qed W [] ∵ nothing ! $ owned ! Ve.the-row (Is Ve.the-row) (LL.makes Ve.the-type Ve′.the-plain 𝓤 H A) v _ v-is $ fjoin ! $ done !) (id⊢ 𝓤 _) (λ z w. id⊢ 𝓤 _)
+
+    says : (s₃ : State) → Is Re.the-row (v .reply) (valR (v .reply) ∷ []) → Acts 𝓤 H A W (𝓣 .C) t.Symbol.name (vptr b o ∷ valR (v .reply) ∷ []) (Held s₃) (State × Unit {0}) (λ z. Held (z .0)) (λ z. vunit) (After (λ d. stateView d ≡ saying (heard (v .reply)) (stateView s₃)))
+    says s₃ r-is =
+        lent-beside 𝓤 H A W κ q b o γ (𝓣 .C) (fmOf 𝓤 H (W .laws) 𝓣) t.Symbol.name (plain (λ _. Re.the-row) ∷ []) (yes, tt) unit (λ u. vunit) nothing-tells (t.clauses 𝓤 H A at-mem run) known-t s₃ (valR (v .reply) ∷ []) (λ ν. ((v .reply), tt)) (λ ν. (valR (v .reply) ∷ [], tt)) (λ ν. refl)
+        (λ ν. qed W [] ∵ nothing ! $ owned ! Re.the-row (Is Re.the-row) (LL.makes Re.the-type Re′.the-plain 𝓤 H A) (v .reply) _ r-is $ fjoin ! $ done !) (λ ν δ. tt) (λ ν δ. id⊢ 𝓤 _) (λ d u. stateView d ≡ saying (heard (v .reply)) (stateView s₃)) (λ ν δ ws u. id⊢ 𝓤 _)
+
+    walk : (s : State) → Ready v s → (Kf : Val → SProp 𝓤) → ((d : State) → Kept v s d → ent 𝓤 (mean 𝓤 H A (Held d)) (Kf vunit)) → ent 𝓤 (mean 𝓤 H A (Held s)) (WpFn 𝓤 H (𝓣 .C) (𝓣 .Λ) f.Code.function (vptr b o ∷ valV v ∷ []) Kf)
+    walk s ready Kf exits = entering W (𝓣 .C) (𝓣 .Λ) (Held s) f.Code.function (first ls) (others ls) (vptr b o ∷ valV v ∷ []) Kf refl ((tt, tt), (LL.lawful Ve.the-type Ve′.the-laws 𝓤 H A W .typed v _ v-is .0, tt)) (λ l.
+        points W (𝓣 .C) (𝓣 .Λ) ls l refl refl tt tt (tt, tt) (acted W (𝓣 .C) (𝓣 .Λ) ls l (fmOf 𝓤 H (W .laws) 𝓣) (State × Unit {0}) (λ z. Held (z .0)) (λ z. vunit) (After (AutoKept v s)) (arg refl tt (arg refl tt nil)) (autos s ready) tt (λ z y. (tt, tt)) (λ z₁ k₁.
+        points W (𝓣 .C) (𝓣 .Λ) ls l refl refl tt tt (tt, tt) (acted W (𝓣 .C) (𝓣 .Λ) ls l (fmOf 𝓤 H (W .laws) 𝓣) (State × Unit {0}) (λ z. Held (z .0)) (λ z. vunit) (After (FixedKept v (z₁ .0))) (arg refl tt (arg refl tt nil)) (fixes s (z₁ .0) ready (k₁ .1)) tt (λ z y. (tt, tt)) (λ z₂ k₂.
+        points W (𝓣 .C) (𝓣 .Λ) ls l refl refl tt tt (tt, tt) (acted W (𝓣 .C) (𝓣 .Λ) ls l (fmOf 𝓤 H (W .laws) 𝓣) (State × Unit {0}) (λ z. Held (z .0)) (λ z. vunit) (After (λ d. d ≡ withHeld (heldWith v (z₂ .0 .held)) (z₂ .0))) (arg refl tt (arg refl tt nil)) (holds s (z₁ .0) (z₂ .0) ready (k₁ .1) (k₂ .1)) tt (λ z y. (tt, tt)) (λ z₃ k₃.
+        points W (𝓣 .C) (𝓣 .Λ) ls l refl refl tt tt (tt, tt) (acted W (𝓣 .C) (𝓣 .Λ) ls l (fmOf 𝓤 H (W .laws) 𝓣) (Unit {0}) (λ u. Held (z₃ .0)) (λ u. valR (v .reply)) (λ u. Is Re.the-row (v .reply) (valR (v .reply) ∷ [])) (arg refl tt nil) (plainly 𝓤 H A W (𝓣 .C) (fmOf 𝓤 H (W .laws) 𝓣) (Held (z₃ .0)) p.Symbol.name (valV v ∷ []) (valR (v .reply)) (Is Re.the-row (v .reply) (valR (v .reply) ∷ [])) replies) tt (λ u y. LL.lawful Re.the-type Re′.the-laws 𝓤 H A W .typed (v .reply) _ y .0) (λ u r-is.
+        acted W (𝓣 .C) (𝓣 .Λ) ls l (fmOf 𝓤 H (W .laws) 𝓣) (State × Unit {0}) (λ z. Held (z .0)) (λ z. vunit) (After (λ d. stateView d ≡ saying (heard (v .reply)) (stateView (z₃ .0)))) (arg refl tt (arg refl tt nil)) (says (z₃ .0) r-is) tt (λ z y. (tt, tt)) (λ z₄ k₄.
+        sets W (𝓣 .C) (𝓣 .Λ) ls l vunit (of-opd ! (unit-lit !)) tt (tt, tt) (gives W (𝓣 .C) (𝓣 .Λ) ls l Kf vunit refl tt (exits (z₄ .0) (kept-all v s (z₁ .0) (z₂ .0) (z₃ .0) (z₄ .0) (k₁ .1) (k₂ .1) (k₃ .1) (k₄ .1))))))))))))))
+
+  f-meets : Meets 𝓤 H A f.signature (WpFn 𝓤 H (𝓣 .C) (𝓣 .Λ) f.Code.function) (f.spec 𝓤 H A at-mem run)
+  f-meets =
+      one-asks 𝓤 H A W Ve.the-row valV (LL.tells Ve.the-type Ve′.the-laws) (LL.makes Ve.the-type Ve′.the-plain 𝓤 H A) (λ v. tt) (λ κs v w. refl) 𝓣 f.Code.function (f.clauses 𝓤 H A at-mem run) (λ h v. Ready v h) (λ κs a g. id⊢ 𝓤 _) (λ h v d. Kept v h d)
+      (λ κs a g d p. factI 𝓤 _ (emp 𝓤) p) (λ κ q b o γ h v v-is ready. walk κ q b o γ v v-is h ready)
+
+pub keep-spec : {M : Type 1} → f.Statement.statement M
+unfolding f.Code.routine tablesOf
+keep-spec 𝓤 H 𝓜 𝓖 𝓡 =
+    entered 𝓤 H (tripleOf 𝓤 H (𝓖 .A) f.signature (f.spec 𝓤 H (𝓖 .A) (𝓜 .mem) (𝓡 .run)))
+    (tables 𝓤 H 𝓜 𝓡 f.Code.env .C) (tables 𝓤 H 𝓜 𝓡 f.Code.env .Λ) f.Key.name f.Code.function (f.Code.unfolded 𝓤 H 𝓜 𝓡)
+    (f-meets 𝓤 H (𝓖 .A) (𝓜 .mem) (𝓡 .run) (givenOf 𝓤 H 𝓜 𝓖) (tablesOf 𝓤 H 𝓜 (tables 𝓤 H 𝓜 𝓡 f.Code.env))
+    (cited 𝓤 H (tripleOf 𝓤 H (𝓖 .A) a.signature (a.spec 𝓤 H (𝓖 .A) (𝓜 .mem) (𝓡 .run))) 𝓜 𝓡 f.Code.env a.Symbol.name a.Symbol.routine f.Code.calls-applied·auto (a.Met.met 𝓤 H 𝓜 𝓖 𝓡))
+    (cited 𝓤 H (tripleOf 𝓤 H (𝓖 .A) x.signature (x.spec 𝓤 H (𝓖 .A) (𝓜 .mem) (𝓡 .run))) 𝓜 𝓡 f.Code.env x.Symbol.name x.Symbol.routine f.Code.calls-applied·fixed (x.Met.met 𝓤 H 𝓜 𝓖 𝓡))
+    (cited 𝓤 H (tripleOf 𝓤 H (𝓖 .A) e.signature (e.spec 𝓤 H (𝓖 .A) (𝓜 .mem) (𝓡 .run))) 𝓜 𝓡 f.Code.env e.Symbol.name e.Symbol.routine f.Code.calls-applied·held (e.Met.met 𝓤 H 𝓜 𝓖 𝓡))
+    (cited 𝓤 H (tripleOf 𝓤 H (𝓖 .A) p.signature (p.spec 𝓤 H (𝓖 .A) (𝓜 .mem) (𝓡 .run))) 𝓜 𝓡 f.Code.env p.Symbol.name p.Symbol.routine f.Code.calls-admit·reply (p.Met.met 𝓤 H 𝓜 𝓖 𝓡))
+    (cited 𝓤 H (tripleOf 𝓤 H (𝓖 .A) t.signature (t.spec 𝓤 H (𝓖 .A) (𝓜 .mem) (𝓡 .run))) 𝓜 𝓡 f.Code.env t.Symbol.name t.Symbol.routine f.Code.calls-applied·say (t.Met.met 𝓤 H 𝓜 𝓖 𝓡)))

@@ -1,0 +1,116 @@
+-- A state with what a verdict stores in it. Assumes nothing.
+use mathlib.Core.Path.{_≡_}
+use mathlib.Core.Bool.{true, not}
+use lib.Dec.{T}
+use Prim.Native.Nat.{ℕ, _<_}
+use Rattle.definition.specs.Base.{Said}
+use Rattle.definition.specs.Tables.{Kind, mmio, pio, input, host, device, event, lpi}
+use Rattle.definition.specs.Calls.{saying}
+use Rattle.tables.specs.Views.{poolOf, poolView, stateView}
+use Rattle.tables.specs.Whole.{holders}
+use Rattle.tables.specs.declared.Pools.{Pools}
+use Rattle.tables.specs.declared.Holders.{Holders}
+use Rattle.tables.specs.declared.State.{State}
+use Rattle.range.specs.Answers.{heard}
+use Rattle.range.specs.declared.Reply.{Reply}
+use Rattle.request.specs.Calls.{callOf}
+use Rattle.request.specs.declared.call.Call.{Call}
+use Rattle.store.specs.Store.{Free, putRange, putWire}
+use Rattle.finding.specs.declared.Finding.{Finding}
+use Rattle.request.specs.Asked.{saidOf}
+use Rattle.adding.specs.Whole.{TidyPools}
+use Rattle.admit.specs.Judged.{poolPutOf, heldPutOf, wirePutOf, enteredView}
+use Rattle.admit.specs.Adds.{askOf, wireAskOf, passesOf, startsOf}
+use Rattle.admit.specs.Looks.{Sees, SeesWire}
+use Rattle.admit.specs.declared.Adds.{Adds}
+use Rattle.admit.specs.declared.Verdict.{Verdict}
+use Rattle.applied.specs.Applied.{applyOf}
+
+-- the number of a kind's tables
+abbrev pub numberOf : Kind → ℕ
+numberOf mmio = 1
+numberOf pio = 2
+numberOf input = 3
+numberOf host = 4
+numberOf device = 5
+numberOf event = 6
+numberOf lpi = 7
+
+-- q is p with the ranges that the verdict has for the pools of a use
+abbrev pub PoolsKept : Verdict → ℕ → Pools → Pools → Type 0
+PoolsKept v to p q = (k : Kind) → poolView (poolOf q k) ≡ enteredView (poolPutOf v to (numberOf k)) (poolView (poolOf p k))
+
+abbrev pub heldWith : Verdict → Holders → Holders
+heldWith v h =
+    holders (putRange (h .mmio) (heldPutOf v 1)) (putRange (h .pio) (heldPutOf v 2)) (putWire (h .input) (wirePutOf v)) (putRange (h .host) (heldPutOf v 4))
+    (putRange (h .device) (heldPutOf v 5)) (putRange (h .event) (heldPutOf v 6)) (putRange (h .lpi) (heldPutOf v 7))
+
+-- each row that is to be stored has a place
+pub record HeldFree (v : Verdict) (h : Holders) : Type 0 where
+  pub mmio : Free (h .mmio .n) (heldPutOf v 1 .go)
+  pub pio : Free (h .pio .n) (heldPutOf v 2 .go)
+  pub input : Free (h .input .n) (wirePutOf v .go)
+  pub host : Free (h .host .n) (heldPutOf v 4 .go)
+  pub device : Free (h .device .n) (heldPutOf v 5 .go)
+  pub event : Free (h .event .n) (heldPutOf v 6 .go)
+  pub lpi : Free (h .lpi .n) (heldPutOf v 7 .go)
+
+-- ---- a state with other tables, or other numbers
+
+abbrev pub state : Pools → Pools → Holders → Holders → State → State
+state a f h o s =
+    record { auto = a; fixed = f; held = h; owners = o; number = s .number; index = s .index; namespace = s .namespace; owner = s .owner; detail = s .detail }
+
+abbrev pub withAuto : Pools → State → State
+withAuto p s = state p (s .fixed) (s .held) (s .owners) s
+
+abbrev pub withFixed : Pools → State → State
+withFixed p s = state (s .auto) p (s .held) (s .owners) s
+
+abbrev pub withHeld : Holders → State → State
+withHeld h s = state (s .auto) (s .fixed) h (s .owners) s
+
+abbrev pub withOwners : Holders → State → State
+withOwners o s = state (s .auto) (s .fixed) (s .held) o s
+
+pub record AutoKept (v : Verdict) (s t : State) : Type 0 where
+  pub pools : PoolsKept v 1 (s .auto) (t .auto)
+  pub is : t ≡ withAuto (t .auto) s
+
+pub record FixedKept (v : Verdict) (s t : State) : Type 0 where
+  pub pools : PoolsKept v 2 (s .fixed) (t .fixed)
+  pub is : t ≡ withFixed (t .fixed) s
+
+-- what is said beside the tables, and no row
+pub record Tells (r : Reply) (f : Finding) : Type 0 where
+  pub nothing : f .kind ≡ 0
+  pub said : saidOf (f .said) ≡ heard r
+
+-- all that a verdict stores
+pub record Kept (v : Verdict) (s t : State) : Type 0 where
+  pub a : Pools
+  pub f : Pools
+  pub automatic : PoolsKept v 1 (s .auto) a
+  pub fixed : PoolsKept v 2 (s .fixed) f
+  pub is : stateView t ≡ saying (heard (v .reply)) (stateView (state a f (heldWith v (s .held)) (s .owners) s))
+
+-- what storing asks
+pub record Ready (v : Verdict) (s : State) : Type 0 where
+  pub auto : TidyPools (s .auto)
+  pub fixed : TidyPools (s .fixed)
+  pub free : HeldFree v (s .held)
+
+-- the verdict on a call: what it stores for one that adds is the definition's
+pub record Decides (s : State) (c : Call) (v : Verdict) : Type 0 where
+  pub ready : Ready v s
+  pub after : T (not (passesOf c)) → T (not (startsOf c)) → (t : State) → Kept v s t → stateView t ≡ applyOf (callOf c) (stateView s)
+
+-- what all tables answer to a call
+pub record AllSee (s : State) (q : Adds) (m p w j d e l : Reply) : Type 0 where
+  pub mmio : Sees (s .auto .mmio) (s .fixed .mmio) (s .held .mmio) (askOf q 1) m
+  pub pio : Sees (s .auto .pio) (s .fixed .pio) (s .held .pio) (askOf q 2) p
+  pub input : SeesWire (s .auto .input) (s .fixed .input) (s .held .input) (wireAskOf q) w
+  pub host : Sees (s .auto .host) (s .fixed .host) (s .held .host) (askOf q 4) j
+  pub device : Sees (s .auto .device) (s .fixed .device) (s .held .device) (askOf q 5) d
+  pub event : Sees (s .auto .event) (s .fixed .event) (s .held .event) (askOf q 6) e
+  pub lpi : Sees (s .auto .lpi) (s .fixed .lpi) (s .held .lpi) (askOf q 7) l

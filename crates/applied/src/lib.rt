@@ -1,0 +1,193 @@
+// A call that adds, or starts, on a lent state whose pools and reservations are sound, in place: tables are read through references, and only those of the call's use and kinds are written.
+use admit::Verdict;
+use choose::Refusal;
+use finding::Finding;
+use range::Reply;
+use request::Said;
+use request::call::Call;
+use tables::State;
+ghost use mathlib.Core.Path.{_≡_};
+ghost use lib.Dec.{T};
+ghost use Rattle.definition.specs.Tables.{kinds};
+ghost use Rattle.definition.specs.Calls.{given, saying, starting};
+ghost use Rattle.tables.specs.Views.{stateView};
+ghost use Rattle.range.specs.Answers.{heard};
+ghost use Rattle.request.specs.Calls.{callOf};
+ghost use Rattle.adding.specs.Whole.{TidyPools};
+ghost use Rattle.applied.specs.Kept.{heldWith, HeldFree, withHeld, withOwners, AutoKept, FixedKept, Tells, Kept, Ready, Decides};
+ghost use Rattle.applied.specs.Applied.{applyOf};
+
+// ---- what is stored
+
+// The ranges for the automatic pools: each table goes out by value, and is stored back.
+pub fn auto(s: &mut State, v: Verdict)
+    requires { ⌜ TidyPools (now s .auto) ⌝ }
+    ensures { λ _. ⌜ AutoKept v (now (s .entry)) (now (s .exit)) ⌝ }
+{
+    if admit::idle(v, 1) {
+        return;
+    }
+    s.auto.mmio = admit::entered(s.auto.mmio, admit::pool_put(v, 1, 1));
+    s.auto.pio = admit::entered(s.auto.pio, admit::pool_put(v, 1, 2));
+    s.auto.input = admit::entered(s.auto.input, admit::pool_put(v, 1, 3));
+    s.auto.host = admit::entered(s.auto.host, admit::pool_put(v, 1, 4));
+    s.auto.device = admit::entered(s.auto.device, admit::pool_put(v, 1, 5));
+    s.auto.event = admit::entered(s.auto.event, admit::pool_put(v, 1, 6));
+    s.auto.lpi = admit::entered(s.auto.lpi, admit::pool_put(v, 1, 7));
+}
+
+// .. for the fixed pools.
+pub fn fixed(s: &mut State, v: Verdict)
+    requires { ⌜ TidyPools (now s .fixed) ⌝ }
+    ensures { λ _. ⌜ FixedKept v (now (s .entry)) (now (s .exit)) ⌝ }
+{
+    if admit::idle(v, 2) {
+        return;
+    }
+    s.fixed.mmio = admit::entered(s.fixed.mmio, admit::pool_put(v, 2, 1));
+    s.fixed.pio = admit::entered(s.fixed.pio, admit::pool_put(v, 2, 2));
+    s.fixed.input = admit::entered(s.fixed.input, admit::pool_put(v, 2, 3));
+    s.fixed.host = admit::entered(s.fixed.host, admit::pool_put(v, 2, 4));
+    s.fixed.device = admit::entered(s.fixed.device, admit::pool_put(v, 2, 5));
+    s.fixed.event = admit::entered(s.fixed.event, admit::pool_put(v, 2, 6));
+    s.fixed.lpi = admit::entered(s.fixed.lpi, admit::pool_put(v, 2, 7));
+}
+
+// The rows for the reservations, each at the end of its table, in place.
+pub fn held(s: &mut State, v: Verdict)
+    requires { ⌜ HeldFree v (now s .held) ⌝ }
+    ensures { λ _. ⌜ now (s .exit) ≡ withHeld (heldWith v (now (s .entry) .held)) (now (s .entry)) ⌝ }
+{
+    store::range(&mut s.held.mmio, admit::held_put(v, 1));
+    store::range(&mut s.held.pio, admit::held_put(v, 2));
+    store::wire(&mut s.held.input, admit::wire_put(v));
+    store::range(&mut s.held.host, admit::held_put(v, 4));
+    store::range(&mut s.held.device, admit::held_put(v, 5));
+    store::range(&mut s.held.event, admit::held_put(v, 6));
+    store::range(&mut s.held.lpi, admit::held_put(v, 7));
+}
+
+// An answer as numbers to be stored beside the tables, with no row.
+pub fn told(r: Reply) -> Finding
+    ensures { λ f. ⌜ Tells r f ⌝ }
+{
+    let mut f = finding::refused(Refusal::Malformed);
+    let said = Said {
+        number: r.number,
+        namespace: 0,
+        owner: r.owner,
+        detail: 0,
+    };
+    f.said = said;
+    f
+}
+
+// The five numbers.
+pub fn say(s: &mut State, r: Reply)
+    ensures { λ _. ⌜ stateView (now (s .exit)) ≡ saying (heard r) (stateView (now (s .entry))) ⌝ }
+{
+    let f = told(r);
+    inplace::keep(s, f);
+}
+
+// All that a verdict stores.
+pub fn keep(s: &mut State, v: Verdict)
+    requires { ⌜ Ready v (now s) ⌝ }
+    ensures { λ _. ⌜ Kept v (now (s .entry)) (now (s .exit)) ⌝ }
+{
+    auto(s, v);
+    fixed(s, v);
+    held(s, v);
+    say(s, admit::reply(v));
+}
+
+// ---- a start
+
+// The owner tables become copies of the reservations, whatever they held.
+pub fn copied(s: &mut State)
+    ensures { λ _. ⌜ now (s .exit) ≡ withOwners (now (s .entry) .held) (now (s .entry)) ⌝ }
+{
+    s.owners.mmio = s.held.mmio;
+    s.owners.pio = s.held.pio;
+    s.owners.input = s.held.input;
+    s.owners.host = s.held.host;
+    s.owners.device = s.held.device;
+    s.owners.event = s.held.event;
+    s.owners.lpi = s.held.lpi;
+}
+
+pub fn start(s: &mut State)
+    ensures { λ _. ⌜ stateView (now (s .exit)) ≡ starting (stateView (now (s .entry))) ⌝ }
+{
+    copied(s);
+    say(s, admit::plain(0));
+}
+
+// ---- a call
+
+// What comes of the call: nothing is stored yet.
+pub fn look(s: &State, c: Call) -> Verdict
+    requires { ⌜ T (given kinds (stateView (now s))) ⌝ }
+    ensures { λ v. ⌜ Decides (now (s .entry)) c v ⌝ }
+{
+    let q = admit::asked(c);
+    let mmio = admit::answer::range(
+        &s.auto.mmio,
+        &s.fixed.mmio,
+        &s.held.mmio,
+        admit::ask_range(q, 1),
+    );
+    let pio = admit::answer::range(
+        &s.auto.pio,
+        &s.fixed.pio,
+        &s.held.pio,
+        admit::ask_range(q, 2),
+    );
+    let input = admit::answer::wire(
+        &s.auto.input,
+        &s.fixed.input,
+        &s.held.input,
+        admit::ask_wire(q),
+    );
+    let host = admit::answer::range(
+        &s.auto.host,
+        &s.fixed.host,
+        &s.held.host,
+        admit::ask_range(q, 4),
+    );
+    let device = admit::answer::range(
+        &s.auto.device,
+        &s.fixed.device,
+        &s.held.device,
+        admit::ask_range(q, 5),
+    );
+    let event = admit::answer::range(
+        &s.auto.event,
+        &s.fixed.event,
+        &s.held.event,
+        admit::ask_range(q, 6),
+    );
+    let lpi = admit::answer::range(
+        &s.auto.lpi,
+        &s.fixed.lpi,
+        &s.held.lpi,
+        admit::ask_range(q, 7),
+    );
+    admit::judge(q, mmio, pio, input, host, device, event, lpi)
+}
+
+// One call on a state whose pools and reservations are sound. A request, and what cannot be read, leave it as it is.
+pub fn apply(s: &mut State, c: Call)
+    requires { ⌜ T (given kinds (stateView (now s))) ⌝ }
+    ensures { λ _. ⌜ stateView (now (s .exit)) ≡ applyOf (callOf c) (stateView (now (s .entry))) ⌝ }
+{
+    if admit::passes(c) {
+        return;
+    }
+    if admit::starts(c) {
+        start(s);
+        return;
+    }
+    let v = look(s, c);
+    keep(s, v);
+}
