@@ -10,7 +10,7 @@ use Rattle.request.specs.Asked.{wantOf, requestOf}
 use Rattle.request.specs.declared.Want.{Want}
 use Rattle.request.specs.declared.Want.the-variants.{Mmio, Pio, WiredIrq, HostIrq, Msi}
 use Rattle.request.specs.declared.Request.{Request}
-use Rattle.finding.specs.Outcome.{firstsIn}
+use Rattle.decide.specs.Outcome.{firstsIn}
 use Rattle.allocation.specs.Records.{listOf, recordFor, recordIn}
 
 pub nine-stores : (k q s a b c d e f : ℕ) (out : List ℕ) → 9 ≤ length out

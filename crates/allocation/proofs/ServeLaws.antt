@@ -11,8 +11,8 @@ use Rattle.definition.specs.Pools.{Claim}
 use Rattle.definition.specs.Request.{Want, Request, resolve}
 use Rattle.definition.specs.Calls.{State, poolsOf, ownersOf, sound, saying, granting, want, serve}
 use Rattle.definition.specs.Plan.{grant, recordOf, written, lent, allocateInto}
-use Rattle.finding.specs.Outcome.{firstsIn, basesIn, after}
-use Rattle.finding.specs.declared.Bases.{Bases}
+use Rattle.decide.specs.Outcome.{firstsIn, basesIn, after}
+use Rattle.decide.specs.declared.Bases.{Bases}
 
 module _ (ks : List Kind) (r : Request) (v : State) where
   pub serve-unsound : sound ks v ≡ false → saying (tell 0 malformed) v ≡ serve ks (want r) v

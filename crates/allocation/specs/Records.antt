@@ -8,9 +8,9 @@ use Rattle.tables.specs.declared.State.{State}
 use Rattle.request.specs.declared.Want.{Want}
 use Rattle.request.specs.declared.Want.the-variants.{Mmio, Pio, WiredIrq, HostIrq, Msi}
 use Rattle.request.specs.declared.Request.{Request}
-use Rattle.finding.specs.Outcome.{basesIn, after}
-use Rattle.finding.specs.Kept.{answer}
-use Rattle.finding.specs.declared.Bases.{Bases}
+use Rattle.decide.specs.Outcome.{basesIn, after}
+use Rattle.decide.specs.Kept.{answer}
+use Rattle.decide.specs.declared.Bases.{Bases}
 use Rattle.allocation.specs.declared.Record.{Record}
 use Rattle.allocation.specs.declared.Outcome.{Outcome}
 

@@ -1,8 +1,10 @@
 // One request over the whole state by value: the tables handed in are tested, then the request is answered as in place. Nothing is written before all of it stands.
 use choose::Refusal;
-use finding::Bases;
-use finding::Finding;
-use finding::value;
+use decide::Bases;
+use decide::Granted;
+use decide::ask;
+use decide::put;
+use decide::value;
 use request::Request;
 use request::Want;
 use tables::Holders;
@@ -19,7 +21,7 @@ ghost use Rattle.definition.specs.Plan.{written, lent, allocateInto};
 ghost use Rattle.tables.specs.Views.{stateView};
 ghost use Rattle.choose.specs.Told.{refusalOf};
 ghost use Rattle.request.specs.Asked.{requestOf};
-ghost use Rattle.finding.specs.Kept.{AllFree, Finds, keptHolders, kept};
+ghost use Rattle.decide.specs.Kept.{AllFree, Finds, keptHolders, kept};
 ghost use Rattle.allocation.specs.Records.{listOf, recordIn, Answers};
 
 // The state afterwards, and the first numbers of the rows granted.
@@ -56,46 +58,46 @@ pub fn refuse(s: State, y: Refusal) -> State
 }
 
 // What the request is granted, and where its rows go: the tables are asked as in place.
-pub fn find(s: State, r: Request) -> Finding
+pub fn find(s: State, r: Request) -> Granted
     requires { ⌜ T (sound kinds (stateView s)) ⌝ }
-    ensures { λ f. ⌜ Finds s (requestOf r) f ⌝ }
+    ensures { λ g. ⌜ Finds s (requestOf r) g ⌝ }
 {
-    let q = finding::queried(r);
-    let a = finding::ask(q, 1);
+    let q = decide::queried(r);
+    let a = ask::mmio(q);
     let mmio = value::see_range(s.auto.mmio, s.fixed.mmio, s.owners.mmio, a);
-    let a = finding::ask(q, 2);
+    let a = ask::pio(q);
     let pio = value::see_range(s.auto.pio, s.fixed.pio, s.owners.pio, a);
-    let a = finding::ask_wire(q);
+    let a = ask::input(q);
     let input = value::see_wire(s.auto.input, s.fixed.input, s.owners.input, a);
-    let a = finding::ask(q, 4);
+    let a = ask::host(q);
     let host = value::see_range(s.auto.host, s.fixed.host, s.owners.host, a);
-    let a = finding::ask_device(q);
+    let a = ask::device(q);
     let device = value::see_range(s.auto.device, s.fixed.device, s.owners.device, a);
-    let a = finding::ask_event(q, device);
+    let a = ask::event(q, device);
     let event = value::see_range(s.auto.event, s.fixed.event, s.owners.event, a);
-    let a = finding::ask_lpi(q, event);
+    let a = ask::lpi(q, event);
     let lpi = value::see_range(s.auto.lpi, s.fixed.lpi, s.owners.lpi, a);
-    finding::verdict(q, mmio, pio, input, host, device, event, lpi)
+    decide::verdict(q, mmio, pio, input, host, device, event, lpi)
 }
 
-// The owner tables with what was found: a row at the end of each table that it names.
-pub fn rows_kept(h: Holders, f: Finding) -> Holders
-    requires { ⌜ AllFree f h ⌝ }
-    ensures { λ r. ⌜ r ≡ keptHolders f h ⌝ }
+// The owner tables with what was granted: a row at the end of each table that it names.
+pub fn rows_kept(h: Holders, g: Granted) -> Holders
+    requires { ⌜ AllFree g h ⌝ }
+    ensures { λ r. ⌜ r ≡ keptHolders g h ⌝ }
 {
-    let p = finding::put(f, 1);
+    let p = put::mmio(g);
     let mmio = value::put_range(h.mmio, p);
-    let p = finding::put(f, 2);
+    let p = put::pio(g);
     let pio = value::put_range(h.pio, p);
-    let p = finding::put_wire(f);
+    let p = put::input(g);
     let input = value::put_wire(h.input, p);
-    let p = finding::put(f, 4);
+    let p = put::host(g);
     let host = value::put_range(h.host, p);
-    let p = finding::put(f, 5);
+    let p = put::device(g);
     let device = value::put_range(h.device, p);
-    let p = finding::put_event(f);
+    let p = put::event(g);
     let event = value::put_range(h.event, p);
-    let p = finding::put_lpi(f);
+    let p = put::lpi(g);
     let lpi = value::put_range(h.lpi, p);
     Holders {
         mmio,
@@ -108,19 +110,19 @@ pub fn rows_kept(h: Holders, f: Finding) -> Holders
     }
 }
 
-// What was found, stored: the rows, and the five numbers.
-pub fn keep(s: State, f: Finding) -> State
-    requires { ⌜ AllFree f (s .owners) ⌝ }
-    ensures { λ t. ⌜ t ≡ kept f s ⌝ }
+// What was granted, stored: the rows, and the five numbers.
+pub fn keep(s: State, g: Granted) -> State
+    requires { ⌜ AllFree g (s .owners) ⌝ }
+    ensures { λ t. ⌜ t ≡ kept g s ⌝ }
 {
-    let owners = rows_kept(s.owners, f);
+    let owners = rows_kept(s.owners, g);
     let mut t = s;
     t.owners = owners;
-    t.number = f.said.number;
+    t.number = g.said.number;
     t.index = 0;
-    t.namespace = f.said.namespace;
-    t.owner = f.said.owner;
-    t.detail = f.said.detail;
+    t.namespace = g.said.namespace;
+    t.owner = g.said.owner;
+    t.detail = g.said.detail;
     t
 }
 
@@ -129,9 +131,9 @@ pub fn resolve(s: State, r: Request) -> Outcome
     requires { ⌜ T (sound kinds (stateView s)) ⌝ }
     ensures { λ o. ⌜ Answers s (requestOf r) o ⌝ }
 {
-    let f = find(s, r);
-    let state = keep(s, f);
-    let bases = f.bases;
+    let g = find(s, r);
+    let state = keep(s, g);
+    let bases = g.bases;
     Outcome { state, bases }
 }
 

@@ -15,8 +15,8 @@ use Rattle.tables.specs.Views.{stateView}
 use Rattle.tables.specs.declared.State.{State}
 use Rattle.range.specs.Answers.{heard}
 use Rattle.range.specs.declared.Reply.{Reply}
-use Rattle.finding.specs.Kept.{kept}
-use Rattle.finding.specs.declared.Finding.{Finding}
+use Rattle.decide.specs.Kept.{kept}
+use Rattle.decide.specs.declared.Granted.{Granted}
 use Rattle.plan.proofs.OpenLaws.{kept-none}
 use Rattle.applied.specs.Kept.{numberOf, PoolsKept, heldWith, state, withAuto, withFixed, withHeld, withOwners, AutoKept, FixedKept, Tells, Kept, Ready, HeldFree}
 use Rattle.adding.specs.Whole.{TidyPools}
@@ -34,8 +34,8 @@ idle-pools v to p t k =
     sym (ap (λ (g : Bool). pick g (storedOr (poolView (poolOf p k)) (addAny (spanOf (rangeFor (v .adds) (numberOf k))) (used (poolView (poolOf p k))))) (poolView (poolOf p k))) (idle-stays v to (numberOf k) t))
 
 -- the five numbers alone
-pub said-so : (r : Reply) (f : Finding) (s : State) → Tells r f → stateView (kept f s) ≡ saying (heard r) (stateView s)
-said-so r f s t = kept-none f s (t .nothing) ∙ ap (λ w. saying w (stateView s)) (t .said)
+pub said-so : (r : Reply) (g : Granted) (s : State) → Tells r g → stateView (kept g s) ≡ saying (heard r) (stateView s)
+said-so r g s t = kept-none g s (t .nothing) ∙ ap (λ w. saying w (stateView s)) (t .said)
 
 -- all stores, one after another
 module _ (v : Verdict) (s₀ s₁ s₂ s₃ s₄ : State) (a : AutoKept v s₀ s₁) (f : FixedKept v s₁ s₂) (h : s₃ ≡ withHeld (heldWith v (s₂ .held)) s₂) (w : stateView s₄ ≡ saying (heard (v .reply)) (stateView s₃)) where

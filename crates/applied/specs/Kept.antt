@@ -16,7 +16,8 @@ use Rattle.range.specs.declared.Reply.{Reply}
 use Rattle.request.specs.Calls.{callOf}
 use Rattle.request.specs.declared.call.Call.{Call}
 use Rattle.store.specs.Store.{Free, putRange, putWire}
-use Rattle.finding.specs.declared.Finding.{Finding}
+use Rattle.decide.specs.declared.Rows.the-variants.{Nothing}
+use Rattle.decide.specs.declared.Granted.{Granted}
 use Rattle.request.specs.Asked.{saidOf}
 use Rattle.adding.specs.Whole.{TidyPools}
 use Rattle.admit.specs.Judged.{poolPutOf, heldPutOf, wirePutOf, enteredView}
@@ -82,9 +83,9 @@ pub record FixedKept (v : Verdict) (s t : State) : Type 0 where
   pub is : t ≡ withFixed (t .fixed) s
 
 -- what is said beside the tables, and no row
-pub record Tells (r : Reply) (f : Finding) : Type 0 where
-  pub nothing : f .kind ≡ 0
-  pub said : saidOf (f .said) ≡ heard r
+pub record Tells (r : Reply) (g : Granted) : Type 0 where
+  pub nothing : g .rows ≡ Nothing
+  pub said : saidOf (g .said) ≡ heard r
 
 -- all that a verdict stores
 pub record Kept (v : Verdict) (s t : State) : Type 0 where

@@ -1,7 +1,7 @@
 // A call that adds, or starts, on a lent state whose pools and reservations are sound, in place: tables are read through references, and only those of the call's use and kinds are written.
 use admit::Verdict;
 use choose::Refusal;
-use finding::Finding;
+use decide::Granted;
 use range::Reply;
 use request::Said;
 use request::call::Call;
@@ -68,26 +68,26 @@ pub fn held(s: &mut State, v: Verdict)
 }
 
 // An answer as numbers to be stored beside the tables, with no row.
-pub fn told(r: Reply) -> Finding
-    ensures { λ f. ⌜ Tells r f ⌝ }
+pub fn told(r: Reply) -> Granted
+    ensures { λ g. ⌜ Tells r g ⌝ }
 {
-    let mut f = finding::refused(Refusal::Malformed);
+    let mut g = decide::grant::refused(Refusal::Malformed);
     let said = Said {
         number: r.number,
         namespace: 0,
         owner: r.owner,
         detail: 0,
     };
-    f.said = said;
-    f
+    g.said = said;
+    g
 }
 
 // The five numbers.
 pub fn say(s: &mut State, r: Reply)
     ensures { λ _. ⌜ stateView (now (s .exit)) ≡ saying (heard r) (stateView (now (s .entry))) ⌝ }
 {
-    let f = told(r);
-    inplace::keep(s, f);
+    let g = told(r);
+    inplace::keep(s, g);
 }
 
 // All that a verdict stores.

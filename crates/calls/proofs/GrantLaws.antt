@@ -17,8 +17,8 @@ use Rattle.choose.specs.declared.wired.Wire.{Wire}
 use Rattle.choose.proofs.HitLaws.{ranges-length, wires-length}
 use Rattle.look.specs.Look.{Sees, SeesWire}
 use Rattle.look.specs.declared.Seen.{Seen}
-use Rattle.finding.specs.Finding.{standing}
-use Rattle.finding.proofs.RoomLaws.{standing-is}
+use Rattle.decide.specs.Granted.{standing}
+use Rattle.decide.proofs.RoomLaws.{standing-is}
 
 module _ (a f : Pool) (t : Ranges) (n : Need) (c : Choice) (r : Seen) (x y : Chosen) (few : t .n ≤ rowLimit)
     (seen : Sees a f t (record { go = true; need = n; choice = c }) r) (e : y ≡ standing (r .at) (r .chosen)) (is : y ≡ x) where

@@ -17,8 +17,8 @@ use Rattle.choose.specs.Told.{told, chosenIn}
 use Rattle.choose.specs.declared.Chosen.{Chosen}
 use Rattle.choose.specs.declared.Chosen.the-variants.{Stands, Refused}
 use Rattle.calls.specs.Grants.{rowGot}
-use Rattle.finding.specs.Outcome.{after}
-use Rattle.finding.proofs.AnswerLaws.{claimOf, one-claimed}
+use Rattle.decide.specs.Outcome.{after}
+use Rattle.decide.proofs.AnswerLaws.{claimOf, one-claimed}
 use Rattle.calls.specs.Kinds.{onlyAt, tablesAt, answerOf, asked, saidBy, rowsSaid}
 
 pub only-same : {A : Type 0} (k : Kind) (a b : A) → onlyAt k k a b ≡ a

@@ -20,7 +20,7 @@ use Rattle.msi.specs.Msi.{msiRows, toldMsi, msiWant}
 use Rattle.msi.specs.declared.Msi.{Msi}
 use Rattle.msi.specs.declared.MsiChosen.{MsiChosen}
 use Rattle.msi.specs.declared.MsiChosen.the-variants.{Stands, Refused}
-use Rattle.finding.specs.Outcome.{after}
+use Rattle.decide.specs.Outcome.{after}
 use Rattle.msi.proofs.ListLaws.{msi-is}
 use Rattle.calls.specs.Grants.{Ready, claimsGot}
 use Rattle.calls.proofs.ReadyLaws.{ready}

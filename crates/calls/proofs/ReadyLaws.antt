@@ -6,7 +6,7 @@ use Rattle.definition.specs.StateLaws.{Sound, SoundPool}
 use Rattle.tables.specs.Views.{poolView}
 use Rattle.tables.specs.declared.Pool.{Pool}
 use Rattle.look.specs.Look.{Fit}
-use Rattle.finding.proofs.ReadyLaws.{pool-order}
+use Rattle.decide.proofs.ReadyLaws.{pool-order}
 use Rattle.calls.specs.Grants.{Ready}
 
 pub ready : (k : Kind) (p f : Pool) (v : State) → Sound v k → SoundPool k (poolView p) → SoundPool k (poolView f) → Ready k p (f .n) (v .owners k .count)

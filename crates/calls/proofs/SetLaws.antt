@@ -27,9 +27,9 @@ use Rattle.choose.specs.Told.{choiceOf, told, chosenIn}
 use Rattle.choose.specs.Wired.{wireAsked}
 use Rattle.choose.specs.declared.Choice.{Choice}
 use Rattle.choose.specs.declared.wired.Wire.{Wire}
-use Rattle.finding.specs.Outcome.{after}
-use Rattle.finding.proofs.AnswerLaws.{claimOf}
-use Rattle.finding.proofs.ReadyLaws.{pool-order}
+use Rattle.decide.specs.Outcome.{after}
+use Rattle.decide.proofs.AnswerLaws.{claimOf}
+use Rattle.decide.proofs.ReadyLaws.{pool-order}
 use Rattle.calls.specs.declared.RangeTables.{RangeTables}
 use Rattle.calls.specs.declared.RangeAnswer.{RangeAnswer}
 use Rattle.calls.specs.declared.WireTables.{WireTables}

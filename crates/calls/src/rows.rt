@@ -2,7 +2,9 @@
 use choose::Choice;
 use choose::Chosen;
 use choose::wired::Wire;
-use finding::value;
+use decide::ask;
+use decide::grant;
+use decide::value;
 use look::Ask;
 use look::WireAsk;
 use msi::Msi;
@@ -72,14 +74,14 @@ pub fn grant_range(
         choice,
     };
     let seen = value::see_range(auto, fixed, owners, ask);
-    let got = finding::standing(seen);
+    let got = grant::standing(seen);
     match got {
         Chosen::Refused(y) => RangeGrant {
             owners,
             chosen: Chosen::Refused(y),
         },
         Chosen::Stands(b, e) => {
-            let row = finding::row(need, b, e);
+            let row = grant::row(need, b, e);
             let next = record_range(owners, row);
             RangeGrant {
                 owners: next,
@@ -100,7 +102,7 @@ pub fn grant_wire(owners: Wires, auto: Pool, fixed: Pool, wire: Wire, choice: Ch
         choice,
     };
     let seen = value::see_wire(auto, fixed, owners, ask);
-    let got = finding::standing(seen);
+    let got = grant::standing(seen);
     match got {
         Chosen::Refused(y) => WireGrant {
             owners,
@@ -139,15 +141,15 @@ pub fn choose_msi(
     requires { ⌜ (ReadyDevice da (df .n) (devices .n)) × (ReadyEvent ea (ef .n) (events .n)) × (ReadyLpi la (lf .n) (lpis .n)) × (0 < m .count) ⌝ }
     ensures { λ c. ⌜ MsiDecides devices events lpis da df ea ef la lf m c ⌝ }
 {
-    let a = finding::device_ask(true, m);
+    let a = ask::device_of(m);
     let device = value::see_range(da, df, devices, a);
     let d = device.chosen;
     let first = msi::device(d);
-    let a = finding::event_ask(true, m, first);
+    let a = ask::event_of(m, first);
     let event = value::see_range(ea, ef, events, a);
     let e = event.chosen;
     let second = msi::event(e);
-    let a = finding::lpi_ask(true, m, second);
+    let a = ask::lpi_of(m, second);
     let lpi = value::see_range(la, lf, lpis, a);
     let l = lpi.chosen;
     let third = msi::lpi(l);

@@ -54,7 +54,7 @@ poolsIn ps fs fixed k = fs
 abbrev pub placeIn : List Span → List Span → List Row → R.Need → R.Choice → Answer Row
 placeIn ps fs rs n c = R.place (poolsIn ps fs) (λ k. rs) n c
 
--- .. then 9 where the table has no free row: law `one-is` of `finding` ties it to `resolve`
+-- .. then 9 where the table has no free row: law `one-is` of `decide` ties it to `resolve`
 unfoldable pub roomed : List Row → Answer Row → Answer Row
 roomed rs a = a then λ r. require (ltb (length rs) rowLimit) full (accepted r)
 

@@ -2,7 +2,7 @@
 --     keepCode     the code of `keep`
 --     Stage        what a table's step rests on: how it is reached, what makes the row, what stores it, and how the table lies in the whole
 --     keep-walk    given the stages, and how the owner tables and the five numbers lie in the state
-use Rattle.walks.proofs.Prelude.{_≡_, refl, subst, ℕ, _<_, _^_, arith, [], _∷_, List, URA, fullShare, T as Holds, ltb, Name, named, erased, mut, w64, Ty, tyInt, tyUnit, tyRef, local, valueLocal, Step as PStep, place, deref, field, Opd as Operand, copy, int, opdUnit, rvOpd, addrOf, assign, call, seq, return, Fn, Val, WT, hasTy, vunit, vint, vptr, SProp, ent, sep, wand, apply∗, Fml, GName, Lft, Share, fat, froom, fdies, flft, fobs, fauth, fbor, fobor, Heap, Env, Spot, spotOf, Calls, Loops, WpFn, Atoms, sem, Given, Go, Item, ⋆, ‵, raw, _⊛_, Post, atRet, runs, Seq, _$_, _∵_, !, qed, by, move, use1, use2, split, Finds, Reads, Opds, look, init, forget, stop, hop, from, load, lit, unit-lit, of-opd, and-then, no-more, assigns, returns, enter, alloc1, alloc0, params1, pass1, pass0, free1, free0, Body as Borrowed, open-ref, close-ref, FmC, RattleType, mem, partAt, rtF, fInt}
+use Rattle.walks.proofs.Prelude.{_≡_, refl, subst, ℕ, _<_, _^_, arith, [], _∷_, List, URA, fullShare, T as Holds, Name, named, erased, mut, w64, Ty, tyInt, tyUnit, tyRef, local, valueLocal, Step as PStep, place, deref, field, Opd as Operand, copy, int, opdUnit, rvOpd, addrOf, assign, call, seq, return, Fn, Val, WT, hasTy, vunit, vint, vptr, SProp, ent, sep, wand, apply∗, Fml, GName, Lft, Share, fat, froom, fdies, flft, fobs, fauth, fbor, fobor, Heap, Env, Spot, spotOf, Calls, Loops, WpFn, Atoms, sem, Given, Go, Item, ⋆, ‵, raw, _⊛_, Post, atRet, runs, Seq, _$_, _∵_, !, qed, by, move, use1, use2, split, Finds, Reads, Opds, look, init, forget, stop, hop, from, load, lit, unit-lit, of-opd, and-then, no-more, assigns, returns, enter, alloc1, alloc0, params1, pass1, pass0, free1, free0, Body as Borrowed, open-ref, close-ref, FmC, RattleType, mem, partAt, rtF, fInt}
 use mir.Syntax.{Body}
 use types.Kit.{Step}
 use types.Run.{Walks, Opd}
@@ -15,31 +15,28 @@ stored τ j r p g xs f rest = seq (assign (place r []) (addrOf (place 1 (deref �
 abbrev numbered : Ty → ℕ → Operand → Body → Body
 numbered τ k x rest = seq (assign (place 1 (deref τ ∷ field k ∷ [])) (rvOpd x)) rest
 
-abbrev asked : ℕ → List Operand
-asked k = copy (place 2 []) ∷ int w64 k ∷ []
-
 abbrev found : List Operand
 found = copy (place 2 []) ∷ []
 
 abbrev said : ℕ → Operand
-said j = copy (place 2 (field 6 ∷ field j ∷ []))
+said j = copy (place 2 (field 2 ∷ field j ∷ []))
 
--- the makers of the rows put, wire, event and lpi; the callees range and store; the state, the tables, the finding and the rows
-abbrev pub keepCode : (#put #wire #event #lpi #range #store : Name) (π ρ ω τ σ p w : Ty) → Fn
-keepCode #put #wire #event #lpi #range #store π ρ ω τ σ p w = record {
+-- the makers of the seven rows; the callees range and store; the state, the tables, what is granted and the rows
+abbrev pub keepCode : (#mmio #pio #input #host #device #event #lpi #range #store : Name) (π ρ ω τ σ p w : Ty) → Fn
+keepCode #mmio #pio #input #host #device #event #lpi #range #store π ρ ω τ σ p w = record {
   lifetimes = 1;
   outlives = [];
   params = 2;
   locals = local tyUnit valueLocal ∷ local (tyRef (named 0) mut π) valueLocal ∷ local σ valueLocal ∷ local tyUnit valueLocal ∷ local (tyRef erased mut ρ) valueLocal ∷ local p valueLocal ∷ local (tyRef erased mut ρ) valueLocal ∷ local (tyRef erased mut ω) valueLocal ∷ local w valueLocal
       ∷ local (tyRef erased mut ρ) valueLocal ∷ local (tyRef erased mut ρ) valueLocal ∷ local (tyRef erased mut ρ) valueLocal ∷ local (tyRef erased mut ρ) valueLocal ∷ [];
   body =
-      stored τ 0 4 5 #put (asked 1) #range (stored τ 1 6 5 #put (asked 2) #range (stored τ 2 7 8 #wire found #store (stored τ 3 9 5 #put (asked 4) #range
-      (stored τ 4 10 5 #put (asked 5) #range (stored τ 5 11 5 #event found #range (stored τ 6 12 5 #lpi found #range
+      stored τ 0 4 5 #mmio found #range (stored τ 1 6 5 #pio found #range (stored τ 2 7 8 #input found #store (stored τ 3 9 5 #host found #range
+      (stored τ 4 10 5 #device found #range (stored τ 5 11 5 #event found #range (stored τ 6 12 5 #lpi found #range
       (numbered τ 4 (said 0) (numbered τ 5 (int w64 0) (numbered τ 6 (said 1) (numbered τ 7 (said 2) (numbered τ 8 (said 3)
       (seq (assign (place 0 []) (rvOpd opdUnit)) return))))))))))));
 }
 
--- a state of the MIR type τ at (b, o), and a finding of the MIR type σ whose machine value is fv
+-- a state of the MIR type τ at (b, o), and what is granted, of the MIR type σ, whose machine value is fv
 module _ {M : Type 1} (𝓤 : URA M) (H : Heap 𝓤) (A : Atoms 𝓤) (W : Given 𝓤 H A) (C : Calls 𝓤 H) (τ σ : Ty) (b o : ℕ) (fv : Val) where
   -- from the state, by these fields, something of the type α is reached at a
   abbrev pub Way : List PStep → Ty → ℕ → Type 2
@@ -66,22 +63,22 @@ module _ {M : Type 1} (𝓤 : URA M) (H : Heap 𝓤) (A : Atoms 𝓤) (W : Given
     pub way : Way (field k ∷ []) (tyInt w64) spot
     pub piece : Piece 𝓤 H A W (rtF (fInt w64)) N N′ was n′ b spot
 
-  -- a number that the finding says
+  -- a number that is said
   pub record Says (j n : ℕ) : Type 2 where
     pub spot : ℕ
     pub fits : n < 2 ^ 64
-    pub way : (E : Env 𝓤 H) (l : ℕ) (Δ : List (Item 𝓤)) → Walks (Go {0}) W Δ E (σ, l, 0) (field 6 ∷ field j ∷ []) (tyInt w64, l, spot)
+    pub way : (E : Env 𝓤 H) (l : ℕ) (Δ : List (Item 𝓤)) → Walks (Go {0}) W Δ E (σ, l, 0) (field 2 ∷ field j ∷ []) (tyInt w64, l, spot)
     pub reads : (l : ℕ) (i : Item 𝓤) (Δ : List (Item 𝓤)) → Reads (Go {0}) W (i ∷ ‵ (fat fullShare σ l 0 fv) ∷ Δ) (tyInt w64) l spot (vint w64 n)
 
-  module _ (Λ : Loops 𝓤 H) (fm : FmC 𝓤 H (W .laws) C) (S : RattleType) (κ : Lft) (q : Share) (γ : GName) (h h′ : S .Denot) (f-wt : Holds (hasTy σ fv) × WT fv) (#put #wire #event #lpi #range #store : Name) (π ρ ω p w : Ty) (Ra Wi : RattleType)
+  module _ (Λ : Loops 𝓤 H) (fm : FmC 𝓤 H (W .laws) C) (S : RattleType) (κ : Lft) (q : Share) (γ : GName) (h h′ : S .Denot) (f-wt : Holds (hasTy σ fv) × WT fv) (#mmio #pio #input #host #device #event #lpi #range #store : Name) (π ρ ω p w : Ty) (Ra Wi : RattleType)
       (I₀ I₁ I₂ I₃ I₄ I₅ I₆ I₇ N₀ N₁ N₂ N₃ N₄ : Fml) (n₀ n₁ n₂ n₃ : ℕ)
-      (s₀ : Stage Ra p #range #put (fv ∷ vint w64 1 ∷ []) 0 I₀ I₁) (s₁ : Stage Ra p #range #put (fv ∷ vint w64 2 ∷ []) 1 I₁ I₂) (s₂ : Stage Wi w #store #wire (fv ∷ []) 2 I₂ I₃) (s₃ : Stage Ra p #range #put (fv ∷ vint w64 4 ∷ []) 3 I₃ I₄)
-      (s₄ : Stage Ra p #range #put (fv ∷ vint w64 5 ∷ []) 4 I₄ I₅) (s₅ : Stage Ra p #range #event (fv ∷ []) 5 I₅ I₆) (s₆ : Stage Ra p #range #lpi (fv ∷ []) 6 I₆ I₇)
+      (s₀ : Stage Ra p #range #mmio (fv ∷ []) 0 I₀ I₁) (s₁ : Stage Ra p #range #pio (fv ∷ []) 1 I₁ I₂) (s₂ : Stage Wi w #store #input (fv ∷ []) 2 I₂ I₃) (s₃ : Stage Ra p #range #host (fv ∷ []) 3 I₃ I₄)
+      (s₄ : Stage Ra p #range #device (fv ∷ []) 4 I₄ I₅) (s₅ : Stage Ra p #range #event (fv ∷ []) 5 I₅ I₆) (s₆ : Stage Ra p #range #lpi (fv ∷ []) 6 I₆ I₇)
       (inner : ent 𝓤 (sem 𝓤 H A (partAt S fullShare h b o)) (sep 𝓤 (sem 𝓤 H A I₀) (wand 𝓤 (sem 𝓤 H A I₇) (sem 𝓤 H A N₀))))
       (m₀ : Number 4 N₀ N₁ n₀) (m₁ : Number 5 N₁ N₂ 0) (m₂ : Number 6 N₂ N₃ n₁) (m₃ : Number 7 N₃ N₄ n₂) (m₄ : Number 8 N₄ (partAt S fullShare h′ b o) n₃)
       (a₀ : Says 0 n₀) (a₁ : Says 1 n₁) (a₂ : Says 2 n₂) (a₃ : Says 3 n₃) where
     abbrev Code : Fn
-    Code = keepCode #put #wire #event #lpi #range #store π ρ ω τ σ p w
+    Code = keepCode #mmio #pio #input #host #device #event #lpi #range #store π ρ ω τ σ p w
 
     -- inside, with the locals at l₀ to l₁₂
     module _ (l₀ l₁ l₂ l₃ l₄ l₅ l₆ l₇ l₈ l₉ l₁₀ l₁₁ l₁₂ : ℕ) where
@@ -96,9 +93,6 @@ module _ {M : Type 1} (𝓤 : URA M) (H : Heap 𝓤) (A : Atoms 𝓤) (W : Given
 
       abbrev Asked : List Operand → List Val → Type 2
       Asked xs vs = (i : Item 𝓤) (Δ : List (Item 𝓤)) → Opds (Go {0}) W (i ∷ ‵ ptr ∷ ‵ fnd ∷ Δ) E xs vs
-
-      asks : (k : ℕ) → Holds (ltb k (2 ^ 64)) → Asked (asked k) (fv ∷ vint w64 k ∷ [])
-      asks k fits i Δ = and-then ! (load ! (from ! (stop !)) (look ! 2 refl)) (and-then ! (lit ! fits) (no-more !))
 
       finds : Asked found (fv ∷ [])
       finds i Δ = and-then ! (load ! (from ! (stop !)) (look ! 2 refl)) (no-more !)
@@ -137,18 +131,18 @@ module _ {M : Type 1} (𝓤 : URA M) (H : Heap 𝓤) (A : Atoms 𝓤) (W : Given
           (runs C Λ E (Code .body) (atRet E Post))
       inside Post exits =
           -- [_1 0; _2 1; the owner tables 2; _4 3; _5 4; _3 5; _6 6; _7 7; _8 8; _9 9; _10 10; _11 11; _12 12; the way back 13; the open borrow 14; obs 15; auth 16; the ends of _12 to _1 17 to 28; _0 29]
-          table Ra p ρ #range #put (asked 1) (fv ∷ vint w64 1 ∷ []) 0 I₀ I₁ s₀ 4 l₄ 5 l₅ (here 4 mutρ l₄ refl) (here 5 p l₅ refl) (asks 1 tt) $
+          table Ra p ρ #range #mmio found (fv ∷ []) 0 I₀ I₁ s₀ 4 l₄ 5 l₅ (here 4 mutρ l₄ refl) (here 5 p l₅ refl) finds $
           move ! (0 ∷ 1 ∷ 2 ∷ 6 ∷ 4 ∷ 5 ∷ []) $
           -- [… _6 3; _5 4; _3 5; _4 6; _7 7; _8 8; _9 9; …]
-          table Ra p ρ #range #put (asked 2) (fv ∷ vint w64 2 ∷ []) 1 I₁ I₂ s₁ 6 l₆ 5 l₅ (here 6 mutρ l₆ refl) (here 5 p l₅ refl) (asks 2 tt) $
+          table Ra p ρ #range #pio found (fv ∷ []) 1 I₁ I₂ s₁ 6 l₆ 5 l₅ (here 6 mutρ l₆ refl) (here 5 p l₅ refl) finds $
           move ! (0 ∷ 1 ∷ 2 ∷ 7 ∷ 8 ∷ 5 ∷ []) $
           -- [… _7 3; _8 4; _3 5; _6 6; _5 7; _4 8; _9 9; …]
-          table Wi w ω #store #wire found (fv ∷ []) 2 I₂ I₃ s₂ 7 l₇ 8 l₈ (here 7 (tyRef erased mut ω) l₇ refl) (here 8 w l₈ refl) finds $
+          table Wi w ω #store #input found (fv ∷ []) 2 I₂ I₃ s₂ 7 l₇ 8 l₈ (here 7 (tyRef erased mut ω) l₇ refl) (here 8 w l₈ refl) finds $
           move ! (0 ∷ 1 ∷ 2 ∷ 9 ∷ 7 ∷ 5 ∷ []) $
           -- [… _9 3; _5 4; _3 5; _7 6; _8 7; _6 8; _4 9; _10 10; …]
-          table Ra p ρ #range #put (asked 4) (fv ∷ vint w64 4 ∷ []) 3 I₃ I₄ s₃ 9 l₉ 5 l₅ (here 9 mutρ l₉ refl) (here 5 p l₅ refl) (asks 4 tt) $
+          table Ra p ρ #range #host found (fv ∷ []) 3 I₃ I₄ s₃ 9 l₉ 5 l₅ (here 9 mutρ l₉ refl) (here 5 p l₅ refl) finds $
           move ! (0 ∷ 1 ∷ 2 ∷ 10 ∷ 4 ∷ 5 ∷ []) $
-          table Ra p ρ #range #put (asked 5) (fv ∷ vint w64 5 ∷ []) 4 I₄ I₅ s₄ 10 l₁₀ 5 l₅ (here 10 mutρ l₁₀ refl) (here 5 p l₅ refl) (asks 5 tt) $
+          table Ra p ρ #range #device found (fv ∷ []) 4 I₄ I₅ s₄ 10 l₁₀ 5 l₅ (here 10 mutρ l₁₀ refl) (here 5 p l₅ refl) finds $
           move ! (0 ∷ 1 ∷ 2 ∷ 11 ∷ 4 ∷ 5 ∷ []) $
           table Ra p ρ #range #event found (fv ∷ []) 5 I₅ I₆ s₅ 11 l₁₁ 5 l₅ (here 11 mutρ l₁₁ refl) (here 5 p l₅ refl) finds $
           move ! (0 ∷ 1 ∷ 2 ∷ 12 ∷ 4 ∷ 5 ∷ []) $

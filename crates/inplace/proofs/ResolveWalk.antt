@@ -1,8 +1,8 @@
--- The walk of `let f = g(s, r); k(s, f); f.5` on a state lent as `&mut`, over any type of states and any struct that g finds, so that nothing of the tables can be unfolded. Assumes `Given`.
+-- The walk of `let f = g(s, r); k(s, f); f.1` on a state lent as `&mut`, over any type of states and any struct that g finds, so that nothing of the tables can be unfolded. Assumes `Given`.
 --     resolveCode      the code of such a function
 --     lends-shared     own (the `&κ mut T` ((b, o), γ, h)) ∗ [κ]_q  ⊢ ⇛ ∃ δ. own (the `&κ′ T` ((b, o), δ, h)) ∗ what the holder keeps
 --     shared-back      [†κ′] ∗ what the holder keeps  ⊢ ⇛ (own (the `&κ mut T` ((b, o), γ, h)) ∗ [κ]_q)
---     resolve-walk     the state is lent as `&` for the call of g and comes back as it was; then it is given to k for good; field 5 of what g found is returned
+--     resolve-walk     the state is lent as `&` for the call of g and comes back as it was; then it is given to k for good; field 1 of what g found is returned
 use Rattle.walks.proofs.Prelude.{_≡_, refl, subst, ℕ, zero, [], _∷_, List, URA, fullShare, T as Holds, Name, Sym, named, erased, imm, mut, Ty, Tys, tyStruct, tyUnit, tyRef, Written, local, valueLocal, place, deref, field, copy, rvOpd, addrOf, assign, call, seq, return, Fn, Val, WT, hasTy, vptr, vstruct, getV, SProp, ent, sep, ex, id⊢, Fml, GName, Lft, Share, ftrue, fat, flft, fdead, fres, Coded, fieldAt, Heap, Calls, Loops, WpFn, Atoms, sem, fact, Given, mean, ⋆, ‵, raw, _⊛_, some, later, _$_, _∵_, !, qed, by, move, keep, drop, use1, use2, split, join, pick, rewrite, fsplit, fjoin, feqI, await, updating, now as at-once, show, done, look, init, forget, stop, hop, fld, from, load, addr, of-opd, and-then, no-more, assigns, land, returns, enter, alloc1, alloc0, params1, pass1, pass0, free1, free0, whole, sub, look-in, lft-new, lft-end, FmC, RattleType, Is, Tells, shows, nothing-lawful, unit, RefT, MutRef, ShrRef, Kept, Exit, facts, heard, only, calls-from, keptS, ref-reshare, ref-reshare-back}
 use mathlib.Core.Option.{some as found}
 use mir.Val.{Vals}
@@ -19,7 +19,7 @@ resolveCode g k π τ ρ φ β = record {
       (seq (call g (copy (place 4 []) ∷ copy (place 2 []) ∷ []) (place 3 []))
       (seq (assign (place 6 []) (addrOf (place 1 (deref τ ∷ []))))
       (seq (call k (copy (place 6 []) ∷ copy (place 3 []) ∷ []) (place 5 []))
-      (seq (assign (place 0 []) (rvOpd (copy (place 3 (field 5 ∷ []))))) return))));
+      (seq (assign (place 0 []) (rvOpd (copy (place 3 (field 1 ∷ []))))) return))));
 }
 
 -- the row of a type with one machine value
@@ -46,10 +46,10 @@ module _ {M : Type 1} (𝓤 : URA M) (H : Heap 𝓤) (A : Atoms 𝓤) (W : Given
       use2 W (later (‵ (MutOwned erased κ T .own (stateAt γ)) ⊛ ‵ (flft κ q))) (ref-reshare-back 𝓤 H A W T κ q κ′ b o γ h) $ await ! tt $ split ! $
       feqI ! (List Val) (vptr b o ∷ []) (vptr b o ∷ []) refl $ fjoin ! $ at-once ! $ done !
 
--- F is the struct that g finds, vs its fields' machine values, of which the sixth has the type β
+-- F is the struct that g finds, vs its fields' machine values, of which the second has the type β
 module _ {M : Type 1} (𝓤 : URA M) (H : Heap 𝓤) (A : Atoms 𝓤) (W : Given 𝓤 H A) (T : RattleType) (F : Type 0) (name : Sym) (τs : Tys) (wr : Written) (rs : List (Written × List Ty)) (own : F → List Val → Fml) (exF : Kept → Exit F) (cd : Coded F)
     (vs : F → Vals) (tells : Tells (rowOf F (tyStruct name τs) wr rs own exF cd) (Is (rowOf F (tyStruct name τs) wr rs own exF cd)) (λ f. vstruct (vs f) ∷ [])) (typed : (f : F) (v : Val) → Is (rowOf F (tyStruct name τs) wr rs own exF cd) f (v ∷ []) → Holds (hasTy (tyStruct name τs) v) × WT v)
-    (β : Ty) (at : ℕ) (sixth : fieldAt zero τs 5 ≡ found (β, at)) (typed-sixth : (f : F) → Is (rowOf F (tyStruct name τs) wr rs own exF cd) f (vstruct (vs f) ∷ []) → Holds (hasTy β (getV (vs f) 5)) × WT (getV (vs f) 5)) where
+    (β : Ty) (at : ℕ) (second : fieldAt zero τs 1 ≡ found (β, at)) (typed-second : (f : F) → Is (rowOf F (tyStruct name τs) wr rs own exF cd) f (vstruct (vs f) ∷ []) → Holds (hasTy β (getV (vs f) 1)) × WT (getV (vs f) 1)) where
   abbrev R : RattleType
   R = rowOf F (tyStruct name τs) wr rs own exF cd
 
@@ -69,7 +69,7 @@ module _ {M : Type 1} (𝓤 : URA M) (H : Heap 𝓤) (A : Atoms 𝓤) (W : Given
         (ens-k : F → SProp 𝓤) (told-k : (f : F) → ent 𝓤 (ens-k f) (mean 𝓤 H A (some (λ (d : T .Denot). ‵ (fres γ (T .coded .code d)) ⊛ raw (fact 𝓤 (Q f d))))))
         (met-k : (f : F) → Is R f (vstruct (vs f) ∷ []) → P f → ent 𝓤 (⋆ 𝓤 H A (‵ Mine ∷ ‵ (flft κ q) ∷ []))
         (C k (vptr b o ∷ vstruct (vs f) ∷ []) (λ v. mean 𝓤 H A (later (some (λ (u : Unit {0}). ((‵ (flft κ q) ⊛ ‵ ftrue) ⊛ ‵ (unit .own u (v ∷ []))) ⊛ raw (ens-k f))))))) where
-      pub resolve-walk : (Post : Val → SProp 𝓤) → ((f : F) (d : T .Denot) → Is R f (vstruct (vs f) ∷ []) → P f → Q f d → ent 𝓤 (⋆ 𝓤 H A (‵ (fres γ (T .coded .code d)) ∷ ‵ (flft κ q) ∷ [])) (Post (getV (vs f) 5)))
+      pub resolve-walk : (Post : Val → SProp 𝓤) → ((f : F) (d : T .Denot) → Is R f (vstruct (vs f) ∷ []) → P f → Q f d → ent 𝓤 (⋆ 𝓤 H A (‵ (fres γ (T .coded .code d)) ∷ ‵ (flft κ q) ∷ [])) (Post (getV (vs f) 1)))
           → ent 𝓤 (⋆ 𝓤 H A (‵ Mine ∷ ‵ (flft κ q) ∷ [])) (WpFn 𝓤 H C Λ (resolveCode g k π τ ρ (tyStruct name τs) β) (vptr b o ∷ rv ∷ []) Post)
       resolve-walk Post exits =
           qed W (‵ Mine ∷ ‵ (flft κ q) ∷ []) ∵
@@ -101,7 +101,7 @@ module _ {M : Type 1} (𝓤 : URA M) (H : Heap 𝓤) (A : Atoms 𝓤) (W : Given
           move ! (1 ∷ []) $ split ! $ split ! $ move ! (2 ∷ []) $ facts ! unit (Is unit) (shows 𝓤 H A unit) u (w ∷ []) (λ u-is.
           -- [κ's token 0; true 1; the state's last 2; true 3; _6 4; _5 6; _4 8; _3 10; _2 12; _1 14; _0 16]
           land ! (from ! (stop !)) (init ! 6 refl (nothing-lawful 𝓤 H A W .typed u (w ∷ []) u-is .0)) $
-          assigns ! (of-opd ! (load ! (from ! (fld ! sixth (stop !))) (look-in ! 10 (sub ! 5 sixth (whole !))))) (from ! (stop !)) (init ! 16 refl (typed-sixth f (subst (λ (us : List Val). Is R f us) (tells f (v ∷ []) f-is) f-is))) $
+          assigns ! (of-opd ! (load ! (from ! (fld ! second (stop !))) (look-in ! 10 (sub ! 1 second (whole !))))) (from ! (stop !)) (init ! 16 refl (typed-second f (subst (λ (us : List Val). Is R f us) (tells f (v ∷ []) f-is) f-is))) $
           returns ! (look ! 16 refl) $ forget ! 4 refl $ forget ! 6 refl $ forget ! 8 refl $ forget ! 10 refl $ forget ! 12 refl $ forget ! 14 refl $ forget ! 16 refl $
           move ! (16 ∷ 17 ∷ []) $ free1 ! $ move ! (14 ∷ 15 ∷ []) $ free1 ! $ move ! (12 ∷ 13 ∷ []) $ free1 ! $ move ! (10 ∷ 11 ∷ []) $ free1 ! $ move ! (8 ∷ 9 ∷ []) $ free1 ! $ move ! (6 ∷ 7 ∷ []) $ free1 ! $ move ! (4 ∷ 5 ∷ []) $ free1 ! $ free0 ! $
           keep ! (2 ∷ 0 ∷ []) $ by ! (exits f d (subst (λ (us : List Val). Is R f us) (tells f (v ∷ []) f-is) f-is) p e)))))))))))))))))))

@@ -1,6 +1,6 @@
 // One request on a lent state whose tables are sound, in place: no table is copied.
-use finding::Bases;
-use finding::Finding;
+use decide::Bases;
+use decide::Granted;
 use request::Request;
 use tables::State;
 ghost use mathlib.Core.Path.{_≡_};
@@ -9,72 +9,77 @@ ghost use Rattle.definition.specs.Tables.{kinds};
 ghost use Rattle.definition.specs.Calls.{sound};
 ghost use Rattle.tables.specs.Views.{stateView};
 ghost use Rattle.request.specs.Asked.{requestOf};
-ghost use Rattle.finding.specs.Outcome.{basesIn, after};
-ghost use Rattle.finding.specs.Kept.{AllFree, Finds, kept, answer};
+ghost use Rattle.decide.specs.Outcome.{basesIn, after};
+ghost use Rattle.decide.specs.Kept.{AllFree, Finds, kept, answer};
 
 // What the request is granted, and where its rows go.
-pub fn find(s: &State, r: Request) -> Finding
+pub fn find(s: &State, r: Request) -> Granted
     requires { ⌜ T (sound kinds (stateView (now s))) ⌝ }
-    ensures { λ f. ⌜ Finds (now (s .entry)) (requestOf r) f ⌝ }
+    ensures { λ g. ⌜ Finds (now (s .entry)) (requestOf r) g ⌝ }
 {
-    let q = finding::queried(r);
+    let q = decide::queried(r);
     let mmio = look::range(
         &s.auto.mmio,
         &s.fixed.mmio,
         &s.owners.mmio,
-        finding::ask(q, 1),
+        decide::ask::mmio(q),
     );
-    let pio = look::range(&s.auto.pio, &s.fixed.pio, &s.owners.pio, finding::ask(q, 2));
+    let pio = look::range(
+        &s.auto.pio,
+        &s.fixed.pio,
+        &s.owners.pio,
+        decide::ask::pio(q),
+    );
     let input = look::wire(
         &s.auto.input,
         &s.fixed.input,
         &s.owners.input,
-        finding::ask_wire(q),
+        decide::ask::input(q),
     );
     let host = look::range(
         &s.auto.host,
         &s.fixed.host,
         &s.owners.host,
-        finding::ask(q, 4),
+        decide::ask::host(q),
     );
     let device = look::range(
         &s.auto.device,
         &s.fixed.device,
         &s.owners.device,
-        finding::ask_device(q),
+        decide::ask::device(q),
     );
     let event = look::range(
         &s.auto.event,
         &s.fixed.event,
         &s.owners.event,
-        finding::ask_event(q, device),
+        decide::ask::event(q, device),
     );
     let lpi = look::range(
         &s.auto.lpi,
         &s.fixed.lpi,
         &s.owners.lpi,
-        finding::ask_lpi(q, event),
+        decide::ask::lpi(q, event),
     );
-    finding::verdict(q, mmio, pio, input, host, device, event, lpi)
+    decide::verdict(q, mmio, pio, input, host, device, event, lpi)
 }
 
-// What was found, stored: a row at the end of each table that it names, and the five numbers.
-pub fn keep(s: &mut State, f: Finding)
-    requires { ⌜ AllFree f (now s .owners) ⌝ }
-    ensures { λ _. ⌜ now (s .exit) ≡ kept f (now (s .entry)) ⌝ }
+// What was granted, stored: a row at the end of each table that it names, and the five numbers.
+pub fn keep(s: &mut State, g: Granted)
+    requires { ⌜ AllFree g (now s .owners) ⌝ }
+    ensures { λ _. ⌜ now (s .exit) ≡ kept g (now (s .entry)) ⌝ }
 {
-    store::range(&mut s.owners.mmio, finding::put(f, 1));
-    store::range(&mut s.owners.pio, finding::put(f, 2));
-    store::wire(&mut s.owners.input, finding::put_wire(f));
-    store::range(&mut s.owners.host, finding::put(f, 4));
-    store::range(&mut s.owners.device, finding::put(f, 5));
-    store::range(&mut s.owners.event, finding::put_event(f));
-    store::range(&mut s.owners.lpi, finding::put_lpi(f));
-    s.number = f.said.number;
+    store::range(&mut s.owners.mmio, decide::put::mmio(g));
+    store::range(&mut s.owners.pio, decide::put::pio(g));
+    store::wire(&mut s.owners.input, decide::put::input(g));
+    store::range(&mut s.owners.host, decide::put::host(g));
+    store::range(&mut s.owners.device, decide::put::device(g));
+    store::range(&mut s.owners.event, decide::put::event(g));
+    store::range(&mut s.owners.lpi, decide::put::lpi(g));
+    s.number = g.said.number;
     s.index = 0;
-    s.namespace = f.said.namespace;
-    s.owner = f.said.owner;
-    s.detail = f.said.detail;
+    s.namespace = g.said.namespace;
+    s.owner = g.said.owner;
+    s.detail = g.said.detail;
 }
 
 // One request: the state afterwards is the definition's, and the first numbers of the rows are answered.
@@ -82,7 +87,7 @@ pub fn resolve(s: &mut State, r: Request) -> Bases
     requires { ⌜ T (sound kinds (stateView (now s))) ⌝ }
     ensures { λ b. ⌜ (stateView (now (s .exit)) ≡ after (stateView (now (s .entry))) (answer (now (s .entry)) (requestOf r))) × (b ≡ basesIn (requestOf r .want) (answer (now (s .entry)) (requestOf r))) ⌝ }
 {
-    let f = find(s, r);
-    keep(s, f);
-    f.bases
+    let g = find(s, r);
+    keep(s, g);
+    g.bases
 }

@@ -1,8 +1,7 @@
 -- What is judged before the first request is what the definition says of the tables. Assumes nothing.
-use mathlib.Core.Path.{_≡_, refl, sym, ap, _∙_}
+use mathlib.Core.Path.{_≡_, refl, sym, ap, subst, _∙_}
 use mathlib.Core.Bool.{Bool, true, false}
 use Prim.Native.Nat.{ℕ}
-use lib.Dec.{eqb}
 use Rattle.definition.specs.BaseLaws.{true-T}
 use Rattle.definition.specs.Base.{malformed, short, silence, Said, tell}
 use Rattle.definition.specs.Tables.{kinds}
@@ -10,13 +9,14 @@ use Rattle.definition.specs.Calls.{sound, saying}
 use Rattle.definition.specs.Calls as C
 use Rattle.definition.specs.PlanLaws.{tell-number}
 use Rattle.tables.specs.Views.{stateView}
-use Rattle.tables.specs.Whole.{holders}
 use Rattle.tables.specs.declared.Holders.{Holders}
 use Rattle.tables.specs.declared.State.{State}
 use Rattle.request.specs.Asked.{saidOf}
-use Rattle.store.specs.Store.{putRange, putWire}
-use Rattle.finding.specs.Kept.{AllFree, kept}
-use Rattle.finding.specs.declared.Finding.{Finding}
+use Rattle.store.specs.Store.{Free}
+use Rattle.decide.specs.Kept.{AllFree, kept}
+use Rattle.decide.specs.declared.Rows.{Rows}
+use Rattle.decide.specs.declared.Rows.the-variants.{Nothing}
+use Rattle.decide.specs.declared.Granted.{Granted}
 use Rattle.steps.specs.Steps.{clear, opened}
 use Rattle.steps.proofs.StepLaws.{not-clear, opened-unsound, opened-short, opened-clear}
 use Rattle.plan.specs.Turns.{fitsIn, judgedOf, Opens, turnsIn, turnsAfter}
@@ -24,40 +24,16 @@ use Rattle.plan.proofs.JudgeLaws.{judged-clear, judged-short, judged-un
 
 -- ---- nothing is stored
 
-none-of : (k m : ℕ) → k ≡ 0 → eqb 0 m ≡ false → eqb k m ≡ true → ⊥
-none-of k m e z t = true-T false (sym z ∙ sym (ap (λ (x : ℕ). eqb x m) e) ∙ t)
+stays : (n : ℕ) → Free n false
+stays n e = absurd (true-T false e)
 
-pub free-none : (f : Finding) (h : Holders) → f .kind ≡ 0 → AllFree f h
-free-none f h e = record {
-  mmio = λ t. absurd (none-of (f .kind) 1 e refl t);
-  pio = λ t. absurd (none-of (f .kind) 2 e refl t);
-  input = λ t. absurd (none-of (f .kind) 3 e refl t);
-  host = λ t. absurd (none-of (f .kind) 4 e refl t);
-  device = λ t. absurd (none-of (f .kind) 5 e refl t);
-  event = λ t. absurd (none-of (f .kind) 5 e refl t);
-  lpi = λ t. absurd (none-of (f .kind) 5 e refl t);
-}
+pub free-none : (g : Granted) (h : Holders) → g .rows ≡ Nothing → AllFree g h
+free-none g h e =
+    subst (λ (r : Rows). AllFree (record { rows = r; bases = g .bases; said = g .said }) h) (sym e)
+    (record { mmio = stays _; pio = stays _; input = stays _; host = stays _; device = stays _; event = stays _; lpi = stays _ })
 
--- the state with what a finding of the kind k would store
-abbrev keeping : Finding → State → ℕ → State
-keeping f s k =
-    record {
-      auto = s .auto;
-      fixed = s .fixed;
-      held = s .held;
-      owners =
-          holders (putRange (s .owners .mmio) (record { go = eqb k 1; row = f .first })) (putRange (s .owners .pio) (record { go = eqb k 2; row = f .first })) (putWire (s .owners .input) (record { go = eqb k 3; row = f .wire }))
-          (putRange (s .owners .host) (record { go = eqb k 4; row = f .first })) (putRange (s .owners .device) (record { go = eqb k 5; row = f .first })) (putRange (s .owners .event) (record { go = eqb k 5; row = f .second }))
-          (putRange (s .owners .lpi) (record { go = eqb k 5; row = f .third }));
-      number = f .said .number;
-      index = 0;
-      namespace = f .said .namespace;
-      owner = f .said .owner;
-      detail = f .said .detail;
-    }
-
-pub kept-none : (f : Finding) (s : State) → f .kind ≡ 0 → stateView (kept f s) ≡ saying (saidOf (f .said)) (stateView s)
-kept-none f s e = ap (λ (k : ℕ). stateView (keeping f s k)) e
+pub kept-none : (g : Granted) (s : State) → g .rows ≡ Nothing → stateView (kept g s) ≡ saying (saidOf (g .said)) (stateView s)
+kept-none g s e = ap (λ (r : Rows). stateView (kept (record { rows = r; bases = g .bases; said = g .said }) s)) e
 
 -- ---- what is said, and how many turns follow
 
@@ -83,8 +59,8 @@ module _ (n room : ℕ) (s : C.State) where
   )
 
 module _ (n room : ℕ) (h : State) (b : Bool) (e : b ≡ sound kinds (stateView h)) where
-  pub open-state : (f : Finding) → Opens b n room f → stateView (kept f h) ≡ opened n room (stateView h)
-  open-state f o = kept-none f h (o .nothing) ∙ ap (λ (w : Said). saying w (stateView h)) (o .said) ∙ opens-as n room (stateView h) b (sym e) (fitsIn n room) refl .0
+  pub open-state : (g : Granted) → Opens b n room g → stateView (kept g h) ≡ opened n room (stateView h)
+  open-state g o = kept-none g h (o .nothing) ∙ ap (λ (w : Said). saying w (stateView h)) (o .said) ∙ opens-as n room (stateView h) b (sym e) (fitsIn n room) refl .0
 
   pub open-turns : (d : State) → stateView d ≡ opened n room (stateView h) → turnsIn b n room ≡ turnsAfter n (stateView d)
   open-turns d u = opens-as n room (stateView h) b (sym e) (fitsIn n room) refl .1 ∙ ap (turnsAfter n) (sym u)

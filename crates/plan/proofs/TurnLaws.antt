@@ -17,8 +17,8 @@ use Rattle.tables.specs.Views.{stateView}
 use Rattle.tables.specs.declared.State.{State}
 use Rattle.request.specs.Asked.{requestOf}
 use Rattle.request.specs.declared.Request.{Request}
-use Rattle.finding.specs.Outcome.{basesIn, after}
-use Rattle.finding.specs.declared.Bases.{Bases}
+use Rattle.decide.specs.Outcome.{basesIn, after}
+use Rattle.decide.specs.declared.Bases.{Bases}
 use Rattle.steps.specs.Steps.{clear, Steady, indexed, indexFor, turned, writtenAt}
 use Rattle.steps.proofs.StepLaws.{written-is, turned-skips}
 use Rattle.steps.proofs.PlanLaws.{turned-in-place}

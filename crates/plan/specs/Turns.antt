@@ -9,7 +9,8 @@ use Rattle.definition.specs.Calls.{State}
 use Rattle.flat.specs.Flat.{requestSize}
 use Rattle.request.specs.Asked.{saidOf}
 use Rattle.steps.specs.Steps.{clear}
-use Rattle.finding.specs.declared.Finding.{Finding}
+use Rattle.decide.specs.declared.Rows.the-variants.{Nothing}
+use Rattle.decide.specs.declared.Granted.{Granted}
 use Rattle.definition.specs.Cut.{cutting}
 use Rattle.lent.specs.Marks.{countsIn}
 use Rattle.lent.specs.declared.Marks.{Marks}
@@ -23,9 +24,9 @@ unfoldable pub judgedOf : Bool → ℕ → ℕ → Said
 judgedOf sound n room = elim sound [ false ↦ tell 0 malformed | true ↦ elim (fitsIn n room) [ false ↦ tell 0 short | true ↦ silence ] ]
 
 -- nothing is stored, and that is said
-pub record Opens (sound : Bool) (n room : ℕ) (f : Finding) : Type 0 where
-  pub nothing : f .kind ≡ 0
-  pub said : saidOf (f .said) ≡ judgedOf sound n room
+pub record Opens (sound : Bool) (n room : ℕ) (g : Granted) : Type 0 where
+  pub nothing : g .rows ≡ Nothing
+  pub said : saidOf (g .said) ≡ judgedOf sound n room
 
 unfoldable pub turnsIn : Bool → ℕ → ℕ → ℕ
 turnsIn sound n room = elim sound [ false ↦ 0 | true ↦ elim (fitsIn n room) [ false ↦ 0 | true ↦ n ] ]

@@ -1,6 +1,6 @@
 // A plan where the state stands: its requests in order, each answered in place, up to the first refusal, which cuts the owner tables back to the counts that they had. No request copies a table, and no state is kept to go back to.
 use choose::Refusal;
-use finding::Finding;
+use decide::Granted;
 use lent::Marks;
 use request::Request;
 use request::Said;
@@ -35,13 +35,13 @@ pub fn judged(sound: bool, n: usize, room: usize) -> Said
 }
 
 // .. which are said beside the tables: nothing is stored in them.
-pub fn opening(sound: bool, n: usize, room: usize) -> Finding
-    ensures { λ f. ⌜ Opens sound n room f ⌝ }
+pub fn opening(sound: bool, n: usize, room: usize) -> Granted
+    ensures { λ g. ⌜ Opens sound n room g ⌝ }
 {
     let said = judged(sound, n, room);
-    let mut f = finding::refused(Refusal::Malformed);
-    f.said = said;
-    f
+    let mut g = decide::grant::refused(Refusal::Malformed);
+    g.said = said;
+    g
 }
 
 // How many requests have their turn: all of them, or none.
@@ -95,8 +95,8 @@ pub fn open(s: &mut State, n: usize, room: usize) -> usize
     ensures { λ r. ⌜ (stateView (now (s .exit)) ≡ opened n room (stateView (now (s .entry)))) × (r ≡ turnsAfter n (stateView (now (s .exit)))) ⌝ }
 {
     let sound = lent_sound::sound(s);
-    let f = opening(sound, n, room);
-    inplace::keep(s, f);
+    let g = opening(sound, n, room);
+    inplace::keep(s, g);
     turns(sound, n, room)
 }
 

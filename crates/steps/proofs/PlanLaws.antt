@@ -25,7 +25,7 @@ use Rattle.definition.specs.RunLaws.{run-accepted, run-refused, record-length}
 use Rattle.steps.specs.Steps.{putFrom, clear, Steady, opened, indexed, numbered, answered, turned, turns, recorded, indexFor, settled, steps}
 use Rattle.steps.proofs.PutLaws.{put-append, put-nil}
 use Rattle.allocation.proofs.ServeLaws.{into-refused, into-granted}
-use Rattle.finding.specs.Outcome.{basesIn, after}
+use Rattle.decide.specs.Outcome.{basesIn, after}
 use Rattle.steps.proofs.StepLaws.{not-clear, opened-unsound, opened-short, opened-clear, numbered-clear, numbered-refused, settled-clear, settled-refused, turned-skips, turned-answers}
 
 -- ---- the results

@@ -16,7 +16,7 @@ use Rattle.definition.specs.Pools.{Claim}
 use Rattle.steps.specs.Steps.{putFrom, clear, opened, indexed, numbered, answered, turned, recorded, writtenAt, settled}
 use Rattle.request.specs.Asked.{requestOf}
 use Rattle.request.specs.declared.Request as R
-use Rattle.finding.specs.Outcome.{basesIn}
+use Rattle.decide.specs.Outcome.{basesIn}
 use Rattle.allocation.proofs.RecordLaws.{record-granted}
 
 pub is-clear : (s : State) → s .said .number ≡ 0 → clear s ≡ true

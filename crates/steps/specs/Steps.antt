@@ -12,7 +12,7 @@ use Rattle.definition.specs.Calls.{State, sound, saying, settle}
 use Rattle.definition.specs.Pools.{Claim}
 use Rattle.definition.specs.Plan.{Lent, lent, allocateInto, grant, recordOf, written}
 use Rattle.request.specs.declared.Request as R
-use Rattle.finding.specs.declared.Bases.{Bases}
+use Rattle.decide.specs.declared.Bases.{Bases}
 use Rattle.allocation.specs.Records.{listOf, recordIn}
 
 -- no request was refused so far

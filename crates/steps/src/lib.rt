@@ -1,5 +1,5 @@
 // The parts of a plan's turns, over plain values: whether the plan fits, whether a request has its turn, the index of its answer, and its record in the results.
-use finding::Bases;
+use decide::Bases;
 use request::Request;
 use tables::PLAN;
 use tables::RECORD;

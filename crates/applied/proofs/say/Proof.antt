@@ -10,10 +10,10 @@ use Rattle.range.specs.Answers.{heard}
 use Rattle.range.specs.declared.Reply.{Reply}
 use Rattle.range.proofs.Reply as Re
 use Rattle.range.proofs.Reply.Laws as Re′
-use Rattle.finding.specs.Kept.{kept}
-use Rattle.finding.specs.declared.Finding.{Finding}
-use Rattle.finding.proofs.Finding as Fi
-use Rattle.finding.proofs.Finding.Laws as Fi′
+use Rattle.decide.specs.Kept.{kept}
+use Rattle.decide.specs.declared.Granted.{Granted}
+use Rattle.decide.proofs.Granted as Gr
+use Rattle.decide.proofs.Granted.Laws as Gr′
 use Rattle.inplace.proofs.keep as k
 use Rattle.lent.proofs.Acts.{Acts, told-by}
 use Rattle.walks.proofs.Straight.{nil, arg, num, first, others}
@@ -28,8 +28,8 @@ use Rattle.applied.proofs.say as f
 abbrev valR : Reply → Val
 valR x = LL.val Re.the-type Re′.the-laws x
 
-abbrev valF : Finding → Val
-valF x = LL.val Fi.the-type Fi′.the-laws x
+abbrev valF : Granted → Val
+valF x = LL.val Gr.the-type Gr′.the-laws x
 
 module _ {M : Type 1} (𝓤 : URA M) (H : Heap 𝓤) (A : Atoms 𝓤) (at-mem : Memory → SProp 𝓤) (run : Routine → Fun 𝓤) (W : Given 𝓤 H A) (𝓣 : Tables 𝓤 H) (known-t : Triple 𝓤 (𝓣 .C t.Symbol.name) (tripleOf 𝓤 H A t.signature (t.spec 𝓤 H A at-mem run))) (known-k : Triple 𝓤 (𝓣 .C k.Symbol.name) (tripleOf 𝓤 H A k.signature (k.spec 𝓤 H A at-mem run))) where
   abbrev ls : List Local
@@ -39,25 +39,25 @@ module _ {M : Type 1} (𝓤 : URA M) (H : Heap 𝓤) (A : Atoms 𝓤) (at-mem : 
     abbrev Held : State → Item 𝓤
     Held = Stands 𝓤 H A W κ q b o γ
 
-    abbrev Found : Finding → Type 0
-    Found g = Is Fi.the-row g (valF g ∷ []) × Tells r g
+    abbrev Found : Granted → Type 0
+    Found g = Is Gr.the-row g (valF g ∷ []) × Tells r g
 
-    tells : Acts 𝓤 H A W (𝓣 .C) t.Symbol.name (valR r ∷ []) (Held h) Finding (λ g. Held h) valF Found
+    tells : Acts 𝓤 H A W (𝓣 .C) t.Symbol.name (valR r ∷ []) (Held h) Granted (λ g. Held h) valF Found
     tells =
-        told-by 𝓤 H A W (𝓣 .C) (fmOf 𝓤 H (W .laws) 𝓣) t.Symbol.name (t.signature .params) (t.ended .kept) Fi.the-row valF (LL.tells Fi.the-type Fi′.the-laws) (t.clauses 𝓤 H A at-mem run) known-t (r, tt) (valR r ∷ [], tt) tt (Tells r)
+        told-by 𝓤 H A W (𝓣 .C) (fmOf 𝓤 H (W .laws) 𝓣) t.Symbol.name (t.signature .params) (t.ended .kept) Gr.the-row valF (LL.tells Gr.the-type Gr′.the-laws) (t.clauses 𝓤 H A at-mem run) known-t (r, tt) (valR r ∷ [], tt) tt (Tells r)
         (qed W [] ∵ nothing ! $ owned ! Re.the-row (Is Re.the-row) (LL.makes Re.the-type Re′.the-plain 𝓤 H A) r _ r-is $ fjoin ! $ done !) (id⊢ 𝓤 _) (λ g z. id⊢ 𝓤 _) (Held h)
 
-    abbrev After : Finding → State × Unit {0} → Type 0
+    abbrev After : Granted → State × Unit {0} → Type 0
     After g z = Is unit (z .1) (vunit ∷ []) × (z .0 ≡ kept g h)
 
-    keeps : (g : Finding) → Found g → Acts 𝓤 H A W (𝓣 .C) k.Symbol.name (vptr b o ∷ valF g ∷ []) (Held h) (State × Unit {0}) (λ z. Held (z .0)) (λ z. vunit) (After g)
+    keeps : (g : Granted) → Found g → Acts 𝓤 H A W (𝓣 .C) k.Symbol.name (vptr b o ∷ valF g ∷ []) (Held h) (State × Unit {0}) (λ z. Held (z .0)) (λ z. vunit) (After g)
     keeps g found =
-        lent-beside 𝓤 H A W κ q b o γ (𝓣 .C) (fmOf 𝓤 H (W .laws) 𝓣) k.Symbol.name (plain (λ _. Fi.the-row) ∷ []) (yes, tt) unit (λ u. vunit) nothing-tells (k.clauses 𝓤 H A at-mem run) known-k h (valF g ∷ []) (λ ν. (g, tt)) (λ ν. (valF g ∷ [], tt)) (λ ν. refl)
-        (λ ν. qed W [] ∵ nothing ! $ owned ! Fi.the-row (Is Fi.the-row) (LL.makes Fi.the-type Fi′.the-plain 𝓤 H A) g _ (found .0) $ fjoin ! $ done !) (λ ν δ. tt) (λ ν δ. factI 𝓤 _ (emp 𝓤) (free-none g (h .owners) (found .1 .nothing))) (λ d u. d ≡ kept g h) (λ ν δ ws u. id⊢ 𝓤 _)
+        lent-beside 𝓤 H A W κ q b o γ (𝓣 .C) (fmOf 𝓤 H (W .laws) 𝓣) k.Symbol.name (plain (λ _. Gr.the-row) ∷ []) (yes, tt) unit (λ u. vunit) nothing-tells (k.clauses 𝓤 H A at-mem run) known-k h (valF g ∷ []) (λ ν. (g, tt)) (λ ν. (valF g ∷ [], tt)) (λ ν. refl)
+        (λ ν. qed W [] ∵ nothing ! $ owned ! Gr.the-row (Is Gr.the-row) (LL.makes Gr.the-type Gr′.the-plain 𝓤 H A) g _ (found .0) $ fjoin ! $ done !) (λ ν δ. tt) (λ ν δ. factI 𝓤 _ (emp 𝓤) (free-none g (h .owners) (found .1 .nothing))) (λ d u. d ≡ kept g h) (λ ν δ ws u. id⊢ 𝓤 _)
 
     walk : (Kf : Val → SProp 𝓤) → ((d : State) → stateView d ≡ saying (heard r) (stateView h) → ent 𝓤 (mean 𝓤 H A (Held d)) (Kf vunit)) → ent 𝓤 (mean 𝓤 H A (Held h)) (WpFn 𝓤 H (𝓣 .C) (𝓣 .Λ) f.Code.function (vptr b o ∷ valR r ∷ []) Kf)
     walk Kf exits = entering W (𝓣 .C) (𝓣 .Λ) (Held h) f.Code.function (first ls) (others ls) (vptr b o ∷ valR r ∷ []) Kf refl ((tt, tt), (LL.lawful Re.the-type Re′.the-laws 𝓤 H A W .typed r _ r-is .0, tt)) (λ l.
-        acted W (𝓣 .C) (𝓣 .Λ) ls l (fmOf 𝓤 H (W .laws) 𝓣) Finding (λ g. Held h) valF Found (arg refl tt nil) tells tt (λ g y. LL.lawful Fi.the-type Fi′.the-laws 𝓤 H A W .typed g _ (y .0) .0) (λ g found.
+        acted W (𝓣 .C) (𝓣 .Λ) ls l (fmOf 𝓤 H (W .laws) 𝓣) Granted (λ g. Held h) valF Found (arg refl tt nil) tells tt (λ g y. LL.lawful Gr.the-type Gr′.the-laws 𝓤 H A W .typed g _ (y .0) .0) (λ g found.
         points W (𝓣 .C) (𝓣 .Λ) ls l refl refl tt tt (tt, tt)
         (acted W (𝓣 .C) (𝓣 .Λ) ls l (fmOf 𝓤 H (W .laws) 𝓣) (State × Unit {0}) (λ z. Held (z .0)) (λ z. vunit) (After g) (arg refl tt (arg refl tt nil)) (keeps g found) tt (λ z y. (tt, tt)) (λ z y.
         sets W (𝓣 .C) (𝓣 .Λ) ls l vunit (of-opd ! (unit-lit !)) tt (tt, tt) (gives W (𝓣 .C) (𝓣 .Λ) ls l Kf vunit refl tt (exits (z .0) (ap stateView (y .1) ∙ said-so r g h (found .1))))))))

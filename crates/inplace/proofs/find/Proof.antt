@@ -1,6 +1,7 @@
--- `inplace::find` meets its contract: straight code over the covered functions of `finding` and the two that look into tables. Assumes nothing.
-use Rattle.walks.proofs.Prelude.{_≡_, refl, [], _∷_, List, none, ℕ, _+_, URA, named, SProp, emp, id⊢, Lft, Share, Memory, Routine, Heap, Calls, WpFn, Tables, Atoms, fmOf, Fun, factI, AllOutlive, givenOf, tables, tablesOf, Given, Item, ‵, owns, flat, Is, ptr-vals, shr-tells, typesAt, Args, Vals, Meets, tripleOf, Triple, entered, cited, _^_, T as Holds, ltb, ltb→lt, w64, vint, GName, Makes, uint-makes, Parts}
+-- `inplace::find` meets its contract: straight code over the covered functions of `decide` and the two that look into tables. Assumes nothing.
+use Rattle.walks.proofs.Prelude.{_≡_, refl, [], _∷_, List, none, ℕ, _+_, URA, named, SProp, emp, id⊢, Lft, Share, Memory, Routine, Heap, Calls, WpFn, Tables, Atoms, fmOf, Fun, factI, AllOutlive, givenOf, tables, tablesOf, Given, Item, ‵, owns, flat, Is, ptr-vals, shr-tells, typesAt, Args, Vals, Meets, tripleOf, Triple, entered, cited, T as Holds, GName, Makes, Parts}
 use denote.Struct.Laws as LL
+use denote.Enum.Laws as EE
 use Rattle.definition.specs.Tables.{kinds}
 use Rattle.definition.specs.Calls.{sound as sound-state}
 use Rattle.tables.specs.Views.{stateView}
@@ -18,12 +19,12 @@ use Rattle.tables.proofs.State as T
 use Rattle.request.proofs.Request as R
 use Rattle.request.proofs.Request.Laws as R′
 use Rattle.look.specs.Look.{Asks, Sees, WireAsks, SeesWire}
-use Rattle.finding.specs.Query.{queryOf, askOf, wireAskOf, deviceAskOf, eventAskOf, lpiAskOf}
-use Rattle.finding.specs.Finding.{verdictOf}
+use Rattle.decide.specs.Query.{queryOf, asked}
+use Rattle.decide.specs.Granted.{verdictOf}
 use Rattle.look.specs.declared.Ask.{Ask}
 use Rattle.look.specs.declared.WireAsk.{WireAsk}
 use Rattle.look.specs.declared.Seen.{Seen}
-use Rattle.finding.specs.declared.Query.{Query}
+use Rattle.decide.specs.declared.Query.{Query}
 use Rattle.look.proofs.Ask as K
 use Rattle.look.proofs.Ask.Laws as K′
 use Rattle.look.proofs.WireAsk as X
@@ -32,21 +33,23 @@ use Rattle.look.proofs.Seen as S
 use Rattle.look.proofs.Seen.Laws as S′
 use Rattle.look.proofs.range as range
 use Rattle.look.proofs.wire as wire
-use Rattle.finding.proofs.Query as Q
-use Rattle.finding.proofs.Query.Laws as Q′
-use Rattle.finding.proofs.Finding as F
-use Rattle.finding.proofs.Finding.Laws as F′
-use Rattle.finding.proofs.queried as queried
-use Rattle.finding.proofs.ask as ask
-use Rattle.finding.proofs.ask_wire as ask-wire
-use Rattle.finding.proofs.ask_device as ask-device
-use Rattle.finding.proofs.ask_event as ask-event
-use Rattle.finding.proofs.ask_lpi as ask-lpi
-use Rattle.finding.proofs.verdict as verdict
-use Rattle.finding.specs.Tables.{AllAsk}
-use Rattle.finding.proofs.AskLaws.{asks}
-use Rattle.finding.proofs.FindingLaws.{finds}
-use Rattle.walks.proofs.Straight.{first, others, given, Gives, Runs, back, point, ask as get, make, nil, arg, num}
+use Rattle.decide.proofs.Query as Q
+use Rattle.decide.proofs.Query.Laws as Q′
+use Rattle.decide.proofs.Granted as F
+use Rattle.decide.proofs.Granted.Laws as F′
+use Rattle.decide.proofs.queried as queried
+use Rattle.decide.proofs.ask.mmio as ask-mmio
+use Rattle.decide.proofs.ask.pio as ask-pio
+use Rattle.decide.proofs.ask.input as ask-input
+use Rattle.decide.proofs.ask.host as ask-host
+use Rattle.decide.proofs.ask.device as ask-device
+use Rattle.decide.proofs.ask.event as ask-event
+use Rattle.decide.proofs.ask.lpi as ask-lpi
+use Rattle.decide.proofs.verdict as verdict
+use Rattle.decide.specs.Tables.{AllAsk}
+use Rattle.decide.proofs.AskLaws.{asks}
+use Rattle.decide.proofs.VerdictLaws.{finds}
+use Rattle.walks.proofs.Straight.{first, others, given, Gives, Runs, back, point, ask as get, make, nil, arg}
 use Rattle.walks.proofs.Passing.{Plain, declaredAs, valueAs, Arg, plainly, slots, valsOf, covered, passing, refTo, among}
 use Rattle.walks.proofs.Columns.{Into}
 use Rattle.walks.proofs.StateParts.{Table, mmio, pio, input, host, device, event, lpi, auto-at, fixed-at, owners-at, pool-at, holder-at, mmio-pool, pio-pool, input-pool, host-pool, device-pool, event-pool, lpi-pool, mmio-holder, pio-holder, input-holder, host-holder, device-holder, event-holder, lpi-holder, auto-table, fixed-table, owners-table}
@@ -59,8 +62,10 @@ Sound h = Holds (sound-state kinds (stateView h))
 -- what is known of the callees
 record Known {M : Type 1} (𝓤 : URA M) (H : Heap 𝓤) (A : Atoms 𝓤) (at-mem : Memory → SProp 𝓤) (run : Routine → Fun 𝓤) (C : Calls 𝓤 H) : Type 1 where
   k-queried : Triple 𝓤 (C queried.Symbol.name) (tripleOf 𝓤 H A queried.signature (queried.spec 𝓤 H A at-mem run))
-  k-ask : Triple 𝓤 (C ask.Symbol.name) (tripleOf 𝓤 H A ask.signature (ask.spec 𝓤 H A at-mem run))
-  k-ask-wire : Triple 𝓤 (C ask-wire.Symbol.name) (tripleOf 𝓤 H A ask-wire.signature (ask-wire.spec 𝓤 H A at-mem run))
+  k-ask-mmio : Triple 𝓤 (C ask-mmio.Symbol.name) (tripleOf 𝓤 H A ask-mmio.signature (ask-mmio.spec 𝓤 H A at-mem run))
+  k-ask-pio : Triple 𝓤 (C ask-pio.Symbol.name) (tripleOf 𝓤 H A ask-pio.signature (ask-pio.spec 𝓤 H A at-mem run))
+  k-ask-input : Triple 𝓤 (C ask-input.Symbol.name) (tripleOf 𝓤 H A ask-input.signature (ask-input.spec 𝓤 H A at-mem run))
+  k-ask-host : Triple 𝓤 (C ask-host.Symbol.name) (tripleOf 𝓤 H A ask-host.signature (ask-host.spec 𝓤 H A at-mem run))
   k-ask-device : Triple 𝓤 (C ask-device.Symbol.name) (tripleOf 𝓤 H A ask-device.signature (ask-device.spec 𝓤 H A at-mem run))
   k-ask-event : Triple 𝓤 (C ask-event.Symbol.name) (tripleOf 𝓤 H A ask-event.signature (ask-event.spec 𝓤 H A at-mem run))
   k-ask-lpi : Triple 𝓤 (C ask-lpi.Symbol.name) (tripleOf 𝓤 H A ask-lpi.signature (ask-lpi.spec 𝓤 H A at-mem run))
@@ -73,7 +78,7 @@ module _ {M : Type 1} (𝓤 : URA M) (H : Heap 𝓤) (A : Atoms 𝓤) (W : Given
   Fo = declaredAs 𝓤 H A W F.the-type F′.the-laws
 
   abbrev Qu : Plain
-  Qu = declaredAs 𝓤 H A W Q.the-type Q′.the-laws
+  Qu = record { R = Q.the-row; ty = Q′.mir; val = EE.val Q.the-type Q′.the-laws; tells = EE.tells Q.the-type Q′.the-laws; typed = λ d is. EE.lawful Q.the-type Q′.the-laws 𝓤 H A W tt .typed d _ is .0 }
 
   abbrev As : Plain
   As = declaredAs 𝓤 H A W K.the-type K′.the-laws
@@ -85,7 +90,7 @@ module _ {M : Type 1} (𝓤 : URA M) (H : Heap 𝓤) (A : Atoms 𝓤) (W : Given
   Se = declaredAs 𝓤 H A W S.the-type S′.the-laws
 
   make-query : Makes 𝓤 H A Q.the-row (Is Q.the-row)
-  make-query = LL.makes Q.the-type Q′.the-plain 𝓤 H A
+  make-query = EE.makes Q.the-type Q′.the-plain 𝓤 H A
 
   make-seen : Makes 𝓤 H A S.the-row (Is S.the-row)
   make-seen = LL.makes S.the-type S′.the-plain 𝓤 H A
@@ -129,29 +134,39 @@ module _ {M : Type 1} (𝓤 : URA M) (H : Heap 𝓤) (A : Atoms 𝓤) (W : Given
         (LL.makes R.the-type R′.the-plain 𝓤 H A, tt) (r-is, tt) (id⊢ 𝓤 (emp 𝓤)) (λ d e. id⊢ 𝓤 _)
 
     module _ (y-is : Is Q.the-row y (Qu .val y ∷ [])) where
-      ask-made : (k : ℕ) → Holds (ltb k (2 ^ 64)) → Gives 𝓤 H A W (𝓣 .C) hold ask.Symbol.name (Qu .val y ∷ vint w64 k ∷ []) (valueAs As) (λ d. d ≡ askOf y k)
-      ask-made k low =
-          covered 𝓤 H A W (𝓣 .C) (fmOf 𝓤 H (W .laws) 𝓣) hold ask.Symbol.name As (λ d. d ≡ askOf y k) (ask.signature .params) (ask.ended .kept) (ask.clauses 𝓤 H A at-mem run) (known .k-ask) (y, (k, tt)) (Qu .val y ∷ [], (vint w64 k ∷ [], tt)) tt
-          (make-query, (uint-makes 𝓤 H A W w64, tt)) (y-is, ((refl, ltb→lt k (2 ^ 64) low), tt)) (id⊢ 𝓤 (emp 𝓤)) (λ d e. id⊢ 𝓤 _)
-
-      wire-made : Gives 𝓤 H A W (𝓣 .C) hold ask-wire.Symbol.name (Qu .val y ∷ []) (valueAs Xs) (λ d. d ≡ wireAskOf y)
-      wire-made =
-          covered 𝓤 H A W (𝓣 .C) (fmOf 𝓤 H (W .laws) 𝓣) hold ask-wire.Symbol.name Xs (λ d. d ≡ wireAskOf y) (ask-wire.signature .params) (ask-wire.ended .kept) (ask-wire.clauses 𝓤 H A at-mem run) (known .k-ask-wire) (y, tt) (Qu .val y ∷ [], tt) tt
+      mmio-made : Gives 𝓤 H A W (𝓣 .C) hold ask-mmio.Symbol.name (Qu .val y ∷ []) (valueAs As) (λ d. d ≡ asked y .mmio)
+      mmio-made =
+          covered 𝓤 H A W (𝓣 .C) (fmOf 𝓤 H (W .laws) 𝓣) hold ask-mmio.Symbol.name As (λ d. d ≡ asked y .mmio) (ask-mmio.signature .params) (ask-mmio.ended .kept) (ask-mmio.clauses 𝓤 H A at-mem run) (known .k-ask-mmio) (y, tt) (Qu .val y ∷ [], tt) tt
           (make-query, tt) (y-is, tt) (id⊢ 𝓤 (emp 𝓤)) (λ d e. id⊢ 𝓤 _)
 
-      device-made : Gives 𝓤 H A W (𝓣 .C) hold ask-device.Symbol.name (Qu .val y ∷ []) (valueAs As) (λ d. d ≡ deviceAskOf y)
+      pio-made : Gives 𝓤 H A W (𝓣 .C) hold ask-pio.Symbol.name (Qu .val y ∷ []) (valueAs As) (λ d. d ≡ asked y .pio)
+      pio-made =
+          covered 𝓤 H A W (𝓣 .C) (fmOf 𝓤 H (W .laws) 𝓣) hold ask-pio.Symbol.name As (λ d. d ≡ asked y .pio) (ask-pio.signature .params) (ask-pio.ended .kept) (ask-pio.clauses 𝓤 H A at-mem run) (known .k-ask-pio) (y, tt) (Qu .val y ∷ [], tt) tt
+          (make-query, tt) (y-is, tt) (id⊢ 𝓤 (emp 𝓤)) (λ d e. id⊢ 𝓤 _)
+
+      input-made : Gives 𝓤 H A W (𝓣 .C) hold ask-input.Symbol.name (Qu .val y ∷ []) (valueAs Xs) (λ d. d ≡ asked y .input)
+      input-made =
+          covered 𝓤 H A W (𝓣 .C) (fmOf 𝓤 H (W .laws) 𝓣) hold ask-input.Symbol.name Xs (λ d. d ≡ asked y .input) (ask-input.signature .params) (ask-input.ended .kept) (ask-input.clauses 𝓤 H A at-mem run) (known .k-ask-input) (y, tt) (Qu .val y ∷ [], tt) tt
+          (make-query, tt) (y-is, tt) (id⊢ 𝓤 (emp 𝓤)) (λ d e. id⊢ 𝓤 _)
+
+      host-made : Gives 𝓤 H A W (𝓣 .C) hold ask-host.Symbol.name (Qu .val y ∷ []) (valueAs As) (λ d. d ≡ asked y .host)
+      host-made =
+          covered 𝓤 H A W (𝓣 .C) (fmOf 𝓤 H (W .laws) 𝓣) hold ask-host.Symbol.name As (λ d. d ≡ asked y .host) (ask-host.signature .params) (ask-host.ended .kept) (ask-host.clauses 𝓤 H A at-mem run) (known .k-ask-host) (y, tt) (Qu .val y ∷ [], tt) tt
+          (make-query, tt) (y-is, tt) (id⊢ 𝓤 (emp 𝓤)) (λ d e. id⊢ 𝓤 _)
+
+      device-made : Gives 𝓤 H A W (𝓣 .C) hold ask-device.Symbol.name (Qu .val y ∷ []) (valueAs As) (λ d. d ≡ asked y .device)
       device-made =
-          covered 𝓤 H A W (𝓣 .C) (fmOf 𝓤 H (W .laws) 𝓣) hold ask-device.Symbol.name As (λ d. d ≡ deviceAskOf y) (ask-device.signature .params) (ask-device.ended .kept) (ask-device.clauses 𝓤 H A at-mem run) (known .k-ask-device) (y, tt) (Qu .val y ∷ [], tt) tt
+          covered 𝓤 H A W (𝓣 .C) (fmOf 𝓤 H (W .laws) 𝓣) hold ask-device.Symbol.name As (λ d. d ≡ asked y .device) (ask-device.signature .params) (ask-device.ended .kept) (ask-device.clauses 𝓤 H A at-mem run) (known .k-ask-device) (y, tt) (Qu .val y ∷ [], tt) tt
           (make-query, tt) (y-is, tt) (id⊢ 𝓤 (emp 𝓤)) (λ d e. id⊢ 𝓤 _)
 
-      event-made : (d : Seen) → Is S.the-row d (Se .val d ∷ []) → Gives 𝓤 H A W (𝓣 .C) hold ask-event.Symbol.name (Qu .val y ∷ Se .val d ∷ []) (valueAs As) (λ z. z ≡ eventAskOf y d)
+      event-made : (d : Seen) → Is S.the-row d (Se .val d ∷ []) → Gives 𝓤 H A W (𝓣 .C) hold ask-event.Symbol.name (Qu .val y ∷ Se .val d ∷ []) (valueAs As) (λ z. z ≡ asked y .event d)
       event-made d d-is =
-          covered 𝓤 H A W (𝓣 .C) (fmOf 𝓤 H (W .laws) 𝓣) hold ask-event.Symbol.name As (λ z. z ≡ eventAskOf y d) (ask-event.signature .params) (ask-event.ended .kept) (ask-event.clauses 𝓤 H A at-mem run) (known .k-ask-event) (y, (d, tt)) (Qu .val y ∷ [], (Se .val d ∷ [], tt)) tt
+          covered 𝓤 H A W (𝓣 .C) (fmOf 𝓤 H (W .laws) 𝓣) hold ask-event.Symbol.name As (λ z. z ≡ asked y .event d) (ask-event.signature .params) (ask-event.ended .kept) (ask-event.clauses 𝓤 H A at-mem run) (known .k-ask-event) (y, (d, tt)) (Qu .val y ∷ [], (Se .val d ∷ [], tt)) tt
           (make-query, (make-seen, tt)) (y-is, (d-is, tt)) (id⊢ 𝓤 (emp 𝓤)) (λ z e. id⊢ 𝓤 _)
 
-      lpi-made : (e : Seen) → Is S.the-row e (Se .val e ∷ []) → Gives 𝓤 H A W (𝓣 .C) hold ask-lpi.Symbol.name (Qu .val y ∷ Se .val e ∷ []) (valueAs As) (λ z. z ≡ lpiAskOf y e)
+      lpi-made : (e : Seen) → Is S.the-row e (Se .val e ∷ []) → Gives 𝓤 H A W (𝓣 .C) hold ask-lpi.Symbol.name (Qu .val y ∷ Se .val e ∷ []) (valueAs As) (λ z. z ≡ asked y .lpi e)
       lpi-made e e-is =
-          covered 𝓤 H A W (𝓣 .C) (fmOf 𝓤 H (W .laws) 𝓣) hold ask-lpi.Symbol.name As (λ z. z ≡ lpiAskOf y e) (ask-lpi.signature .params) (ask-lpi.ended .kept) (ask-lpi.clauses 𝓤 H A at-mem run) (known .k-ask-lpi) (y, (e, tt)) (Qu .val y ∷ [], (Se .val e ∷ [], tt)) tt
+          covered 𝓤 H A W (𝓣 .C) (fmOf 𝓤 H (W .laws) 𝓣) hold ask-lpi.Symbol.name As (λ z. z ≡ asked y .lpi e) (ask-lpi.signature .params) (ask-lpi.ended .kept) (ask-lpi.clauses 𝓤 H A at-mem run) (known .k-ask-lpi) (y, (e, tt)) (Qu .val y ∷ [], (Se .val e ∷ [], tt)) tt
           (make-query, (make-seen, tt)) (y-is, (e-is, tt)) (id⊢ 𝓤 (emp 𝓤)) (λ z e. id⊢ 𝓤 _)
 
       verdict-made : (m p w j d e l : Seen) → Is S.the-row m (Se .val m ∷ []) → Is S.the-row p (Se .val p ∷ []) → Is S.the-row w (Se .val w ∷ []) → Is S.the-row j (Se .val j ∷ []) → Is S.the-row d (Se .val d ∷ []) → Is S.the-row e (Se .val e ∷ []) → Is S.the-row l (Se .val l ∷ [])
@@ -183,20 +198,20 @@ module _ {M : Type 1} (𝓤 : URA M) (H : Heap 𝓤) (A : Atoms 𝓤) (W : Given
     walk : Runs W (𝓣 .C) hold (f.Code.function .locals) (After 𝓤 H A W (f.signature .params) (f.ended .kept) Fo (f.clauses 𝓤 H A at-mem run) κ q bounds a vss tt) (none ∷ given W (flat (typesAt (f.signature .params) (κ, tt)) vss)) (f.Code.function .body)
     walk =
         make (valueAs Qu) y (arg refl tt nil) query-made tt refl (λ y-is.
-        point {b = b} {o = o} {a = (o + auto-at) + pool-at mmio} refl refl tt tt (tt, tt) (point {b = b} {o = o} {a = (o + fixed-at) + pool-at mmio} refl refl tt tt (tt, tt) (point {b = b} {o = o} {a = (o + owners-at) + holder-at mmio} refl refl tt tt (tt, tt) (make (valueAs As) (askOf y 1) (arg refl tt (num tt nil)) (ask-made y-is 1 tt) tt refl (λ x-is.
-        get (valueAs Se) (Sees (h .auto .mmio) (h .fixed .mmio) (h .owners .mmio) (askOf y 1)) (arg refl tt (arg refl tt (arg refl tt (arg refl tt nil)))) (range-seen mmio (λ p. p .mmio) (λ p. p .mmio) (mmio-pool 𝓤 H A W) (mmio-holder 𝓤 H A W) (askOf y 1) x-is (may .mmio)) tt refl (λ m m-is m-seen.
-        point {b = b} {o = o} {a = (o + auto-at) + pool-at pio} refl refl tt tt (tt, tt) (point {b = b} {o = o} {a = (o + fixed-at) + pool-at pio} refl refl tt tt (tt, tt) (point {b = b} {o = o} {a = (o + owners-at) + holder-at pio} refl refl tt tt (tt, tt) (make (valueAs As) (askOf y 2) (arg refl tt (num tt nil)) (ask-made y-is 2 tt) tt refl (λ x-is.
-        get (valueAs Se) (Sees (h .auto .pio) (h .fixed .pio) (h .owners .pio) (askOf y 2)) (arg refl tt (arg refl tt (arg refl tt (arg refl tt nil)))) (range-seen pio (λ p. p .pio) (λ p. p .pio) (pio-pool 𝓤 H A W) (pio-holder 𝓤 H A W) (askOf y 2) x-is (may .pio)) tt refl (λ p p-is p-seen.
-        point {b = b} {o = o} {a = (o + auto-at) + pool-at input} refl refl tt tt (tt, tt) (point {b = b} {o = o} {a = (o + fixed-at) + pool-at input} refl refl tt tt (tt, tt) (point {b = b} {o = o} {a = (o + owners-at) + holder-at input} refl refl tt tt (tt, tt) (make (valueAs Xs) (wireAskOf y) (arg refl tt nil) (wire-made y-is) tt refl (λ x-is.
-        get (valueAs Se) (SeesWire (h .auto .input) (h .fixed .input) (h .owners .input) (wireAskOf y)) (arg refl tt (arg refl tt (arg refl tt (arg refl tt nil)))) (wire-seen (wireAskOf y) x-is (may .input)) tt refl (λ w w-is w-seen.
-        point {b = b} {o = o} {a = (o + auto-at) + pool-at host} refl refl tt tt (tt, tt) (point {b = b} {o = o} {a = (o + fixed-at) + pool-at host} refl refl tt tt (tt, tt) (point {b = b} {o = o} {a = (o + owners-at) + holder-at host} refl refl tt tt (tt, tt) (make (valueAs As) (askOf y 4) (arg refl tt (num tt nil)) (ask-made y-is 4 tt) tt refl (λ x-is.
-        get (valueAs Se) (Sees (h .auto .host) (h .fixed .host) (h .owners .host) (askOf y 4)) (arg refl tt (arg refl tt (arg refl tt (arg refl tt nil)))) (range-seen host (λ p. p .host) (λ p. p .host) (host-pool 𝓤 H A W) (host-holder 𝓤 H A W) (askOf y 4) x-is (may .host)) tt refl (λ j j-is j-seen.
-        point {b = b} {o = o} {a = (o + auto-at) + pool-at device} refl refl tt tt (tt, tt) (point {b = b} {o = o} {a = (o + fixed-at) + pool-at device} refl refl tt tt (tt, tt) (point {b = b} {o = o} {a = (o + owners-at) + holder-at device} refl refl tt tt (tt, tt) (make (valueAs As) (deviceAskOf y) (arg refl tt nil) (device-made y-is) tt refl (λ x-is.
-        get (valueAs Se) (Sees (h .auto .device) (h .fixed .device) (h .owners .device) (deviceAskOf y)) (arg refl tt (arg refl tt (arg refl tt (arg refl tt nil)))) (range-seen device (λ p. p .device) (λ p. p .device) (device-pool 𝓤 H A W) (device-holder 𝓤 H A W) (deviceAskOf y) x-is (may .device)) tt refl (λ d d-is d-seen.
-        point {b = b} {o = o} {a = (o + auto-at) + pool-at event} refl refl tt tt (tt, tt) (point {b = b} {o = o} {a = (o + fixed-at) + pool-at event} refl refl tt tt (tt, tt) (point {b = b} {o = o} {a = (o + owners-at) + holder-at event} refl refl tt tt (tt, tt) (make (valueAs As) (eventAskOf y d) (arg refl tt (arg refl tt nil)) (event-made y-is d d-is) tt refl (λ x-is.
-        get (valueAs Se) (Sees (h .auto .event) (h .fixed .event) (h .owners .event) (eventAskOf y d)) (arg refl tt (arg refl tt (arg refl tt (arg refl tt nil)))) (range-seen event (λ p. p .event) (λ p. p .event) (event-pool 𝓤 H A W) (event-holder 𝓤 H A W) (eventAskOf y d) x-is (may .event d)) tt refl (λ e e-is e-seen.
-        point {b = b} {o = o} {a = (o + auto-at) + pool-at lpi} refl refl tt tt (tt, tt) (point {b = b} {o = o} {a = (o + fixed-at) + pool-at lpi} refl refl tt tt (tt, tt) (point {b = b} {o = o} {a = (o + owners-at) + holder-at lpi} refl refl tt tt (tt, tt) (make (valueAs As) (lpiAskOf y e) (arg refl tt (arg refl tt nil)) (lpi-made y-is e e-is) tt refl (λ x-is.
-        get (valueAs Se) (Sees (h .auto .lpi) (h .fixed .lpi) (h .owners .lpi) (lpiAskOf y e)) (arg refl tt (arg refl tt (arg refl tt (arg refl tt nil)))) (range-seen lpi (λ p. p .lpi) (λ p. p .lpi) (lpi-pool 𝓤 H A W) (lpi-holder 𝓤 H A W) (lpiAskOf y e) x-is (may .lpi e)) tt refl (λ l l-is l-seen.
+        point {b = b} {o = o} {a = (o + auto-at) + pool-at mmio} refl refl tt tt (tt, tt) (point {b = b} {o = o} {a = (o + fixed-at) + pool-at mmio} refl refl tt tt (tt, tt) (point {b = b} {o = o} {a = (o + owners-at) + holder-at mmio} refl refl tt tt (tt, tt) (make (valueAs As) (asked y .mmio) (arg refl tt nil) (mmio-made y-is) tt refl (λ x-is.
+        get (valueAs Se) (Sees (h .auto .mmio) (h .fixed .mmio) (h .owners .mmio) (asked y .mmio)) (arg refl tt (arg refl tt (arg refl tt (arg refl tt nil)))) (range-seen mmio (λ p. p .mmio) (λ p. p .mmio) (mmio-pool 𝓤 H A W) (mmio-holder 𝓤 H A W) (asked y .mmio) x-is (may .mmio)) tt refl (λ m m-is m-seen.
+        point {b = b} {o = o} {a = (o + auto-at) + pool-at pio} refl refl tt tt (tt, tt) (point {b = b} {o = o} {a = (o + fixed-at) + pool-at pio} refl refl tt tt (tt, tt) (point {b = b} {o = o} {a = (o + owners-at) + holder-at pio} refl refl tt tt (tt, tt) (make (valueAs As) (asked y .pio) (arg refl tt nil) (pio-made y-is) tt refl (λ x-is.
+        get (valueAs Se) (Sees (h .auto .pio) (h .fixed .pio) (h .owners .pio) (asked y .pio)) (arg refl tt (arg refl tt (arg refl tt (arg refl tt nil)))) (range-seen pio (λ p. p .pio) (λ p. p .pio) (pio-pool 𝓤 H A W) (pio-holder 𝓤 H A W) (asked y .pio) x-is (may .pio)) tt refl (λ p p-is p-seen.
+        point {b = b} {o = o} {a = (o + auto-at) + pool-at input} refl refl tt tt (tt, tt) (point {b = b} {o = o} {a = (o + fixed-at) + pool-at input} refl refl tt tt (tt, tt) (point {b = b} {o = o} {a = (o + owners-at) + holder-at input} refl refl tt tt (tt, tt) (make (valueAs Xs) (asked y .input) (arg refl tt nil) (input-made y-is) tt refl (λ x-is.
+        get (valueAs Se) (SeesWire (h .auto .input) (h .fixed .input) (h .owners .input) (asked y .input)) (arg refl tt (arg refl tt (arg refl tt (arg refl tt nil)))) (wire-seen (asked y .input) x-is (may .input)) tt refl (λ w w-is w-seen.
+        point {b = b} {o = o} {a = (o + auto-at) + pool-at host} refl refl tt tt (tt, tt) (point {b = b} {o = o} {a = (o + fixed-at) + pool-at host} refl refl tt tt (tt, tt) (point {b = b} {o = o} {a = (o + owners-at) + holder-at host} refl refl tt tt (tt, tt) (make (valueAs As) (asked y .host) (arg refl tt nil) (host-made y-is) tt refl (λ x-is.
+        get (valueAs Se) (Sees (h .auto .host) (h .fixed .host) (h .owners .host) (asked y .host)) (arg refl tt (arg refl tt (arg refl tt (arg refl tt nil)))) (range-seen host (λ p. p .host) (λ p. p .host) (host-pool 𝓤 H A W) (host-holder 𝓤 H A W) (asked y .host) x-is (may .host)) tt refl (λ j j-is j-seen.
+        point {b = b} {o = o} {a = (o + auto-at) + pool-at device} refl refl tt tt (tt, tt) (point {b = b} {o = o} {a = (o + fixed-at) + pool-at device} refl refl tt tt (tt, tt) (point {b = b} {o = o} {a = (o + owners-at) + holder-at device} refl refl tt tt (tt, tt) (make (valueAs As) (asked y .device) (arg refl tt nil) (device-made y-is) tt refl (λ x-is.
+        get (valueAs Se) (Sees (h .auto .device) (h .fixed .device) (h .owners .device) (asked y .device)) (arg refl tt (arg refl tt (arg refl tt (arg refl tt nil)))) (range-seen device (λ p. p .device) (λ p. p .device) (device-pool 𝓤 H A W) (device-holder 𝓤 H A W) (asked y .device) x-is (may .device)) tt refl (λ d d-is d-seen.
+        point {b = b} {o = o} {a = (o + auto-at) + pool-at event} refl refl tt tt (tt, tt) (point {b = b} {o = o} {a = (o + fixed-at) + pool-at event} refl refl tt tt (tt, tt) (point {b = b} {o = o} {a = (o + owners-at) + holder-at event} refl refl tt tt (tt, tt) (make (valueAs As) (asked y .event d) (arg refl tt (arg refl tt nil)) (event-made y-is d d-is) tt refl (λ x-is.
+        get (valueAs Se) (Sees (h .auto .event) (h .fixed .event) (h .owners .event) (asked y .event d)) (arg refl tt (arg refl tt (arg refl tt (arg refl tt nil)))) (range-seen event (λ p. p .event) (λ p. p .event) (event-pool 𝓤 H A W) (event-holder 𝓤 H A W) (asked y .event d) x-is (may .event d)) tt refl (λ e e-is e-seen.
+        point {b = b} {o = o} {a = (o + auto-at) + pool-at lpi} refl refl tt tt (tt, tt) (point {b = b} {o = o} {a = (o + fixed-at) + pool-at lpi} refl refl tt tt (tt, tt) (point {b = b} {o = o} {a = (o + owners-at) + holder-at lpi} refl refl tt tt (tt, tt) (make (valueAs As) (asked y .lpi e) (arg refl tt (arg refl tt nil)) (lpi-made y-is e e-is) tt refl (λ x-is.
+        get (valueAs Se) (Sees (h .auto .lpi) (h .fixed .lpi) (h .owners .lpi) (asked y .lpi e)) (arg refl tt (arg refl tt (arg refl tt (arg refl tt nil)))) (range-seen lpi (λ p. p .lpi) (λ p. p .lpi) (lpi-pool 𝓤 H A W) (lpi-holder 𝓤 H A W) (asked y .lpi e) x-is (may .lpi e)) tt refl (λ l l-is l-seen.
         make (valueAs Fo) (verdictOf y m p w j d e l) (arg refl tt (arg refl tt (arg refl tt (arg refl tt (arg refl tt (arg refl tt (arg refl tt (arg refl tt (nil))))))))) (verdict-made y-is m p w j d e l m-is p-is w-is j-is d-is e-is l-is) tt refl (λ v-is. back (Fo .val (verdictOf y m p w j d e l)) refl tt
         (ends 𝓤 H A W (f.signature .params) (f.ended .kept) Fo (f.clauses 𝓤 H A at-mem run) (LL.makes F.the-type F′.the-plain 𝓤 H A) κ q bounds a vss tt (verdictOf y m p w j d e l) v-is (tt, (tt, tt))
         (factI 𝓤 _ (emp 𝓤) (finds h (a .1 .0) m p w j d e l ok (record { mmio = m-seen; pio = p-seen; input = w-seen; host = j-seen; device = d-seen; event = e-seen; lpi = l-seen })))))))))))))))))))))))))))))))))))))))))
@@ -213,13 +228,15 @@ find-spec 𝓤 H 𝓜 𝓖 𝓡 =
     entered 𝓤 H (tripleOf 𝓤 H (𝓖 .A) f.signature (f.spec 𝓤 H (𝓖 .A) (𝓜 .mem) (𝓡 .run)))
     (tables 𝓤 H 𝓜 𝓡 f.Code.env .C) (tables 𝓤 H 𝓜 𝓡 f.Code.env .Λ) f.Key.name f.Code.function (f.Code.unfolded 𝓤 H 𝓜 𝓡)
     (f-meets 𝓤 H (𝓖 .A) (givenOf 𝓤 H 𝓜 𝓖) (𝓜 .mem) (𝓡 .run) (tablesOf 𝓤 H 𝓜 (tables 𝓤 H 𝓜 𝓡 f.Code.env)) (record {
-      k-queried = cited 𝓤 H (tripleOf 𝓤 H (𝓖 .A) queried.signature (queried.spec 𝓤 H (𝓖 .A) (𝓜 .mem) (𝓡 .run))) 𝓜 𝓡 f.Code.env queried.Symbol.name queried.Symbol.routine f.Code.calls-finding·queried (queried.Met.met 𝓤 H 𝓜 𝓖 𝓡);
-      k-ask = cited 𝓤 H (tripleOf 𝓤 H (𝓖 .A) ask.signature (ask.spec 𝓤 H (𝓖 .A) (𝓜 .mem) (𝓡 .run))) 𝓜 𝓡 f.Code.env ask.Symbol.name ask.Symbol.routine f.Code.calls-finding·ask (ask.Met.met 𝓤 H 𝓜 𝓖 𝓡);
-      k-ask-wire = cited 𝓤 H (tripleOf 𝓤 H (𝓖 .A) ask-wire.signature (ask-wire.spec 𝓤 H (𝓖 .A) (𝓜 .mem) (𝓡 .run))) 𝓜 𝓡 f.Code.env ask-wire.Symbol.name ask-wire.Symbol.routine f.Code.calls-finding·ask-wire (ask-wire.Met.met 𝓤 H 𝓜 𝓖 𝓡);
-      k-ask-device = cited 𝓤 H (tripleOf 𝓤 H (𝓖 .A) ask-device.signature (ask-device.spec 𝓤 H (𝓖 .A) (𝓜 .mem) (𝓡 .run))) 𝓜 𝓡 f.Code.env ask-device.Symbol.name ask-device.Symbol.routine f.Code.calls-finding·ask-device (ask-device.Met.met 𝓤 H 𝓜 𝓖 𝓡);
-      k-ask-event = cited 𝓤 H (tripleOf 𝓤 H (𝓖 .A) ask-event.signature (ask-event.spec 𝓤 H (𝓖 .A) (𝓜 .mem) (𝓡 .run))) 𝓜 𝓡 f.Code.env ask-event.Symbol.name ask-event.Symbol.routine f.Code.calls-finding·ask-event (ask-event.Met.met 𝓤 H 𝓜 𝓖 𝓡);
-      k-ask-lpi = cited 𝓤 H (tripleOf 𝓤 H (𝓖 .A) ask-lpi.signature (ask-lpi.spec 𝓤 H (𝓖 .A) (𝓜 .mem) (𝓡 .run))) 𝓜 𝓡 f.Code.env ask-lpi.Symbol.name ask-lpi.Symbol.routine f.Code.calls-finding·ask-lpi (ask-lpi.Met.met 𝓤 H 𝓜 𝓖 𝓡);
+      k-queried = cited 𝓤 H (tripleOf 𝓤 H (𝓖 .A) queried.signature (queried.spec 𝓤 H (𝓖 .A) (𝓜 .mem) (𝓡 .run))) 𝓜 𝓡 f.Code.env queried.Symbol.name queried.Symbol.routine f.Code.calls-decide·queried (queried.Met.met 𝓤 H 𝓜 𝓖 𝓡);
+      k-ask-mmio = cited 𝓤 H (tripleOf 𝓤 H (𝓖 .A) ask-mmio.signature (ask-mmio.spec 𝓤 H (𝓖 .A) (𝓜 .mem) (𝓡 .run))) 𝓜 𝓡 f.Code.env ask-mmio.Symbol.name ask-mmio.Symbol.routine f.Code.calls-decide·ask·mmio (ask-mmio.Met.met 𝓤 H 𝓜 𝓖 𝓡);
+      k-ask-pio = cited 𝓤 H (tripleOf 𝓤 H (𝓖 .A) ask-pio.signature (ask-pio.spec 𝓤 H (𝓖 .A) (𝓜 .mem) (𝓡 .run))) 𝓜 𝓡 f.Code.env ask-pio.Symbol.name ask-pio.Symbol.routine f.Code.calls-decide·ask·pio (ask-pio.Met.met 𝓤 H 𝓜 𝓖 𝓡);
+      k-ask-input = cited 𝓤 H (tripleOf 𝓤 H (𝓖 .A) ask-input.signature (ask-input.spec 𝓤 H (𝓖 .A) (𝓜 .mem) (𝓡 .run))) 𝓜 𝓡 f.Code.env ask-input.Symbol.name ask-input.Symbol.routine f.Code.calls-decide·ask·input (ask-input.Met.met 𝓤 H 𝓜 𝓖 𝓡);
+      k-ask-host = cited 𝓤 H (tripleOf 𝓤 H (𝓖 .A) ask-host.signature (ask-host.spec 𝓤 H (𝓖 .A) (𝓜 .mem) (𝓡 .run))) 𝓜 𝓡 f.Code.env ask-host.Symbol.name ask-host.Symbol.routine f.Code.calls-decide·ask·host (ask-host.Met.met 𝓤 H 𝓜 𝓖 𝓡);
+      k-ask-device = cited 𝓤 H (tripleOf 𝓤 H (𝓖 .A) ask-device.signature (ask-device.spec 𝓤 H (𝓖 .A) (𝓜 .mem) (𝓡 .run))) 𝓜 𝓡 f.Code.env ask-device.Symbol.name ask-device.Symbol.routine f.Code.calls-decide·ask·device (ask-device.Met.met 𝓤 H 𝓜 𝓖 𝓡);
+      k-ask-event = cited 𝓤 H (tripleOf 𝓤 H (𝓖 .A) ask-event.signature (ask-event.spec 𝓤 H (𝓖 .A) (𝓜 .mem) (𝓡 .run))) 𝓜 𝓡 f.Code.env ask-event.Symbol.name ask-event.Symbol.routine f.Code.calls-decide·ask·event (ask-event.Met.met 𝓤 H 𝓜 𝓖 𝓡);
+      k-ask-lpi = cited 𝓤 H (tripleOf 𝓤 H (𝓖 .A) ask-lpi.signature (ask-lpi.spec 𝓤 H (𝓖 .A) (𝓜 .mem) (𝓡 .run))) 𝓜 𝓡 f.Code.env ask-lpi.Symbol.name ask-lpi.Symbol.routine f.Code.calls-decide·ask·lpi (ask-lpi.Met.met 𝓤 H 𝓜 𝓖 𝓡);
       k-range = cited 𝓤 H (tripleOf 𝓤 H (𝓖 .A) range.signature (range.spec 𝓤 H (𝓖 .A) (𝓜 .mem) (𝓡 .run))) 𝓜 𝓡 f.Code.env range.Symbol.name range.Symbol.routine f.Code.calls-look·range (range.Met.met 𝓤 H 𝓜 𝓖 𝓡);
       k-wire = cited 𝓤 H (tripleOf 𝓤 H (𝓖 .A) wire.signature (wire.spec 𝓤 H (𝓖 .A) (𝓜 .mem) (𝓡 .run))) 𝓜 𝓡 f.Code.env wire.Symbol.name wire.Symbol.routine f.Code.calls-look·wire (wire.Met.met 𝓤 H 𝓜 𝓖 𝓡);
-      k-verdict = cited 𝓤 H (tripleOf 𝓤 H (𝓖 .A) verdict.signature (verdict.spec 𝓤 H (𝓖 .A) (𝓜 .mem) (𝓡 .run))) 𝓜 𝓡 f.Code.env verdict.Symbol.name verdict.Symbol.routine f.Code.calls-finding·verdict (verdict.Met.met 𝓤 H 𝓜 𝓖 𝓡);
+      k-verdict = cited 𝓤 H (tripleOf 𝓤 H (𝓖 .A) verdict.signature (verdict.spec 𝓤 H (𝓖 .A) (𝓜 .mem) (𝓡 .run))) 𝓜 𝓡 f.Code.env verdict.Symbol.name verdict.Symbol.routine f.Code.calls-decide·verdict (verdict.Met.met 𝓤 H 𝓜 𝓖 𝓡);
     }))

@@ -13,12 +13,12 @@ use Rattle.request.specs.Asked.{requestOf}
 use Rattle.request.specs.declared.Request.{Request}
 use Rattle.request.proofs.Request as R
 use Rattle.request.proofs.Request.Laws as R′
-use Rattle.finding.proofs.Bases as B
-use Rattle.finding.proofs.Bases.Laws as B′
-use Rattle.finding.specs.Kept.{Finds, kept}
-use Rattle.finding.specs.declared.Finding.{Finding}
-use Rattle.finding.proofs.Finding as F
-use Rattle.finding.proofs.Finding.Laws as F′
+use Rattle.decide.proofs.Bases as B
+use Rattle.decide.proofs.Bases.Laws as B′
+use Rattle.decide.specs.Kept.{Finds, kept}
+use Rattle.decide.specs.declared.Granted.{Granted}
+use Rattle.decide.proofs.Granted as F
+use Rattle.decide.proofs.Granted.Laws as F′
 use Rattle.inplace.proofs.ResolveWalk.{resolveCode, resolve-walk}
 use Rattle.inplace.proofs.find as g
 use Rattle.inplace.proofs.keep as k
@@ -34,13 +34,13 @@ stayed = (gave-ref (0 ∷ []) tt (plain (λ _. T.the-row)), (stay-none (λ _. R.
 same-code : resolveCode g.Symbol.name k.Symbol.name (T.the-row .written .ty) T′.mir R′.mir F′.mir B′.mir ≡ f.Code.function
 same-code = refl
 
--- the machine values of a finding's fields
-abbrev parts : Finding → Vals
+-- the machine values of its fields
+abbrev parts : Granted → Vals
 parts d = ofList (flat (fields F.the-type) (valss (fields F.the-type) (LL.spells (F.the-type .parts) F′.the-laws) (F.the-type .to d)))
 
 -- what it says of its first numbers
-bases-is : (d : Finding) → Is F.the-row d (vstruct (parts d) ∷ []) → Is B.the-row (d .bases) (getV (parts d) 5 ∷ [])
-bases-is d is = LL.owed F.the-type F′.the-laws d _ is .1 .1 .1 .1 .1 .0
+bases-is : (d : Granted) → Is F.the-row d (vstruct (parts d) ∷ []) → Is B.the-row (d .bases) (getV (parts d) 1 ∷ [])
+bases-is d is = LL.owed F.the-type F′.the-laws d _ is .1 .0
 
 module _ {M : Type 1} (𝓤 : URA M) (H : Heap 𝓤) (A : Atoms 𝓤) (at-mem : Memory → SProp 𝓤) (run : Routine → Fun 𝓤) where
   abbrev G : Contract 𝓤
@@ -63,13 +63,13 @@ module _ {M : Type 1} (𝓤 : URA M) (H : Heap 𝓤) (A : Atoms 𝓤) (W : Given
   abbrev Post : Val → SProp 𝓤
   Post = walkOf 𝓤 H A f.ended stayed (f.clauses 𝓤 H A at-mem run) .post (((κ, tt), (q, tt), tt, x, at), tt)
 
-  abbrev Found : Finding → Type 0
+  abbrev Found : Granted → Type 0
   Found d = Finds h (requestOf r) d
 
-  exits : (d : Finding) (s : State) → Is F.the-row d (vstruct (parts d) ∷ []) → Found d → s ≡ kept d h → ent 𝓤 (⋆ 𝓤 H A (‵ (fres γ (T.the-row .coded .code s)) ∷ ‵ (flft κ q) ∷ [])) (Post (getV (parts d) 5))
+  exits : (d : Granted) (s : State) → Is F.the-row d (vstruct (parts d) ∷ []) → Found d → s ≡ kept d h → ent 𝓤 (⋆ 𝓤 H A (‵ (fres γ (T.the-row .coded .code s)) ∷ ‵ (flft κ q) ∷ [])) (Post (getV (parts d) 1))
   exits d s is p e =
       qed W (‵ (fres γ (T.the-row .coded .code s)) ∷ ‵ (flft κ q) ∷ []) ∵
-      suffices ! _ (ends-at 𝓤 H A f.ended stayed (f.clauses 𝓤 H A at-mem run) W (((κ, tt), (q, tt), tt, x, at), tt) (getV (parts d) 5) (d .bases) (s, (tt, tt)) (tt, (tt, tt))) $ says ! (ap stateView e ∙ p .state, p .bases) $
+      suffices ! _ (ends-at 𝓤 H A f.ended stayed (f.clauses 𝓤 H A at-mem run) W (((κ, tt), (q, tt), tt, x, at), tt) (getV (parts d) 1) (d .bases) (s, (tt, tt)) (tt, (tt, tt))) $ says ! (ap stateView e ∙ p .state, p .bases) $
       move ! (1 ∷ []) $ nothing ! $ move ! (1 ∷ 0 ∷ []) $ join ! $ frame ! $ nothing ! $ owned ! R.the-row (Is R.the-row) (LL.makes R.the-type R′.the-plain 𝓤 H A) r _ r-is $ fjoin ! $ move ! (1 ∷ 0 ∷ []) $ fjoin ! $
       owned ! B.the-row (Is B.the-row) (LL.makes B.the-type B′.the-plain 𝓤 H A) (d .bases) _ (bases-is d is) $ move ! (1 ∷ 0 ∷ []) $ done !
 
@@ -82,33 +82,33 @@ module _ {M : Type 1} (𝓤 : URA M) (H : Heap 𝓤) (A : Atoms 𝓤) (W : Given
       qed W (‵ (ShrRef (named 0) (ν ∷ []) T.the-row .own (st δ) (vptr b o ∷ [])) ∷ ‵ (flft (ν ∷ []) fullShare) ∷ []) ∵ says ! good $
       nothing ! $ owned ! R.the-row (Is R.the-row) (LL.makes R.the-type R′.the-plain 𝓤 H A) r _ r-is $ fjoin ! $ move ! (1 ∷ 0 ∷ []) $ fjoin ! $ nothing ! $ move ! (2 ∷ 0 ∷ []) $ join ! $ frame ! $ done !
 
-  abbrev ens-g : ℕ → GName → Finding → SProp 𝓤
+  abbrev ens-g : ℕ → GName → Granted → SProp 𝓤
   ens-g ν δ d = ensured 𝓤 H A g.ended (g.clauses 𝓤 H A at-mem run) (ν ∷ [], tt) (st δ, (r, tt)) tt d
 
-  told-g : (ν : ℕ) (δ : GName) (d : Finding) → ent 𝓤 (ens-g ν δ d) (fact 𝓤 (Found d))
+  told-g : (ν : ℕ) (δ : GName) (d : Granted) → ent 𝓤 (ens-g ν δ d) (fact 𝓤 (Found d))
   told-g ν δ d = exE 𝓤 _ (λ ws. snd∗ 𝓤 (sem 𝓤 H A (lasts g.ended (ν ∷ [], tt) (st δ, (r, tt)) ws)) (fact 𝓤 (Found d)))
 
   -- what the triple of `keep` binds outside: the state, given for good
-  abbrev to-k : Finding → K 𝓤 H A at-mem run .Ghost
+  abbrev to-k : Granted → K 𝓤 H A at-mem run .Ghost
   to-k d = (((κ, tt), (q, tt), tt, (st γ, (d, tt)), (vptr b o ∷ [], (vstruct (parts d) ∷ [], tt))), tt)
 
-  goes-k : (d : Finding) → Is F.the-row d (vstruct (parts d) ∷ []) → Found d → ent 𝓤 (⋆ 𝓤 H A (‵ (MutRef (named 0) κ T.the-row .own (st γ) (vptr b o ∷ [])) ∷ ‵ (flft κ q) ∷ [])) (K 𝓤 H A at-mem run .pre (to-k d))
+  goes-k : (d : Granted) → Is F.the-row d (vstruct (parts d) ∷ []) → Found d → ent 𝓤 (⋆ 𝓤 H A (‵ (MutRef (named 0) κ T.the-row .own (st γ) (vptr b o ∷ [])) ∷ ‵ (flft κ q) ∷ [])) (K 𝓤 H A at-mem run .pre (to-k d))
   goes-k d is p =
       qed W (‵ (MutRef (named 0) κ T.the-row .own (st γ) (vptr b o ∷ [])) ∷ ‵ (flft κ q) ∷ []) ∵ says ! (p .free) $
       nothing ! $ owned ! F.the-row (Is F.the-row) (LL.makes F.the-type F′.the-plain 𝓤 H A) d _ is $ fjoin ! $ move ! (1 ∷ 0 ∷ []) $ fjoin ! $ nothing ! $ move ! (2 ∷ 0 ∷ []) $ join ! $ frame ! $ done !
 
-  abbrev ens-k : Finding → SProp 𝓤
+  abbrev ens-k : Granted → SProp 𝓤
   ens-k d = ensured 𝓤 H A k.ended (k.clauses 𝓤 H A at-mem run) (κ, tt) (st γ, (d, tt)) tt tt
 
-  told-k : (d : Finding) → ent 𝓤 (ens-k d) (mean 𝓤 H A (some (λ (s : State). ‵ (fres γ (T.the-row .coded .code s)) ⊛ raw (fact 𝓤 (s ≡ kept d h)))))
+  told-k : (d : Granted) → ent 𝓤 (ens-k d) (mean 𝓤 H A (some (λ (s : State). ‵ (fres γ (T.the-row .coded .code s)) ⊛ raw (fact 𝓤 (s ≡ kept d h)))))
   told-k d =
       qed W (raw (ens-k d) ∷ []) ∵ use1 W (some (λ (ws : State × (Unit {0} × Unit {0})). ‵ (lasts k.ended (κ, tt) (st γ, (d, tt)) ws) ⊛ raw (fact 𝓤 (ws .0 ≡ kept d h)))) (id⊢ 𝓤 _) $ pick ! (λ ws.
       split ! $ fsplit ! $ keep ! (0 ∷ 2 ∷ []) $ show ! (λ (s : State). sep 𝓤 (sem 𝓤 H A (fres γ (T.the-row .coded .code s))) (fact 𝓤 (s ≡ kept d h))) (ws .0) $ done !)
 
-  typed : (d : Finding) (v : Val) → Is F.the-row d (v ∷ []) → Holds (hasTy F′.mir v) × WT v
+  typed : (d : Granted) (v : Val) → Is F.the-row d (v ∷ []) → Holds (hasTy F′.mir v) × WT v
   typed d v is = LL.lawful F.the-type F′.the-laws 𝓤 H A W .typed d _ is .0
 
-  typed-bases : (d : Finding) → Is F.the-row d (vstruct (parts d) ∷ []) → Holds (hasTy B′.mir (getV (parts d) 5)) × WT (getV (parts d) 5)
+  typed-bases : (d : Granted) → Is F.the-row d (vstruct (parts d) ∷ []) → Holds (hasTy B′.mir (getV (parts d) 1)) × WT (getV (parts d) 1)
   typed-bases d is = LL.lawful B.the-type B′.the-laws 𝓤 H A W .typed (d .bases) _ (bases-is d is) .0
 
   abbrev Entry : SProp 𝓤
@@ -117,7 +117,7 @@ module _ {M : Type 1} (𝓤 : URA M) (H : Heap 𝓤) (A : Atoms 𝓤) (W : Given
   module _ (C : Calls 𝓤 H) (Λ : Loops 𝓤 H) (fm : FmC 𝓤 H (W .laws) C) (known-g : Triple 𝓤 (C g.Symbol.name) (G 𝓤 H A at-mem run)) (known-k : Triple 𝓤 (C k.Symbol.name) (K 𝓤 H A at-mem run)) (r-wt : Holds (hasTy R′.mir rv) × WT rv) (good : Holds (sound kinds (stateView h))) where
     inner : ent 𝓤 Entry (WpFn 𝓤 H C Λ (resolveCode g.Symbol.name k.Symbol.name (T.the-row .written .ty) T′.mir R′.mir F′.mir B′.mir) (vptr b o ∷ rv ∷ []) Post)
     inner =
-        resolve-walk 𝓤 H A W T.the-row Finding _ _ (F.the-row .written) (F.the-row .reaches) (F.the-row .own) (F.the-row .exit) (F.the-row .coded) parts (LL.tells F.the-type F′.the-laws) typed B′.mir _ refl typed-bases
+        resolve-walk 𝓤 H A W T.the-row Granted _ _ (F.the-row .written) (F.the-row .reaches) (F.the-row .own) (F.the-row .exit) (F.the-row .coded) parts (LL.tells F.the-type F′.the-laws) typed B′.mir _ refl typed-bases
         κ q b o γ h (T.the-row .written .ty) T′.mir R′.mir rv r-wt C Λ fm g.Symbol.name k.Symbol.name Found (λ d s. s ≡ kept d h) ens-g told-g (λ ν δ. via 𝓤 _ (goes-g good ν δ) (known-g (to-g ν δ))) ens-k told-k (λ d is p. via 𝓤 _ (goes-k d is p) (known-k (to-k d))) Post exits
 
     walk : ent 𝓤 (onEntry 𝓤 H A f.signature (κ, tt) (q, tt) x at) (WpFn 𝓤 H C Λ f.Code.function (vptr b o ∷ rv ∷ []) Post)

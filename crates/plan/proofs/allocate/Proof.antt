@@ -10,11 +10,11 @@ use Rattle.request.specs.Asked.{requestOf}
 use Rattle.request.specs.declared.Request.{Request}
 use Rattle.request.proofs.Request as R
 use Rattle.request.proofs.Request.Laws as R′
-use Rattle.finding.specs.Outcome.{basesIn, after}
-use Rattle.finding.specs.Kept.{answer}
-use Rattle.finding.specs.declared.Bases.{Bases}
-use Rattle.finding.proofs.Bases as Ba
-use Rattle.finding.proofs.Bases.Laws as Ba′
+use Rattle.decide.specs.Outcome.{basesIn, after}
+use Rattle.decide.specs.Kept.{answer}
+use Rattle.decide.specs.declared.Bases.{Bases}
+use Rattle.decide.proofs.Bases as Ba
+use Rattle.decide.proofs.Bases.Laws as Ba′
 use Rattle.walks.proofs.Straight.{first, others, given, set, arg, num, nil}
 use Rattle.lent.proofs.Acts.{Acts}
 use Rattle.lent.proofs.Steps.{local-of, points, sets, acted, leaves-if, gives, gives-within, entering}

@@ -6,10 +6,10 @@ use Rattle.definition.specs.Tables.{kinds}
 use Rattle.definition.specs.Calls.{sound}
 use Rattle.tables.specs.Views.{stateView}
 use Rattle.tables.specs.declared.State.{State}
-use Rattle.finding.specs.Kept.{kept}
-use Rattle.finding.specs.declared.Finding.{Finding}
-use Rattle.finding.proofs.Finding as Fi
-use Rattle.finding.proofs.Finding.Laws as Fi′
+use Rattle.decide.specs.Kept.{kept}
+use Rattle.decide.specs.declared.Granted.{Granted}
+use Rattle.decide.proofs.Granted as Gr
+use Rattle.decide.proofs.Granted.Laws as Gr′
 use Rattle.steps.specs.Steps.{opened}
 use Rattle.walks.proofs.Straight.{first, others, arg, nil}
 use Rattle.inplace.proofs.Callees.{made}
@@ -24,8 +24,8 @@ use Rattle.plan.proofs.opening as k
 use Rattle.plan.proofs.turns as t
 use Rattle.plan.proofs.«open» as f
 
-abbrev valF : Finding → Val
-valF x = LL.val Fi.the-type Fi′.the-laws x
+abbrev valG : Granted → Val
+valG x = LL.val Gr.the-type Gr′.the-laws x
 
 module _ {M : Type 1} (𝓤 : URA M) (H : Heap 𝓤) (A : Atoms 𝓤) (at-mem : Memory → SProp 𝓤) (run : Routine → Fun 𝓤) where
   abbrev Pp : Contract 𝓤
@@ -60,18 +60,18 @@ module _ {M : Type 1} (𝓤 : URA M) (H : Heap 𝓤) (A : Atoms 𝓤) (at-mem : 
       three y y-is =
           qed W [] ∵ nothing ! $ owned ! usize (Is usize) (uint-makes 𝓤 H A W w64) room _ (refl, room-fits) $ fjoin ! $ owned ! usize (Is usize) (uint-makes 𝓤 H A W w64) n _ (refl, n-fits) $ fjoin ! $ owned ! bool (Is bool) (bool-makes 𝓤 H A W) y _ y-is $ fjoin ! $ done !
 
-      abbrev Found : Bool → Finding → Type 0
-      Found y g = Is Fi.the-row g (valF g ∷ []) × Opens y n room g
+      abbrev Found : Bool → Granted → Type 0
+      Found y g = Is Gr.the-row g (valG g ∷ []) × Opens y n room g
 
-      opens : (y : Bool) → Is bool y (vbool y ∷ []) → Acts 𝓤 H A W (𝓣 .C) k.Symbol.name (vbool y ∷ vint w64 n ∷ vint w64 room ∷ []) (Holding h) Finding (λ g. Holding h) valF (Found y)
+      opens : (y : Bool) → Is bool y (vbool y ∷ []) → Acts 𝓤 H A W (𝓣 .C) k.Symbol.name (vbool y ∷ vint w64 n ∷ vint w64 room ∷ []) (Holding h) Granted (λ g. Holding h) valG (Found y)
       opens y y-is =
-          told-by 𝓤 H A W (𝓣 .C) (fmOf 𝓤 H (W .laws) 𝓣) k.Symbol.name (k.signature .params) (k.ended .kept) Fi.the-row valF (LL.tells Fi.the-type Fi′.the-laws) (k.clauses 𝓤 H A at-mem run) known-k (y, (n, (room, tt))) (vbool y ∷ [], (vint w64 n ∷ [], (vint w64 room ∷ [], tt))) tt
+          told-by 𝓤 H A W (𝓣 .C) (fmOf 𝓤 H (W .laws) 𝓣) k.Symbol.name (k.signature .params) (k.ended .kept) Gr.the-row valG (LL.tells Gr.the-type Gr′.the-laws) (k.clauses 𝓤 H A at-mem run) known-k (y, (n, (room, tt))) (vbool y ∷ [], (vint w64 n ∷ [], (vint w64 room ∷ [], tt))) tt
           (Opens y n room) (three y y-is) (id⊢ 𝓤 _) (λ g e. id⊢ 𝓤 _) (Holding h)
 
-      keeps : (y : Bool) (g : Finding) → Found y g → Acts 𝓤 H A W (𝓣 .C) r.Symbol.name (vptr b o ∷ valF g ∷ []) (Holding h) (State × Unit {0}) (λ z. Holding (z .0)) (λ z. vunit) (λ z. Is unit (z .1) (vunit ∷ []) × (z .0 ≡ kept g h))
+      keeps : (y : Bool) (g : Granted) → Found y g → Acts 𝓤 H A W (𝓣 .C) r.Symbol.name (vptr b o ∷ valG g ∷ []) (Holding h) (State × Unit {0}) (λ z. Holding (z .0)) (λ z. vunit) (λ z. Is unit (z .1) (vunit ∷ []) × (z .0 ≡ kept g h))
       keeps y g found =
-          lent-beside 𝓤 H A W κ q b o γ (𝓣 .C) (fmOf 𝓤 H (W .laws) 𝓣) r.Symbol.name (plain (λ _. Fi.the-row) ∷ []) (yes, tt) unit (λ u. vunit) nothing-tells (r.clauses 𝓤 H A at-mem run) known-r h (valF g ∷ []) (λ ν. (g, tt)) (λ ν. (valF g ∷ [], tt)) (λ ν. refl)
-          (λ ν. qed W [] ∵ nothing ! $ owned ! Fi.the-row (Is Fi.the-row) (LL.makes Fi.the-type Fi′.the-plain 𝓤 H A) g _ (found .0) $ fjoin ! $ done !) (λ ν δ. tt) (λ ν δ. factI 𝓤 _ (emp 𝓤) (free-none g (h .owners) (found .1 .nothing))) (λ d u. d ≡ kept g h) (λ ν δ ws u. id⊢ 𝓤 _)
+          lent-beside 𝓤 H A W κ q b o γ (𝓣 .C) (fmOf 𝓤 H (W .laws) 𝓣) r.Symbol.name (plain (λ _. Gr.the-row) ∷ []) (yes, tt) unit (λ u. vunit) nothing-tells (r.clauses 𝓤 H A at-mem run) known-r h (valG g ∷ []) (λ ν. (g, tt)) (λ ν. (valG g ∷ [], tt)) (λ ν. refl)
+          (λ ν. qed W [] ∵ nothing ! $ owned ! Gr.the-row (Is Gr.the-row) (LL.makes Gr.the-type Gr′.the-plain 𝓤 H A) g _ (found .0) $ fjoin ! $ done !) (λ ν δ. tt) (λ ν δ. factI 𝓤 _ (emp 𝓤) (free-none g (h .owners) (found .1 .nothing))) (λ d u. d ≡ kept g h) (λ ν δ ws u. id⊢ 𝓤 _)
 
       numbers : (y : Bool) → Is bool y (vbool y ∷ []) → (d : State) → Acts 𝓤 H A W (𝓣 .C) t.Symbol.name (vbool y ∷ vint w64 n ∷ vint w64 room ∷ []) (Holding d) (Unit {0}) (λ u. Holding d) (λ u. vint w64 (turnsIn y n room)) (λ u. Is usize (turnsIn y n room) (vint w64 (turnsIn y n room) ∷ []))
       numbers y y-is d =
@@ -86,13 +86,13 @@ module _ {M : Type 1} (𝓤 : URA M) (H : Heap 𝓤) (A : Atoms 𝓤) (at-mem : 
       walk Kf exits = entering W (𝓣 .C) (𝓣 .Λ) (Holding h) f.Code.function (first ls) (others ls) (vptr b o ∷ vint w64 n ∷ vint w64 room ∷ []) Kf refl ((tt, tt), ((tt, record { fits = n-fits }), ((tt, record { fits = room-fits }), tt))) (λ l.
           points W (𝓣 .C) (𝓣 .Λ) ls l refl refl tt tt (tt, tt)
           (acted W (𝓣 .C) (𝓣 .Λ) ls l (fmOf 𝓤 H (W .laws) 𝓣) Bool (λ y. Holding h) vbool Judged (arg refl tt nil) tested tt (λ y g. (tt, tt)) (λ y judged.
-          acted W (𝓣 .C) (𝓣 .Λ) ls l (fmOf 𝓤 H (W .laws) 𝓣) Finding (λ g. Holding h) valF (Found y) (arg refl tt (arg refl tt (arg refl tt nil))) (opens y (judged .0)) tt (λ g k. LL.lawful Fi.the-type Fi′.the-laws 𝓤 H A W .typed g _ (k .0) .0) (λ g found.
+          acted W (𝓣 .C) (𝓣 .Λ) ls l (fmOf 𝓤 H (W .laws) 𝓣) Granted (λ g. Holding h) valG (Found y) (arg refl tt (arg refl tt (arg refl tt nil))) (opens y (judged .0)) tt (λ g k. LL.lawful Gr.the-type Gr′.the-laws 𝓤 H A W .typed g _ (k .0) .0) (λ g found.
           points W (𝓣 .C) (𝓣 .Λ) ls l refl refl tt tt (tt, tt)
           (acted W (𝓣 .C) (𝓣 .Λ) ls l (fmOf 𝓤 H (W .laws) 𝓣) (State × Unit {0}) (λ z. Holding (z .0)) (λ z. vunit) (λ z. Is unit (z .1) (vunit ∷ []) × (z .0 ≡ kept g h)) (arg refl tt (arg refl tt nil)) (keeps y g found) tt (λ z k. (tt, tt)) (λ z k.
           acted W (𝓣 .C) (𝓣 .Λ) ls l (fmOf 𝓤 H (W .laws) 𝓣) (Unit {0}) (λ u. Holding (z .0)) (λ u. vint w64 (turnsIn y n room)) (λ u. Is usize (turnsIn y n room) (vint w64 (turnsIn y n room) ∷ [])) (arg refl tt (arg refl tt (arg refl tt nil))) (numbers y (judged .0) (z .0)) tt (λ u m. (tt, record { fits = m .1 })) (λ u m.
           gives W (𝓣 .C) (𝓣 .Λ) ls l Kf (vint w64 (turnsIn y n room)) refl tt (exits (z .0) (turnsIn y n room) m (after y g (judged .1) found (z .0) (k .1))))))))))
         where
-          after : (y : Bool) (g : Finding) → y ≡ sound kinds (stateView h) → Found y g → (d : State) → d ≡ kept g h → (stateView d ≡ opened n room (stateView h)) × (turnsIn y n room ≡ turnsAfter n (stateView d))
+          after : (y : Bool) (g : Granted) → y ≡ sound kinds (stateView h) → Found y g → (d : State) → d ≡ kept g h → (stateView d ≡ opened n room (stateView h)) × (turnsIn y n room ≡ turnsAfter n (stateView d))
           after y g e found d u = let s : stateView d ≡ opened n room (stateView h) = ap stateView u ∙ open-state n room h y e g (found .1) in (s, open-turns n room h y e d s)
 
     f-meets : Meets 𝓤 H A f.signature (WpFn 𝓤 H (𝓣 .C) (𝓣 .Λ) f.Code.function) (f.spec 𝓤 H A at-mem run)

@@ -9,9 +9,9 @@ use Rattle.request.specs.declared.Request.{Request}
 use Rattle.request.specs.Asked.{requestOf}
 use Rattle.request.proofs.Request as R
 use Rattle.request.proofs.Request.Laws as R′
-use Rattle.finding.specs.declared.Bases.{Bases}
-use Rattle.finding.proofs.Bases as B
-use Rattle.finding.proofs.Bases.Laws as B′
+use Rattle.decide.specs.declared.Bases.{Bases}
+use Rattle.decide.proofs.Bases as B
+use Rattle.decide.proofs.Bases.Laws as B′
 use Rattle.steps.specs.Steps.{Steady}
 use Rattle.steps.proofs.PlanLaws.{room-of}
 use Rattle.plan.proofs.StateFields.{numberOffset, indexOffset, withIndex, number-cut, index-cut}

@@ -1,41 +1,40 @@
 -- Each table is asked in its turn, and the chain's answer is the definition's. Assumes nothing.
 use native.Mathlib.Omega.{arith}
 use mathlib.Core.Path.{refl, sym, ap, _∙_}
-use mathlib.Core.Bool.{true}
 use Rattle.definition.specs.Tables.{device, event, lpi}
 use Rattle.choose.proofs.HitLaws.{ranges-length}
 use Rattle.msi.specs.Msi.{deviceIn, eventIn, toldMsi}
 use Rattle.msi.proofs.DecideLaws.{chain-is}
-use Rattle.finding.proofs.AskLaws.{event-asks, lpi-asks}
-use Rattle.finding.proofs.MsiLaws.{event-seen, lpi-seen}
+use Rattle.decide.proofs.AskLaws.{event-asks, lpi-asks}
+use Rattle.decide.proofs.MsiLaws.{event-seen, lpi-seen}
 use Rattle.calls.proofs.ReadyLaws.{ready-fit}
 use borrow.Author.Needs.{needs}
 use Rattle.calls.proofs.rows.choose_msi.Statement.{statement}
 use Rattle.calls.proofs.rows.choose_msi.Tie as tie
 
-device-ask-requires : tie.Need-device-ask-requires
-device-ask-requires c κs = search needs
+device-of-requires : tie.Need-device-of-requires
+device-of-requires c κs = search needs
 
 see-range-requires : tie.Need-see-range-requires
-see-range-requires c κs = let a = c .before .args in rw (c .device-ask .ensures) (λ e. (ready-fit device (a .da) (a .df) _ (c .before .pre .0), (omega arith, omega arith)))
+see-range-requires c κs = let a = c .before .args in rw (c .device-of .ensures) (λ e. (ready-fit device (a .da) (a .df) _ (c .before .pre .0), (omega arith, omega arith)))
 
 device-requires : tie.Need-device-requires
 device-requires c κs = search needs
 
-event-ask-requires : tie.Need-event-ask-requires
-event-ask-requires c κs = search needs
+event-of-requires : tie.Need-event-of-requires
+event-of-requires c κs = search needs
 
 see-range-requires-2 : tie.Need-see-range-requires-2
-see-range-requires-2 c κs = let a = c .before .before .before .before .args in rw (c .event-ask .ensures) (event-asks (a .ea) (a .ef) (a .events) (ready-fit event (a .ea) (a .ef) _ (c .before .before .before .before .pre .1)) true (a .m) (λ e. c .before .before .before .before .pre .3) (c .before .device .result))
+see-range-requires-2 c κs = let a = c .before .before .before .before .args in rw (c .event-of .ensures) (event-asks (a .ea) (a .ef) (a .events) (ready-fit event (a .ea) (a .ef) _ (c .before .before .before .before .pre .1)) (a .m) (c .before .before .before .before .pre .3) (c .before .device .result))
 
 event-requires : tie.Need-event-requires
 event-requires c κs = search needs
 
-lpi-ask-requires : tie.Need-lpi-ask-requires
-lpi-ask-requires c κs = search needs
+lpi-of-requires : tie.Need-lpi-of-requires
+lpi-of-requires c κs = search needs
 
 see-range-requires-3 : tie.Need-see-range-requires-3
-see-range-requires-3 c κs = let a = c .before .before .before .before .before .before .before .args in rw (c .lpi-ask .ensures) (lpi-asks (a .la) (a .lf) (a .lpis) (ready-fit lpi (a .la) (a .lf) _ (c .before .before .before .before .before .before .before .pre .2)) true (a .m) (λ e. c .before .before .before .before .before .before .before .pre .3) (c .before .event .result))
+see-range-requires-3 c κs = let a = c .before .before .before .before .before .before .before .args in rw (c .lpi-of .ensures) (lpi-asks (a .la) (a .lf) (a .lpis) (ready-fit lpi (a .la) (a .lf) _ (c .before .before .before .before .before .before .before .pre .2)) (a .m) (c .before .before .before .before .before .before .before .pre .3) (c .before .event .result))
 
 lpi-requires : tie.Need-lpi-requires
 lpi-requires c κs = search needs
@@ -48,9 +47,9 @@ returns c = let a = c .before .before .before .before .before .before .before .b
     let d = c .before .before .before .before .before .before .before .before .see-range .result in
     let e = c .before .before .before .before .before .see-range2 .result in
     let l = c .before .before .see-range3 .result in
-    let x = rw (c .before .before .before .before .before .before .before .before .before .device-ask .ensures) at (c .before .before .before .before .before .before .before .before .see-range .ensures) in
-    let y = rw (c .before .before .before .before .before .before .event-ask .ensures, c .before .before .before .before .before .before .before .device .ensures) at (c .before .before .before .before .before .see-range2 .ensures) in
-    let z = rw (c .before .before .before .lpi-ask .ensures, c .before .before .before .before .event .ensures) at (c .before .before .see-range3 .ensures) in
+    let x = rw (c .before .before .before .before .before .before .before .before .before .device-of .ensures) at (c .before .before .before .before .before .before .before .before .see-range .ensures) in
+    let y = rw (c .before .before .before .before .before .before .event-of .ensures, c .before .before .before .before .before .before .before .device .ensures) at (c .before .before .before .before .before .see-range2 .ensures) in
+    let z = rw (c .before .before .before .lpi-of .ensures, c .before .before .before .before .event .ensures) at (c .before .before .see-range3 .ensures) in
     ap (toldMsi (a .m)) (rw (c .before .before .before .before .before .before .before .device .ensures, c .before .before .before .before .event .ensures, c .before .lpi .ensures) at (c .chain .ensures))
     ∙ chain-is _ _ _ (a .m) (c .before .before .before .before .before .before .before .before .before .before .pre .0 .goods) (c .before .before .before .before .before .before .before .before .before .before .pre .1 .goods) (c .before .before .before .before .before .before .before .before .before .before .pre .2 .goods) (d .at) (e .at) (l .at)
     (ranges-length (a .devices) (c .before .before .before .before .before .before .before .before .before .before .pre .0 .rows) ∙ sym (x .at)) (ranges-length (a .events) (c .before .before .before .before .before .before .before .before .before .before .pre .1 .rows) ∙ sym (y .at)) (ranges-length (a .lpis) (c .before .before .before .before .before .before .before .before .before .before .pre .2 .rows) ∙ sym (z .at))
@@ -58,5 +57,5 @@ returns c = let a = c .before .before .before .before .before .before .before .b
 
 pub choose-msi-spec : {M : Type 1} → statement M
 choose-msi-spec =
-    tie.close (tie.spec device-ask-requires see-range-requires device-requires event-ask-requires see-range-requires-2 event-requires lpi-ask-requires
+    tie.close (tie.spec device-of-requires see-range-requires device-requires event-of-requires see-range-requires-2 event-requires lpi-of-requires
     see-range-requires-3 lpi-requires chain-requires returns)

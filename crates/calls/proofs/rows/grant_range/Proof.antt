@@ -3,7 +3,7 @@ use native.Mathlib.Omega.{arith}
 use mathlib.Core.Path.{refl}
 use Rattle.definition.specs.Calls.{pushAll}
 use Rattle.choose.proofs.HitLaws.{ranges-length}
-use Rattle.finding.proofs.RoomLaws.{stands-room}
+use Rattle.decide.proofs.RoomLaws.{stands-room}
 use Rattle.calls.proofs.GrantLaws.{range-given}
 use borrow.Author.Needs.{needs}
 use Rattle.calls.proofs.rows.grant_range.Statement.{statement}

@@ -5,7 +5,7 @@ use mathlib.Core.Path.{_≡_, refl, _∙_}
 use Prim.Native.Nat.{suc}
 use Rattle.definition.specs.Calls.{pushAll}
 use Rattle.choose.proofs.HitLaws.{wires-length}
-use Rattle.finding.proofs.RoomLaws.{stands-room, stands-end}
+use Rattle.decide.proofs.RoomLaws.{stands-room, stands-end}
 use Rattle.calls.proofs.GrantLaws.{wire-given}
 use borrow.Author.Needs.{needs}
 use Rattle.calls.proofs.rows.grant_wire.Statement.{statement}

@@ -1,0 +1,91 @@
+-- One request: the verdict on what is seen in the tables is the definition's answer. Assumes nothing.
+use mathlib.Core.Path.{_≡_, refl, sym, _∙_}
+use mathlib.Core.Bool.{Bool, true, false}
+use mathlib.Core.List.{[], _∷_}
+use Prim.Native.Nat.{ℕ, _<_, _≤_}
+use native.Mathlib.Omega.{arith}
+use lib.Dec.{T}
+use Rattle.definition.specs.Base.{accepted}
+use Rattle.definition.specs.Tables.{rowLimit, Kind, kinds, mmio, pio, input, host, device, event, lpi, used}
+use Rattle.definition.specs.Pools.{at-kind}
+use Rattle.definition.specs.Request.{fixed, goodRequest, claims}
+use Rattle.definition.specs.Request as R
+use Rattle.definition.specs.Calls.{poolsOf, ownersOf, sound}
+use Rattle.tables.specs.Views.{poolView, rangesView, rangeOf, stateView}
+use Rattle.tables.specs.Sized.{SizedHolders}
+use Rattle.tables.specs.declared.Pool.{Pool}
+use Rattle.tables.specs.declared.Ranges.{Ranges}
+use Rattle.tables.specs.declared.State.{State}
+use Rattle.search.specs.Asks.{needOf}
+use Rattle.search.specs.declared.Kind.the-variants as K
+use Rattle.search.specs.declared.Need.{Need}
+use Rattle.choose.specs.Told.{choiceOf, chosenIn}
+use Rattle.choose.specs.Wired.{wireAsked}
+use Rattle.choose.specs.declared.Choice.{Choice}
+use Rattle.choose.specs.declared.Refusal.the-variants.{BadInput}
+use Rattle.choose.specs.declared.wired.Wire.{Wire}
+use Rattle.choose.proofs.HitLaws.{ranges-length, wires-length}
+use Rattle.msi.specs.declared.Msi as M
+use Rattle.request.specs.Asked.{wantOf, requestOf}
+use Rattle.request.specs.declared.Want.{Want}
+use Rattle.request.specs.declared.Want.the-variants.{Mmio, Pio, WiredIrq, HostIrq, Msi}
+use Rattle.request.specs.declared.Request.{Request}
+use Rattle.msi.proofs.ListLaws.{msi-is}
+use Rattle.look.specs.Look.{Sees}
+use Rattle.look.specs.declared.Seen.{Seen}
+use Rattle.decide.specs.Outcome.{claimed}
+use Rattle.decide.specs.Query.{needing, ask, wanted, queryOf}
+use Rattle.decide.specs.Granted.{rowFor, standing, rangeGranted, given, verdictOf}
+use Rattle.decide.specs.Kept.{answer, Finds}
+use Rattle.decide.specs.Tables.{Seeing, AllSeen}
+use Rattle.decide.proofs.QueryLaws.{good-query, bad-query}
+use Rattle.decide.proofs.RoomLaws.{standing-is}
+use Rattle.decide.proofs.AnswerLaws.{claimOf, one-claimed, resolve-bad, resolve-good}
+use Rattle.decide.proofs.AskLaws.{counted}
+use Rattle.decide.proofs.KeptLaws.{refused-finds, given-finds, mmio-finds, pio-finds, host-finds, input-finds}
+use Rattle.decide.proofs.MsiLaws.{msi-verdict-finds}
+
+module _ (s : State) (z : SizedHolders (s .owners)) (t : T (sound kinds (stateView s))) where
+  -- MMIO, ports, host IRQs: what they have in common
+  range-finds :
+      (q : R.Request) (j : Kind) (a f : Pool) (o : Ranges) (n : Need) (c : Choice) (x : Seen) → o .n ≤ rowLimit → Sees a f o (ask n c) x
+      → answer s q ≡ claimOf j (chosenIn (used (poolView a)) (used (poolView f)) (used (rangesView o)) (needOf n) (choiceOf c))
+      → ((b e : ℕ) → o .n < rowLimit → accepted (at-kind j (rangeOf (rowFor n b e)) ∷ []) ≡ answer s q → Finds s q (rangeGranted n b e))
+      → Finds s q (given (rangeGranted n) (standing (x .at) (x .chosen)))
+  range-finds q j a f o n c x l y e g =
+      given-finds s q j (needOf n) _ _ _ (choiceOf c) (standing (x .at) (x .chosen)) (rangeGranted n) e
+      (standing-is _ _ _ (needOf n) (choiceOf c) (x .chosen) (x .at) (y .chosen refl) (ranges-length o l ∙ sym (y .at))) (λ b e h w. g b e (omega (arith, ranges-length o l)))
+
+  module _ (m p w h d e l : Seen) where
+    wanted-finds : (r i : ℕ) (x : Want) → answer s (record { requester = r; slot = i; want = wantOf x }) ≡ claimed (stateView s) r (wantOf x) → Seeing s (wanted r x) m p w h d e l
+        → Finds s (record { requester = r; slot = i; want = wantOf x }) (verdictOf (wanted r x) m p w h d e l)
+    unfolding claims
+    wanted-finds r i (Mmio v a c) is y =
+        let n : Need = needing K.Mmio v a r in
+        range-finds _ mmio (s .auto .mmio) (s .fixed .mmio) (s .owners .mmio) n c m (counted s mmio t) (y .mmio) (is ∙ one-claimed (stateView s) r (wantOf (Mmio v a c)) (needOf n) (choiceOf c) refl) (mmio-finds s _ z (λ cs. refl) n)
+    wanted-finds r i (Pio v a c) is y =
+        let n : Need = needing K.Pio v a r in
+        range-finds _ pio (s .auto .pio) (s .fixed .pio) (s .owners .pio) n c p (counted s pio t) (y .pio) (is ∙ one-claimed (stateView s) r (wantOf (Pio v a c)) (needOf n) (choiceOf c) refl) (pio-finds s _ z (λ cs. refl) n)
+    wanted-finds r i (HostIrq c) is y =
+        let n : Need = needing K.Host 1 1 r in
+        range-finds _ host (s .auto .host) (s .fixed .host) (s .owners .host) n c h (counted s host t) (y .host) (is ∙ one-claimed (stateView s) r (wantOf (HostIrq c)) (needOf n) (choiceOf c) refl) (host-finds s _ z (λ cs. refl) n)
+    wanted-finds r i (WiredIrq k g v c) is y =
+        let x : Wire = record { controller = k; trigger = g; sharing = v; requester = r } in
+        given-finds s _ input (wireAsked x) _ _ _ (choiceOf c) (standing (w .at) (w .chosen)) _ (is ∙ one-claimed (stateView s) r (wantOf (WiredIrq k g v c)) (wireAsked x) (choiceOf c) refl)
+        (standing-is _ _ _ (wireAsked x) (choiceOf c) (w .chosen) (w .at) (y .input .chosen refl) (wires-length (s .owners .input) (counted s input t) ∙ sym (y .input .at)))
+        (λ b e u. input-finds s _ z (λ cs. refl) x b e (omega (arith, wires-length (s .owners .input) (counted s input t))))
+    wanted-finds r i (Msi k j c dc ec lc) is y =
+        let x : M.Msi = record { controller = k; its = j; count = c; requester = r; device = dc; event = ec; lpi = lc } in
+        msi-verdict-finds s t _ z x (λ cs. refl) (is ∙ msi-is x (poolsOf (stateView s)) (ownersOf (stateView s))) d e l (y .device) (y .event) (y .lpi)
+
+pub finds : (s : State) (r : Request) (m p w h d e l : Seen) → T (sound kinds (stateView s)) → AllSeen s r m p w h d e l → Finds s (requestOf r) (verdictOf (queryOf r) m p w h d e l)
+finds s r m p w h d e l t y = go (goodRequest (requestOf r)) refl
+  where
+    -- the columns have their full length, as was seen
+    z : SizedHolders (s .owners)
+    z = record { mmio = y .mmio .sized; pio = y .pio .sized; input = y .input .sized; host = y .host .sized; device = y .device .sized; event = y .event .sized; lpi = y .lpi .sized }
+
+    go : (b : Bool) → goodRequest (requestOf r) ≡ b → Finds s (requestOf r) (verdictOf (queryOf r) m p w h d e l)
+    go true g =
+        rw (good-query r g) (wanted-finds s z t m p w h d e l (r .requester) (r .slot) (r .want) (resolve-good (stateView s) (requestOf r) g) (rw (good-query r g) at y))
+    go false g = rw (bad-query r g) (refused-finds s (requestOf r) BadInput (sym (resolve-bad (poolsOf (stateView s)) (ownersOf (stateView s)) (requestOf r) g)))

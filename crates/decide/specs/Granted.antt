@@ -1,0 +1,147 @@
+-- What comes of the tables' answers: the rows to store, and what is answered. Assumes nothing.
+use mathlib.Core.Bool.{Bool, true, false}
+use Prim.Native.Nat.{ℕ}
+use lib.Dec.{ltb}
+use Rattle.definition.specs.Tables.{rowLimit}
+use Rattle.search.specs.declared.Kind.{Kind}
+use Rattle.search.specs.declared.Kind.the-variants as K
+use Rattle.search.specs.declared.Need.{Need}
+use Rattle.choose.specs.declared.Refusal.{Refusal}
+use Rattle.choose.specs.declared.Refusal.the-variants.{Malformed, BadInput, FixedNotAllowed, Exhausted, Conflict, Full, Short}
+use Rattle.choose.specs.declared.Chosen.{Chosen}
+use Rattle.choose.specs.declared.Chosen.the-variants.{Stands, Refused}
+use Rattle.choose.specs.declared.wired.Wire.{Wire}
+use Rattle.tables.specs.declared.DeviceId.{DeviceId}
+use Rattle.tables.specs.declared.EventId.{EventId}
+use Rattle.tables.specs.declared.Lpi.{Lpi}
+use Rattle.tables.specs.declared.RangeRow.{RangeRow}
+use Rattle.tables.specs.declared.WireRow.{WireRow}
+use Rattle.request.specs.declared.Said.{Said}
+use Rattle.msi.specs.Msi.{deviceIn, eventIn, lpiIn, chained, rowsOf}
+use Rattle.msi.specs.declared.Msi.{Msi}
+use Rattle.msi.specs.declared.MsiChosen.{MsiChosen}
+use Rattle.msi.specs.declared.MsiChosen.the-variants as M
+use Rattle.look.specs.declared.Seen.{Seen}
+use Rattle.store.specs.declared.Put.{Put}
+use Rattle.store.specs.declared.WirePut.{WirePut}
+use Rattle.decide.specs.Outcome.{noBases, someBase, someMsi}
+use Rattle.decide.specs.declared.Bases.{Bases}
+use Rattle.decide.specs.declared.Query.{Query}
+use Rattle.decide.specs.declared.Query.the-variants as Q
+use Rattle.decide.specs.declared.Rows.{Rows}
+use Rattle.decide.specs.declared.Rows.the-variants as R
+use Rattle.decide.specs.declared.Granted.{Granted}
+
+abbrev pub saying : ℕ → ℕ → ℕ → ℕ → Said
+saying n s o d = record { number = n; namespace = s; owner = o; detail = d }
+
+-- the numbers of a refusal: law `refusal-told` ties them to 01's
+abbrev pub numbersOf : Refusal → Said
+numbersOf Malformed = saying 1 0 0 0
+numbersOf BadInput = saying 2 0 0 0
+numbersOf (FixedNotAllowed s) = saying 6 s 0 0
+numbersOf (Exhausted s) = saying 7 s 0 0
+numbersOf (Conflict s o d) = saying 8 s o d
+numbersOf Full = saying 9 0 0 0
+numbersOf Short = saying 11 0 0 0
+
+-- rows, and five zeros
+abbrev pub granted : Rows → Bases → Granted
+granted r b = record { rows = r; bases = b; said = saying 0 0 0 0 }
+
+abbrev pub refusal : Refusal → Granted
+refusal y = record { rows = R.Nothing; bases = noBases; said = numbersOf y }
+
+abbrev pub rowFor : Need → ℕ → ℕ → RangeRow
+rowFor n b e = record { controller = n .controller; its = n .its; device = n .device; start = b; end = e; owner = n .requester }
+
+abbrev pub wireFor : Wire → ℕ → WireRow
+wireFor w b = record { controller = w .controller; input = b; trigger = w .trigger; sharing = w .sharing; owner = w .requester }
+
+-- what stands, if the table has a free row for it
+abbrev pub orFull : Bool → ℕ → ℕ → Chosen
+orFull true b e = Stands b e
+orFull false b e = Refused Full
+
+abbrev pub standing : ℕ → Chosen → Chosen
+standing at (Stands b e) = orFull (ltb at rowLimit) b e
+standing at (Refused y) = Refused y
+
+-- one table's answer: f of what stands
+abbrev pub given : (ℕ → ℕ → Granted) → Chosen → Granted
+given f (Stands b e) = f b e
+given f (Refused y) = refusal y
+
+-- a row for the table of its kind; those of an MSI request come as three
+abbrev pub placed : Kind → RangeRow → Rows
+placed K.Mmio r = R.Mmio r
+placed K.Pio r = R.Pio r
+placed K.Host r = R.Host r
+placed K.Device r = R.Nothing
+placed K.Event r = R.Nothing
+placed K.Lpi r = R.Nothing
+
+abbrev pub rangeGranted : Need → ℕ → ℕ → Granted
+rangeGranted n b e = granted (placed (n .kind) (rowFor n b e)) (someBase b)
+
+abbrev pub rangeVerdict : Need → Seen → Granted
+rangeVerdict n x = given (rangeGranted n) (standing (x .at) (x .chosen))
+
+abbrev pub wireGranted : Wire → ℕ → ℕ → Granted
+wireGranted w b e = granted (R.Input (wireFor w b)) (someBase b)
+
+abbrev pub wireVerdict : Wire → Seen → Granted
+wireVerdict w x = given (wireGranted w) (standing (x .at) (x .chosen))
+
+abbrev pub msiGranted : Msi → DeviceId → EventId → Lpi → Granted
+msiGranted m d e l = granted (R.Msi (rowsOf m d e l)) (someMsi d e l)
+
+abbrev pub msiGiven : Msi → MsiChosen → Granted
+msiGiven m (M.Stands d e l) = msiGranted m d e l
+msiGiven m (M.Refused y) = refusal y
+
+abbrev pub msiVerdict : Msi → Seen → Seen → Seen → Granted
+msiVerdict m d e l = msiGiven m (chained (deviceIn (d .chosen)) (eventIn (e .chosen)) (lpiIn (l .chosen)) (d .at) (e .at) (l .at))
+
+-- MMIO, ports, the input, the host IRQ, the device with its events and LPIs
+abbrev pub verdictOf : Query → Seen → Seen → Seen → Seen → Seen → Seen → Seen → Granted
+verdictOf Q.Nothing m p w h d e l = refusal BadInput
+verdictOf (Q.Mmio n c) m p w h d e l = rangeVerdict n m
+verdictOf (Q.Pio n c) m p w h d e l = rangeVerdict n p
+verdictOf (Q.Input x c) m p w h d e l = wireVerdict x w
+verdictOf (Q.Host n c) m p w h d e l = rangeVerdict n h
+verdictOf (Q.Msi x) m p w h d e l = msiVerdict x d e l
+
+-- ---- what each table is to store
+
+abbrev pub put : RangeRow → Put
+put r = record { go = true; row = r }
+
+abbrev pub putInput : WireRow → WirePut
+putInput r = record { go = true; row = r }
+
+abbrev pub noPut : Put
+noPut = record { go = false; row = record { controller = 0; its = 0; device = 0; start = 0; end = 0; owner = 0 } }
+
+abbrev pub noWirePut : WirePut
+noWirePut = record { go = false; row = record { controller = 0; input = 0; trigger = 0; sharing = 0; owner = 0 } }
+
+pub record Puts : Type 0 where
+  pub mmio : Put
+  pub pio : Put
+  pub input : WirePut
+  pub host : Put
+  pub device : Put
+  pub event : Put
+  pub lpi : Put
+
+abbrev putting : Put → Put → WirePut → Put → Put → Put → Put → Puts
+putting m p w h d e l = record { mmio = m; pio = p; input = w; host = h; device = d; event = e; lpi = l }
+
+abbrev pub puts : Rows → Puts
+puts R.Nothing = putting noPut noPut noWirePut noPut noPut noPut noPut
+puts (R.Mmio r) = putting (put r) noPut noWirePut noPut noPut noPut noPut
+puts (R.Pio r) = putting noPut (put r) noWirePut noPut noPut noPut noPut
+puts (R.Input r) = putting noPut noPut (putInput r) noPut noPut noPut noPut
+puts (R.Host r) = putting noPut noPut noWirePut (put r) noPut noPut noPut
+puts (R.Msi r) = putting noPut noPut noWirePut noPut (put (r .device)) (put (r .event)) (put (r .lpi))

@@ -1,0 +1,5 @@
+pub mod Outcome
+pub mod Query
+pub mod Granted
+pub mod Kept
+pub mod Tables

@@ -1,0 +1,94 @@
+-- What a request asks, and what of it each table is asked. Assumes nothing.
+use mathlib.Core.Bool.{Bool, true, false}
+use Prim.Native.Nat.{ℕ}
+use Rattle.definition.specs.Request.{goodRequest}
+use Rattle.search.specs.declared.Kind.{Kind}
+use Rattle.search.specs.declared.Kind.the-variants as K
+use Rattle.search.specs.declared.Need.{Need}
+use Rattle.choose.specs.Ids.{plainDevice, plainEvent, plainLpi}
+use Rattle.choose.specs.declared.Choice.{Choice}
+use Rattle.choose.specs.declared.Choice.the-variants.{Auto}
+use Rattle.choose.specs.declared.wired.Wire.{Wire}
+use Rattle.msi.specs.Msi.{deviceNeed, eventNeed, lpiNeed, deviceIn, eventIn}
+use Rattle.msi.specs.declared.Msi.{Msi}
+use Rattle.msi.specs.declared.DeviceChosen.{DeviceChosen}
+use Rattle.msi.specs.declared.DeviceChosen.the-variants as D′
+use Rattle.msi.specs.declared.EventChosen.{EventChosen}
+use Rattle.msi.specs.declared.EventChosen.the-variants as E′
+use Rattle.request.specs.Asked.{requestOf}
+use Rattle.request.specs.declared.Want as W
+use Rattle.request.specs.declared.Want.the-variants as Want
+use Rattle.request.specs.declared.Request.{Request}
+use Rattle.look.specs.declared.Ask.{Ask}
+use Rattle.look.specs.declared.WireAsk.{WireAsk}
+use Rattle.look.specs.declared.Seen.{Seen}
+use Rattle.decide.specs.declared.Query.{Query}
+use Rattle.decide.specs.declared.Query.the-variants as Q
+
+-- a need of the whole machine
+abbrev pub needing : Kind → ℕ → ℕ → ℕ → Need
+needing k s a q = record { kind = k; controller = 0; its = 0; device = 0; size = s; alignment = a; requester = q }
+
+abbrev pub wanted : ℕ → W.Want → Query
+wanted q (Want.Mmio s a c) = Q.Mmio (needing K.Mmio s a q) c
+wanted q (Want.Pio s a c) = Q.Pio (needing K.Pio s a q) c
+wanted q (Want.WiredIrq k t s c) = Q.Input (record { controller = k; trigger = t; sharing = s; requester = q }) c
+wanted q (Want.HostIrq c) = Q.Host (needing K.Host 1 1 q) c
+wanted q (Want.Msi k i n d e l) = Q.Msi (record { controller = k; its = i; count = n; requester = q; device = d; event = e; lpi = l })
+
+-- what makes no sense asks nothing
+abbrev pub ifGood : Bool → Query → Query
+ifGood true q = q
+ifGood false q = Q.Nothing
+
+abbrev pub queryOf : Request → Query
+queryOf r = ifGood (goodRequest (requestOf r)) (wanted (r .requester) (r .want))
+
+-- ---- what each table is asked
+
+abbrev pub ask : Need → Choice → Ask
+ask n c = record { go = true; need = n; choice = c }
+
+abbrev pub askWire : Wire → Choice → WireAsk
+askWire w c = record { go = true; wire = w; choice = c }
+
+abbrev pub idle : Ask
+idle = record { go = false; need = needing K.Mmio 0 0 0; choice = Auto }
+
+abbrev pub idleWire : WireAsk
+idleWire = record { go = false; wire = record { controller = 0; trigger = 0; sharing = 0; requester = 0 }; choice = Auto }
+
+-- events are asked for once the device stands, LPIs once the events do
+abbrev pub deviceAsk : Msi → Ask
+deviceAsk m = ask (deviceNeed m) (plainDevice (m .device))
+
+abbrev pub eventAsk : Msi → DeviceChosen → Ask
+eventAsk m (D′.Stands d) = ask (eventNeed m d) (plainEvent (m .event))
+eventAsk m (D′.Refused y) = idle
+
+abbrev pub lpiAsk : Msi → EventChosen → Ask
+lpiAsk m (E′.Stands e) = ask (lpiNeed m) (plainLpi (m .lpi))
+lpiAsk m (E′.Refused y) = idle
+
+pub record Asked : Type 0 where
+  pub mmio : Ask
+  pub pio : Ask
+  pub input : WireAsk
+  pub host : Ask
+  pub device : Ask
+  pub event : Seen → Ask
+  pub lpi : Seen → Ask
+
+abbrev asking : Ask → Ask → WireAsk → Ask → Ask → (Seen → Ask) → (Seen → Ask) → Asked
+asking m p w h d e l = record { mmio = m; pio = p; input = w; host = h; device = d; event = e; lpi = l }
+
+abbrev never : Seen → Ask
+never x = idle
+
+abbrev pub asked : Query → Asked
+asked Q.Nothing = asking idle idle idleWire idle idle never never
+asked (Q.Mmio n c) = asking (ask n c) idle idleWire idle idle never never
+asked (Q.Pio n c) = asking idle (ask n c) idleWire idle idle never never
+asked (Q.Input w c) = asking idle idle (askWire w c) idle idle never never
+asked (Q.Host n c) = asking idle idle idleWire (ask n c) idle never never
+asked (Q.Msi m) = asking idle idle idleWire idle (deviceAsk m) (λ d. eventAsk m (deviceIn (d .chosen))) (λ e. lpiAsk m (eventIn (e .chosen)))

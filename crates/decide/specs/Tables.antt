@@ -1,0 +1,32 @@
+-- What all seven tables are asked by one query, and what is seen in them. Assumes nothing.
+use Rattle.tables.specs.declared.State.{State}
+use Rattle.request.specs.declared.Request.{Request}
+use Rattle.look.specs.Look.{Asks, Sees, WireAsks, SeesWire}
+use Rattle.look.specs.declared.Seen.{Seen}
+use Rattle.decide.specs.Query.{asked, queryOf}
+use Rattle.decide.specs.declared.Query.{Query}
+
+pub record Asking (s : State) (q : Query) : Type 0 where
+  pub mmio : Asks (s .auto .mmio) (s .fixed .mmio) (s .owners .mmio) (asked q .mmio)
+  pub pio : Asks (s .auto .pio) (s .fixed .pio) (s .owners .pio) (asked q .pio)
+  pub input : WireAsks (s .auto .input) (s .fixed .input) (s .owners .input) (asked q .input)
+  pub host : Asks (s .auto .host) (s .fixed .host) (s .owners .host) (asked q .host)
+  pub device : Asks (s .auto .device) (s .fixed .device) (s .owners .device) (asked q .device)
+  pub event : (d : Seen) → Asks (s .auto .event) (s .fixed .event) (s .owners .event) (asked q .event d)
+  pub lpi : (e : Seen) → Asks (s .auto .lpi) (s .fixed .lpi) (s .owners .lpi) (asked q .lpi e)
+
+pub record Seeing (s : State) (q : Query) (m p w h d e l : Seen) : Type 0 where
+  pub mmio : Sees (s .auto .mmio) (s .fixed .mmio) (s .owners .mmio) (asked q .mmio) m
+  pub pio : Sees (s .auto .pio) (s .fixed .pio) (s .owners .pio) (asked q .pio) p
+  pub input : SeesWire (s .auto .input) (s .fixed .input) (s .owners .input) (asked q .input) w
+  pub host : Sees (s .auto .host) (s .fixed .host) (s .owners .host) (asked q .host) h
+  pub device : Sees (s .auto .device) (s .fixed .device) (s .owners .device) (asked q .device) d
+  pub event : Sees (s .auto .event) (s .fixed .event) (s .owners .event) (asked q .event d) e
+  pub lpi : Sees (s .auto .lpi) (s .fixed .lpi) (s .owners .lpi) (asked q .lpi e) l
+
+-- .. by a request's query
+abbrev pub AllAsk : State → Request → Type 0
+AllAsk s r = Asking s (queryOf r)
+
+abbrev pub AllSeen : State → Request → Seen → Seen → Seen → Seen → Seen → Seen → Seen → Type 0
+AllSeen s r m p w h d e l = Seeing s (queryOf r) m p w h d e l

@@ -1,0 +1,187 @@
+// What a query asks of each table: of its own what it needs, of any other nothing.
+use super::Query;
+use super::needing;
+use choose::Choice;
+use choose::ids;
+use choose::wired::Wire;
+use look::Ask;
+use look::Seen;
+use look::WireAsk;
+use msi::DeviceChosen;
+use msi::EventChosen;
+use msi::Msi;
+use search::Kind;
+ghost use mathlib.Core.Path.{_≡_};
+ghost use Rattle.decide.specs.Query.{idle, idleWire, asked, deviceAsk, eventAsk, lpiAsk};
+
+// The table of MMIO.
+pub fn mmio(q: Query) -> Ask
+    ensures { λ a. ⌜ a ≡ asked q .mmio ⌝ }
+{
+    match q {
+        Query::Mmio(need, choice) => Ask {
+            go: true,
+            need,
+            choice,
+        },
+        _ => nothing(),
+    }
+}
+
+// The table of ports.
+pub fn pio(q: Query) -> Ask
+    ensures { λ a. ⌜ a ≡ asked q .pio ⌝ }
+{
+    match q {
+        Query::Pio(need, choice) => Ask {
+            go: true,
+            need,
+            choice,
+        },
+        _ => nothing(),
+    }
+}
+
+// The table of inputs.
+pub fn input(q: Query) -> WireAsk
+    ensures { λ a. ⌜ a ≡ asked q .input ⌝ }
+{
+    match q {
+        Query::Input(wire, choice) => WireAsk {
+            go: true,
+            wire,
+            choice,
+        },
+        _ => no_input(),
+    }
+}
+
+// The table of host IRQs.
+pub fn host(q: Query) -> Ask
+    ensures { λ a. ⌜ a ≡ asked q .host ⌝ }
+{
+    match q {
+        Query::Host(need, choice) => Ask {
+            go: true,
+            need,
+            choice,
+        },
+        _ => nothing(),
+    }
+}
+
+// The table of devices.
+pub fn device(q: Query) -> Ask
+    ensures { λ a. ⌜ a ≡ asked q .device ⌝ }
+{
+    match q {
+        Query::Msi(m) => device_of(m),
+        _ => nothing(),
+    }
+}
+
+// The events of the device that stands.
+pub fn event(q: Query, device: Seen) -> Ask
+    ensures { λ a. ⌜ a ≡ asked q .event device ⌝ }
+{
+    match q {
+        Query::Msi(m) => {
+            let chosen = device.chosen;
+            event_of(m, msi::device(chosen))
+        }
+        _ => nothing(),
+    }
+}
+
+// LPIs, once the events stand.
+pub fn lpi(q: Query, event: Seen) -> Ask
+    ensures { λ a. ⌜ a ≡ asked q .lpi event ⌝ }
+{
+    match q {
+        Query::Msi(m) => {
+            let chosen = event.chosen;
+            lpi_of(m, msi::event(chosen))
+        }
+        _ => nothing(),
+    }
+}
+
+// ---- what an MSI request asks: nothing behind a refusal
+
+pub fn device_of(m: Msi) -> Ask
+    ensures { λ a. ⌜ a ≡ deviceAsk m ⌝ }
+{
+    let need = msi::device_need(m);
+    let wanted = m.device;
+    let choice = ids::of_device(wanted);
+    Ask {
+        go: true,
+        need,
+        choice,
+    }
+}
+
+pub fn event_of(m: Msi, first: DeviceChosen) -> Ask
+    ensures { λ a. ⌜ a ≡ eventAsk m first ⌝ }
+{
+    match first {
+        DeviceChosen::Stands(device) => {
+            let need = msi::event_need(m, device);
+            let wanted = m.event;
+            let choice = ids::of_event(wanted);
+            Ask {
+                go: true,
+                need,
+                choice,
+            }
+        }
+        DeviceChosen::Refused(_) => nothing(),
+    }
+}
+
+pub fn lpi_of(m: Msi, second: EventChosen) -> Ask
+    ensures { λ a. ⌜ a ≡ lpiAsk m second ⌝ }
+{
+    match second {
+        EventChosen::Stands(_) => {
+            let need = msi::lpi_need(m);
+            let wanted = m.lpi;
+            let choice = ids::of_lpi(wanted);
+            Ask {
+                go: true,
+                need,
+                choice,
+            }
+        }
+        EventChosen::Refused(_) => nothing(),
+    }
+}
+
+// ---- a table that is asked nothing
+
+pub fn nothing() -> Ask
+    ensures { λ a. ⌜ a ≡ idle ⌝ }
+{
+    let need = needing(Kind::Mmio, 0, 0, 0);
+    Ask {
+        go: false,
+        need,
+        choice: Choice::Auto,
+    }
+}
+
+pub fn no_input() -> WireAsk
+    ensures { λ a. ⌜ a ≡ idleWire ⌝ }
+{
+    let wire = Wire {
+        controller: 0,
+        trigger: 0,
+        sharing: 0,
+        requester: 0,
+    };
+    WireAsk {
+        go: false,
+        wire,
+        choice: Choice::Auto,
+    }
+}

@@ -1,5 +1,0 @@
-pub mod Outcome
-pub mod Query
-pub mod Finding
-pub mod Kept
-pub mod Tables
