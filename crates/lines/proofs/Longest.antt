@@ -93,7 +93,7 @@ either P x y false p q = q
 
 answered-few : (t : Sofar) (r : Lent) → t .wants < planLimit → Few (answered t r)
 unfolding answered
-answered-few t r l = either Few _ _ (accepts (r .state)) l (omega arith)
+answered-few t r l = either Few _ _ (accepts (r .state .said)) l (omega arith)
 
 ask-few : (t : Sofar) (r : Request) → Few t → Few (ask t r)
 unfolding ask
@@ -107,7 +107,7 @@ set-up-few : (t : Sofar) (c : Call) → Few t → Few (setUp t c)
 unfolding setUp
 set-up-few t c f = either Few _ _ (eqb (t .wants) 0) f f
 
-taken-few : (t : Sofar) (o : Option Call) → Few t → Few (take-line t o)
+pub taken-few : (t : Sofar) (o : Option Call) → Few t → Few (take-line t o)
 taken-few t none f = f
 taken-few t (some (pool u p)) f = set-up-few t (pool u p) f
 taken-few t (some (hold o h)) f = set-up-few t (hold o h) f
@@ -116,7 +116,7 @@ taken-few t (some (want r)) f = ask-few t r f
 
 step-few : (t : Sofar) (l : List ℕ) → Few t → Few (step t l)
 unfolding step
-step-few t l f = either Few _ _ (accepts (t .state)) (taken-few t (readLine l) f) f
+step-few t l f = either Few _ _ (accepts (t .said)) (taken-few t (readLine l) f) f
 
 parts-few : (ps : List (List ℕ)) (t : Sofar) → Few t → Few (feedParts step t ps .after)
 unfolding feedParts
@@ -126,7 +126,7 @@ parts-few (p ∷ q ∷ ps) t f = parts-few (q ∷ ps) (step t p) (step-few t p f
 
 unfinished-few : (t : Sofar) → Few t → Few (unfinished t)
 unfolding unfinished
-unfinished-few t f = either Few _ _ (accepts (t .state)) f f
+unfinished-few t f = either Few _ _ (accepts (t .said)) f f
 
 closed-few : (t : Sofar) (l : List ℕ) → Few t → Few (closedBy t l)
 closed-few t [] f = f
@@ -147,9 +147,9 @@ Fits l = length l ≤ outputLimit
 answer-length : (t : Sofar) → Few t → Fits (answer t)
 unfolding answer
 answer-length t f =
-    either Fits _ _ (accepts (t .state))
+    either Fits _ _ (accepts (t .said))
     (omega (arith, length-append (gotLines (t .wants) (t .records)) (endLine (t .wants)), got-lines-length (t .wants) (t .records), end-length (t .wants)))
-    (no-length (t .lines) (t .state .said))
+    (no-length (t .lines) (t .said))
 
 -- THE THEOREM: whatever the text, the output has at most so many bytes
 pub output-length : (text : List ℕ) → length (output text) ≤ outputLimit

@@ -1,27 +1,22 @@
--- The head of a text: which lines are of it, and where it ends. Assumes nothing.
-use mathlib.Core.Path.{_≡_}
-use mathlib.Core.Bool.{Bool, true, false}
+-- The line that starts at a place of a text: what it says, and where the next one starts. Assumes nothing.
+use mathlib.Core.Bool.{true, false}
 use mathlib.Core.List.{List}
-use mathlib.Core.Option.{Option, none, some}
-use Prim.Native.Nat.{ℕ, _+_, _-_, _<_}
+use mathlib.Core.Option.{Option, none}
+use Prim.Native.Nat.{ℕ, _+_, _-_}
+use lib.Dec.{ltb}
 use lib.ListN.{length, take, drop}
-use Rattle.definition.specs.Calls.{Call, pool, hold, start, want}
+use Rattle.definition.specs.Calls.{Call}
 use Rattle.lines.specs.Base.{newline}
 use Rattle.lines.specs.Line.{readLine}
 use Rattle.lines.specs.Code.{first}
 
--- a `pool` or a `hold`
-abbrev pub adds : Option Call → Bool
-adds none = false
-adds (some (pool u p)) = true
-adds (some (hold o h)) = true
-adds (some start) = false
-adds (some (want r)) = false
+-- its newline, or the text's end
+abbrev pub endAt : List ℕ → ℕ → ℕ
+endAt text at = at + first newline (drop at text)
 
--- the bytes from `at` up to e
-abbrev pub lineAt : List ℕ → ℕ → ℕ → List ℕ
-lineAt text at e = take (e - at) (drop at text)
+-- a line that no newline ends says nothing, and is the last
+unfoldable pub callAt : List ℕ → ℕ → Option Call
+callAt text at = elim (ltb (endAt text at) (length text)) [ true ↦ readLine (take (endAt text at - at) (drop at text)) | false ↦ none ]
 
--- no line that adds stands at `at`: the text ends there, or the line has no newline, or it is no `pool` and no `hold`
-abbrev pub Stops : List ℕ → ℕ → Type 0
-Stops text at = (e : ℕ) → e ≡ at + first newline (drop at text) → e < length text → adds (readLine (lineAt text at e)) ≡ false
+unfoldable pub nextAt : List ℕ → ℕ → ℕ
+nextAt text at = elim (ltb (endAt text at) (length text)) [ true ↦ endAt text at + 1 | false ↦ length text ]

@@ -6,7 +6,7 @@ use Prim.Native.Nat.{ℕ, suc}
 use lib.Dec.{eqb, leb, ltb}
 use lib.ListN.{length, replicate}
 use Rattle.definition.specs.Tables.{planLimit, recordSize, kinds}
-use Rattle.definition.specs.Base.{Refusal, badLine, short, tell}
+use Rattle.definition.specs.Base.{Refusal, badLine, short, Said, says, silence, tell}
 use Rattle.definition.specs.Request.{Request}
 use Rattle.definition.specs.Calls.{State, fresh, saying, Call, pool, hold, start, want, serve}
 use Rattle.definition.specs.Plan.{Lent, allocateInto}
@@ -18,27 +18,33 @@ use Rattle.lines.specs.Output.{gotLines, endLine, noLine}
 
 pub record Sofar : Type 0 where
   pub lines : ℕ  -- taken so far
-  pub state : State  -- the tables, and what the last line was answered
+  pub state : State  -- the tables; the five numbers beside them are not read here
   pub wants : ℕ  -- accepted so far; the owner tables are started at the first
   pub records : List ℕ  -- the wants' results, nine numbers each
+  pub said : Said  -- what the last line was answered
 
-abbrev pub sofar : ℕ → State → ℕ → List ℕ → Sofar
-sofar l s n rs = record { lines = l; state = s; wants = n; records = rs }
+abbrev pub sofar : ℕ → State → ℕ → List ℕ → Said → Sofar
+sofar l s n rs w = record { lines = l; state = s; wants = n; records = rs; said = w }
+
+-- no line is taken yet, on the tables of s
+abbrev pub beginningOn : State → Sofar
+beginningOn s = sofar 0 s 0 [] silence
 
 abbrev pub beginning : Sofar
-beginning = sofar 0 fresh 0 []
+beginning = beginningOn fresh
 
-abbrev pub accepts : State → Bool
-accepts s = eqb (s .said .number) 0
+abbrev pub accepts : Said → Bool
+accepts w = eqb (w .number) 0
 
 -- ---- one line more
 
--- it leaves the state s, and no record
+-- a call that leaves the state s, and no record
 abbrev pub next : Sofar → State → Sofar
-next t s = sofar (suc (t .lines)) s (t .wants) (t .records)
+next t s = sofar (suc (t .lines)) s (t .wants) (t .records) (s .said)
 
+-- a line that is no call: the state stays as it is
 abbrev pub refuse : Sofar → Refusal → Sofar
-refuse t x = next t (saying (tell 0 x) (t .state))
+refuse t x = sofar (suc (t .lines)) (t .state) (t .wants) (t .records) (tell 0 x)
 
 -- no `pool` or `hold` after a `want`
 unfoldable pub setUp : Sofar → Call → Sofar
@@ -48,9 +54,17 @@ setUp t c = elim (eqb (t .wants) 0) [ true ↦ next t (serve kinds c (t .state))
 unfoldable pub opened : Sofar → State
 opened t = elim (eqb (t .wants) 0) [ true ↦ serve kinds start (t .state) | false ↦ t .state ]
 
+-- a refusal names its place among the wants, as a plan names its request
+abbrev pub naming : ℕ → State → State
+naming i s = saying (says i (s .said .number) (s .said .namespace) (s .said .owner) (s .said .detail)) s
+
 -- an accepted `want` leaves its record
 unfoldable pub answered : Sofar → Lent → Sofar
-answered t r = elim (accepts (r .state)) [ true ↦ sofar (suc (t .lines)) (r .state) (suc (t .wants)) (t .records ++ r .results) | false ↦ next t (r .state) ]
+answered t r =
+    elim (accepts (r .state .said)) [
+      | true ↦ sofar (suc (t .lines)) (r .state) (suc (t .wants)) (t .records ++ r .results) (r .state .said)
+      | false ↦ next t (naming (t .wants) (r .state))
+    ]
 
 -- a 129th `want` is 11
 unfoldable pub ask : Sofar → Request → Sofar
@@ -70,7 +84,7 @@ take-line t (some (want r)) = ask t r
 
 -- THE LINE STEP: a refusal stands, whatever follows
 unfoldable pub step : Sofar → List ℕ → Sofar
-step t l = elim (accepts (t .state)) [ true ↦ take-line t (readLine l) | false ↦ t ]
+step t l = elim (accepts (t .said)) [ true ↦ take-line t (readLine l) | false ↦ t ]
 
 -- ---- text to lines, for any step on lines
 
@@ -95,7 +109,7 @@ feed f s text = feedParts f s (split newline text)
 
 -- a last line without its newline is 10, whatever it holds
 unfoldable pub unfinished : Sofar → Sofar
-unfinished t = elim (accepts (t .state)) [ true ↦ refuse t badLine | false ↦ t ]
+unfinished t = elim (accepts (t .said)) [ true ↦ refuse t badLine | false ↦ t ]
 
 abbrev pub closedBy : Sofar → List ℕ → Sofar
 closedBy t [] = t
@@ -107,9 +121,9 @@ close f = closedBy (f .after) (f .open-line)
 -- a `got` line a request, then `end` and their number; on a refusal the line `no` alone
 unfoldable pub answer : Sofar → List ℕ
 answer t =
-    elim (accepts (t .state)) [
+    elim (accepts (t .said)) [
       | true ↦ gotLines (t .wants) (t .records) ++ endLine (t .wants)
-      | false ↦ noLine (t .lines) (t .state .said)
+      | false ↦ noLine (t .lines) (t .said)
     ]
 
 -- THE PROGRAM: text over the total limit is 10 with line number 0, before all else

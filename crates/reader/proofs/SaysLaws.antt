@@ -1,94 +1,140 @@
--- What a line says determines it: any two lines of the code that say the same are the same. Assumes nothing.
+-- What a line says determines the call that is read: any two calls of the code that say the same are the same. Assumes nothing.
 use mathlib.Core.Path.{_≡_, refl, sym, _∙_, ap}
-use mathlib.Core.Bool.{Bool, true, false}
 use mathlib.Core.Option.{Option, none, some}
-use Prim.Native.Nat.{ℕ}
 use Rattle.definition.specs.Pools.{Pool, mmioPool, pioPool, hostPool, inputPool, msiPool, Hold, mmioHold, pioHold, hostHold, inputHold, deviceHold, eventHold, lpiHold, pairHold}
-use Rattle.definition.specs.Request.{Choice, auto, at, Want, memory, ports, wire, irq, msi, Use, automatic, fixed}
-use Rattle.definition.specs.Calls.{Call, pool, hold, start, want}
-use Rattle.reader.specs.declared.line.Line.{Line}
-use Rattle.reader.specs.declared.line.Line.the-variants.{Bad, PoolMmio, PoolPio, PoolHost, PoolInput, PoolMsi, HoldMmio, HoldPio, HoldHost, HoldInput, HoldLpi, HoldDevice, HoldEvent, WantMmioAuto, WantPioAuto, WantHostAuto, WantInputAuto, WantMsiAuto, WantMmioAt, WantPioAt, WantHostAt, WantInputAt, WantMsiAt}
-use Rattle.reader.specs.Says.{lineSays}
+use Rattle.definition.specs.Request as D
+use Rattle.definition.specs.Request.{auto, at, memory, ports, wire, irq, msi, automatic, fixed}
+use Rattle.definition.specs.Calls as D′
+use Rattle.definition.specs.Calls.{pool, hold, start, want}
+use Rattle.choose.specs.declared.Choice.{Choice}
+use Rattle.choose.specs.declared.Choice.the-variants as N
+use Rattle.choose.specs.declared.ids.DeviceChoice.{DeviceChoice}
+use Rattle.choose.specs.declared.ids.DeviceChoice.the-variants as De
+use Rattle.choose.specs.declared.ids.EventChoice.{EventChoice}
+use Rattle.choose.specs.declared.ids.EventChoice.the-variants as E
+use Rattle.choose.specs.declared.ids.LpiChoice.{LpiChoice}
+use Rattle.choose.specs.declared.ids.LpiChoice.the-variants as L
+use Rattle.choose.specs.Told.{choiceOf}
+use Rattle.choose.specs.Ids.{deviceChoice, eventChoice, lpiChoice}
+use Rattle.request.specs.Asked.{wantOf}
+use Rattle.request.specs.Calls.{useOf, poolCall, holdCall, callOf}
+use Rattle.request.specs.declared.Want.{Want}
+use Rattle.request.specs.declared.Want.the-variants as W
+use Rattle.request.specs.declared.Request.{Request}
+use Rattle.request.specs.declared.call.Use.{Use}
+use Rattle.request.specs.declared.call.Use.the-variants.{Automatic, Fixed}
+use Rattle.request.specs.declared.call.PoolRange.{PoolRange}
+use Rattle.request.specs.declared.call.PoolRange.the-variants as P
+use Rattle.request.specs.declared.call.Hold as R
+use Rattle.request.specs.declared.call.Hold.the-variants as H
+use Rattle.request.specs.declared.call.Call.{Call}
+use Rattle.request.specs.declared.call.Call.the-variants as C
 
--- ---- the code's line for each call that a line can say
+-- ---- the code's call for each that can be said
 
-abbrev isFixed : Use → Bool
-isFixed automatic = false
-isFixed fixed = true
+abbrev useFor : D.Use → Use
+useFor automatic = Automatic
+useFor fixed = Fixed
 
-abbrev poolFor : Bool → Pool → Line
-poolFor f (mmioPool s e) = PoolMmio f s e
-poolFor f (pioPool s e) = PoolPio f s e
-poolFor f (hostPool s e) = PoolHost f s e
-poolFor f (inputPool c s e) = PoolInput f c s e
-poolFor f (msiPool c i ds de es ee ls le) = PoolMsi f c i ds de es ee ls le
+abbrev poolFor : Pool → PoolRange
+poolFor (mmioPool s e) = P.Mmio s e
+poolFor (pioPool s e) = P.Pio s e
+poolFor (hostPool s e) = P.Host s e
+poolFor (inputPool c s e) = P.Input c s e
+poolFor (msiPool c i ds de es ee ls le) = P.Msi c i (record { start = record { 0 = ds }; end = record { 0 = de } }) (record { start = record { 0 = es }; end = record { 0 = ee } }) (record { start = record { 0 = ls }; end = record { 0 = le } })
 
-abbrev holdFor : ℕ → Hold → Line
-holdFor o (mmioHold s e) = HoldMmio o s e
-holdFor o (pioHold s e) = HoldPio o s e
-holdFor o (hostHold s e) = HoldHost o s e
-holdFor o (inputHold c n t s) = HoldInput o c n t s
-holdFor o (deviceHold c i s e) = HoldDevice o c i s e
-holdFor o (eventHold c i d s e) = HoldEvent o c i d s e
-holdFor o (lpiHold c s e) = HoldLpi o c s e
-holdFor o (pairHold c n t h) = Bad
+abbrev holdFor : Hold → R.Hold
+holdFor (mmioHold s e) = H.Mmio s e
+holdFor (pioHold s e) = H.Pio s e
+holdFor (hostHold s e) = H.Host s e
+holdFor (inputHold c n t s) = H.Input c n t s
+holdFor (deviceHold c i s e) = H.Devices c i (record { start = record { 0 = s }; end = record { 0 = e } })
+holdFor (eventHold c i d s e) = H.Events c i (record { 0 = d }) (record { start = record { 0 = s }; end = record { 0 = e } })
+holdFor (lpiHold c s e) = H.Lpis c (record { start = record { 0 = s }; end = record { 0 = e } })
+holdFor (pairHold c n t h) = H.Pair c n t h
 
--- a line's `msi` has three numbers or none
-abbrev msiFor : ℕ → ℕ → ℕ → ℕ → ℕ → Choice → Choice → Choice → Line
-msiFor q l c i n auto e p = WantMsiAuto q l c i n
-msiFor q l c i n (at d) auto p = Bad
-msiFor q l c i n (at d) (at e) auto = Bad
-msiFor q l c i n (at d) (at e) (at p) = WantMsiAt q l c i n d e p
+abbrev choiceFor : D.Choice → Choice
+choiceFor auto = N.Auto
+choiceFor (at n) = N.Fixed n
 
-abbrev wantFor : ℕ → ℕ → Want → Line
-wantFor q l (memory s a auto) = WantMmioAuto q l s a
-wantFor q l (memory s a (at b)) = WantMmioAt q l s a b
-wantFor q l (ports s a auto) = WantPioAuto q l s a
-wantFor q l (ports s a (at b)) = WantPioAt q l s a b
-wantFor q l (wire c t s auto) = WantInputAuto q l c t s
-wantFor q l (wire c t s (at n)) = WantInputAt q l c t s n
-wantFor q l (irq auto) = WantHostAuto q l
-wantFor q l (irq (at n)) = WantHostAt q l n
-wantFor q l (msi c i n d e p) = msiFor q l c i n d e p
+abbrev deviceFor : D.Choice → DeviceChoice
+deviceFor auto = De.Auto
+deviceFor (at n) = De.Fixed (record { 0 = n })
 
-abbrev lineFor : Option Call → Line
-lineFor none = Bad
-lineFor (some (pool u p)) = poolFor (isFixed u) p
-lineFor (some (hold o h)) = holdFor o h
-lineFor (some start) = Bad
-lineFor (some (want r)) = wantFor (r .requester) (r .slot) (r .want)
+abbrev eventFor : D.Choice → EventChoice
+eventFor auto = E.Auto
+eventFor (at n) = E.Fixed (record { 0 = n })
 
--- ---- the line is the one for what it says
+abbrev lpiFor : D.Choice → LpiChoice
+lpiFor auto = L.Auto
+lpiFor (at n) = L.Fixed (record { 0 = n })
 
-line-back : (l : Line) → lineFor (lineSays l) ≡ l
-line-back Bad = refl
-line-back (PoolMmio false s e) = refl
-line-back (PoolMmio true s e) = refl
-line-back (PoolPio false s e) = refl
-line-back (PoolPio true s e) = refl
-line-back (PoolHost false s e) = refl
-line-back (PoolHost true s e) = refl
-line-back (PoolInput false c s e) = refl
-line-back (PoolInput true c s e) = refl
-line-back (PoolMsi false c i ds de es ee ls le) = refl
-line-back (PoolMsi true c i ds de es ee ls le) = refl
-line-back (HoldMmio o s e) = refl
-line-back (HoldPio o s e) = refl
-line-back (HoldHost o s e) = refl
-line-back (HoldInput o c n t s) = refl
-line-back (HoldLpi o c s e) = refl
-line-back (HoldDevice o c i s e) = refl
-line-back (HoldEvent o c i d s e) = refl
-line-back (WantMmioAuto q l s a) = refl
-line-back (WantPioAuto q l s a) = refl
-line-back (WantHostAuto q l) = refl
-line-back (WantInputAuto q l c t s) = refl
-line-back (WantMsiAuto q l c i n) = refl
-line-back (WantMmioAt q l s a b) = refl
-line-back (WantPioAt q l s a b) = refl
-line-back (WantHostAt q l n) = refl
-line-back (WantInputAt q l c t s n) = refl
-line-back (WantMsiAt q l c i n d e p) = refl
+abbrev wantFor : D.Want → Want
+wantFor (memory s a c) = W.Mmio s a (choiceFor c)
+wantFor (ports s a c) = W.Pio s a (choiceFor c)
+wantFor (wire k t s c) = W.WiredIrq k t s (choiceFor c)
+wantFor (irq c) = W.HostIrq (choiceFor c)
+wantFor (msi k i n d e l) = W.Msi k i n (deviceFor d) (eventFor e) (lpiFor l)
 
-pub says-one : (k l : Line) → lineSays k ≡ lineSays l → k ≡ l
-says-one k l e = sym (line-back k) ∙ ap (λ (o : Option Call). lineFor o) e ∙ line-back l
+abbrev callFor : Option D′.Call → Call
+callFor none = C.Bad
+callFor (some (pool u p)) = C.Pool (useFor u) (poolFor p)
+callFor (some (hold o h)) = C.Hold o (holdFor h)
+callFor (some start) = C.Start
+callFor (some (want r)) = C.Want (record { requester = r .requester; slot = r .slot; want = wantFor (r .want) })
+
+-- ---- the call is the one for what it says
+
+choice-back : (c : Choice) → choiceFor (choiceOf c) ≡ c
+choice-back N.Auto = refl
+choice-back (N.Fixed n) = refl
+
+device-back : (c : DeviceChoice) → deviceFor (deviceChoice c) ≡ c
+device-back De.Auto = refl
+device-back (De.Fixed d) = refl
+
+event-back : (c : EventChoice) → eventFor (eventChoice c) ≡ c
+event-back E.Auto = refl
+event-back (E.Fixed e) = refl
+
+lpi-back : (c : LpiChoice) → lpiFor (lpiChoice c) ≡ c
+lpi-back L.Auto = refl
+lpi-back (L.Fixed l) = refl
+
+want-back : (w : Want) → wantFor (wantOf w) ≡ w
+want-back (W.Mmio s a c) = ap (W.Mmio s a) (choice-back c)
+want-back (W.Pio s a c) = ap (W.Pio s a) (choice-back c)
+want-back (W.WiredIrq k t s c) = ap (W.WiredIrq k t s) (choice-back c)
+want-back (W.HostIrq c) = ap W.HostIrq (choice-back c)
+want-back (W.Msi k i n d e l) = λ j. W.Msi k i n (device-back d j) (event-back e j) (lpi-back l j)
+
+use-back : (u : Use) → useFor (useOf u) ≡ u
+use-back Automatic = refl
+use-back Fixed = refl
+
+pool-back : (p : PoolRange) → poolFor (poolCall p) ≡ p
+pool-back (P.Mmio s e) = refl
+pool-back (P.Pio s e) = refl
+pool-back (P.Host s e) = refl
+pool-back (P.Input c s e) = refl
+pool-back (P.Msi c i d e l) = refl
+
+hold-back : (h : R.Hold) → holdFor (holdCall h) ≡ h
+hold-back (H.Mmio s e) = refl
+hold-back (H.Pio s e) = refl
+hold-back (H.Host s e) = refl
+hold-back (H.Input c n t s) = refl
+hold-back (H.Devices c i d) = refl
+hold-back (H.Events c i v e) = refl
+hold-back (H.Lpis c l) = refl
+hold-back (H.Pair c n t h) = refl
+
+call-back : (c : Call) → callFor (callOf c) ≡ c
+call-back (C.Pool u p) = λ j. C.Pool (use-back u j) (pool-back p j)
+call-back (C.Hold o h) = ap (C.Hold o) (hold-back h)
+call-back C.Start = refl
+call-back (C.Want r) = ap (λ (w : Want). C.Want (record { requester = r .requester; slot = r .slot; want = w })) (want-back (r .want))
+call-back C.Bad = refl
+
+pub says-one : (c d : Call) → callOf c ≡ callOf d → c ≡ d
+says-one c d e = sym (call-back c) ∙ ap (λ (o : Option D′.Call). callFor o) e ∙ call-back d

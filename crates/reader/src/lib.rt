@@ -1,5 +1,4 @@
 // The line's reader: what a line of a plan's text says.
-pub mod line; // line.rt: what a line can say
 pub mod pool; // pool.rt: `pool` lines
 pub mod hold; // hold.rt: `hold` lines
 pub mod want; // want.rt: `want` lines

@@ -1,13 +1,11 @@
 -- Laws of the `got` lines of several records: one after the other, and none but their own numbers are read. Assumes nothing.
 use mathlib.Core.Path.{_≡_, refl, sym, ap, _∙_}
-use mathlib.Core.List.{List, [], _∷_, _++_, append-assoc, append-nil}
+use mathlib.Core.List.{List, _++_, append-assoc, append-nil}
 use Prim.Native.Nat.{ℕ, zero, suc, _+_, _-_, _*_, _≤_, _<_}
 use native.Mathlib.Omega.{arith}
-use lib.ListN.{length, take, drop, getD, length-append, length-drop, List·getD-append}
-use lib.Seq.{drop-drop, drop-at, take-append-le, drop-append-le, take-all}
+use lib.ListN.{length, take, drop, getD, length-append, length-take, length-drop, take-append-drop, List·getD-append}
+use lib.Seq.{drop-drop, take-append-le, drop-append-le, take-all}
 use Rattle.definition.specs.Tables.{recordSize}
-use Rattle.definition.specs.Plan.{Grant, recordOf, records}
-use Rattle.definition.specs.RunLaws.{record-length}
 use Rattle.lines.specs.Output.{carriedBy, gotLine, gotLines}
 use Rattle.writers.specs.Put.{Put}
 use Rattle.writers.proofs.PutLaws.{put-then, carried-few}
@@ -55,9 +53,9 @@ gots-turn out rs i e f o₁ o₂ a b = rw (gots-more i rs) (put-then out 0 (gotL
 
 -- ---- what stands behind the records is not read
 
-got-front : (r zs : List ℕ) → length r ≡ recordSize → gotLine (r ++ zs) ≡ gotLine r
+got-front : (r zs : List ℕ) → recordSize ≤ length r → gotLine (r ++ zs) ≡ gotLine r
 unfolding gotLine
-got-front r zs e =
+got-front r zs l =
     let n : ℕ = carriedBy (getD r 0 0) .count in
     let few : n ≤ length (drop 3 r) = omega (arith, carried-few (getD r 0 0), length-drop 3 r) in
     rw (
@@ -68,11 +66,13 @@ got-front r zs e =
       take-append-le n (drop 3 r) zs few,
     )
 
-pub gots-front : (gs : List Grant) (ys : List ℕ) → gotLines (length gs) (records gs ++ ys) ≡ gotLines (length gs) (records gs)
-unfolding gotLines records
-gots-front [] ys = refl
-gots-front (g ∷ gs) ys =
-    let r : List ℕ = recordOf g in
-    let e : length r ≡ recordSize = record-length g in
-    ap (λ (l : List ℕ). gotLine l ++ gotLines (length gs) (drop recordSize l)) (append-assoc r (records gs) ys)
-    ∙ rw (got-front r (records gs ++ ys) e, got-front r (records gs) e, drop-at r (records gs ++ ys) recordSize e, drop-at r (records gs) recordSize e, gots-front gs ys)
+gots-front : (n : ℕ) (rs zs : List ℕ) → recordSize * n ≤ length rs → gotLines n (rs ++ zs) ≡ gotLines n rs
+unfolding gotLines
+gots-front zero rs zs l = refl
+gots-front (suc n) rs zs l =
+    rw (got-front rs zs (omega arith), drop-append-le recordSize rs zs (omega arith), gots-front n (drop recordSize rs) zs (omega (arith, length-drop recordSize rs)))
+
+pub gots-taken : (n : ℕ) (zs : List ℕ) → recordSize * n ≤ length zs → gotLines n (take (recordSize * n) zs) ≡ gotLines n zs
+gots-taken n zs l =
+    sym (gots-front n (take (recordSize * n) zs) (drop (recordSize * n) zs) (omega (arith, length-take (recordSize * n) zs)))
+    ∙ ap (gotLines n) (take-append-drop (recordSize * n) zs)

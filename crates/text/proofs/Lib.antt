@@ -1,3 +1,3 @@
 pub mod GotLaws
-pub mod PlanLaws
 pub mod OutputLaws
+pub mod ReadWalk

@@ -1,14 +1,16 @@
 -- What the text call promises. Assumes nothing.
 use mathlib.Core.Bool.{true, false}
 use mathlib.Core.List.{List, _++_}
-use Prim.Native.Nat.{ℕ, suc, _+_}
+use Prim.Native.Nat.{ℕ}
 use lib.Dec.{eqb, leb}
 use lib.ListN.{length}
 use Rattle.definition.specs.Plan.{written}
 use Rattle.lines.specs.Output.{gotLines, endLine, noLine, outputLimit}
-use Rattle.lines.specs.Text.{output}
-use Rattle.asking.specs.Asking.{plainly}
-use Rattle.wants.specs.declared.all.Wants.{Wants}
+use Rattle.definition.specs.Calls.{State}
+use Rattle.lines.specs.Text as Text
+use Rattle.lines.specs.Text.{beginning, feed, close, output}
+use Rattle.feed.specs.Sofar.{saidIn}
+use Rattle.feed.specs.declared.sofar.Sofar.{Sofar}
 
 -- an answer's number, how many bytes were written, and the buffer afterwards
 pub record Replied : Type 0 where
@@ -28,10 +30,14 @@ respondsTo text out =
       | false ↦ replied 11 0 out
     ]
 
--- the answer to wants that were all accepted, after l lines: rs begins with their records
-unfoldable pub finished : ℕ → Wants → List ℕ → List ℕ
-finished l w rs =
-    elim (eqb (w .number) 0) [
-      | true ↦ gotLines (w .count) rs ++ endLine (w .count)
-      | false ↦ noLine (suc (l + w .count)) (plainly (w .number))
+-- the tables that a text leaves, which is begun on fresh ones
+abbrev pub tablesAfter : List ℕ → State
+tablesAfter text = close (feed Text.step beginning text) .state
+
+-- the answer to a text that has come so far: rs begins with the wants' records
+unfoldable pub answeredBy : Sofar → List ℕ → List ℕ
+answeredBy t rs =
+    elim (eqb (t .number) 0) [
+      | true ↦ gotLines (t .wants) rs ++ endLine (t .wants)
+      | false ↦ noLine (t .lines) (saidIn t)
     ]

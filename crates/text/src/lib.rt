@@ -1,25 +1,17 @@
 // The text call: a plan's text is answered by the bytes of 01's lines.
-use plan::numbers::plan_by_value;
-use pool::start;
-use setup::Setup;
-use setup::set_up;
-use tables::State;
-use wants::all::Wants;
-use wants::all::read_wants;
+use feed::sofar::Sofar;
 use writers::output::put_end;
 use writers::output::put_got;
 use writers::output::put_no;
 ghost use mathlib.Core.Path.{_≡_};
-ghost use Prim.Native.Nat.{_+_, _*_, _≤_};
+ghost use Prim.Native.Nat.{_*_, _≤_};
 ghost use lib.ListN.{length};
-ghost use Rattle.definition.specs.Tables.{planLimit, recordSize};
-ghost use Rattle.lines.specs.Base.{textLimit};
-ghost use Rattle.lines.specs.Output.{gotLines, noLine, outputLimit};
-ghost use Rattle.lines.specs.Text.{output};
-ghost use Rattle.tables.specs.Views.{stateView};
+ghost use Rattle.definition.specs.Tables.{recordSize};
+ghost use Rattle.definition.specs.Calls.{fresh};
+ghost use Rattle.lines.specs.Output.{gotLines};
 ghost use Rattle.writers.specs.Put.{Put};
-ghost use Rattle.setup.specs.Setup.{SetsUp};
-ghost use Rattle.text.specs.Respond.{finished, replied, respondsTo};
+ghost use Rattle.feed.specs.Step.{resultsSize, Fed};
+ghost use Rattle.text.specs.Respond.{tablesAfter, answeredBy, replied, respondsTo};
 
 // The longest output that any text has, and the longest text.
 pub const OUTPUT: usize = 22553;
@@ -32,12 +24,13 @@ pub struct Response {
     pub length: usize,
 }
 
-// The `no` line of a refused state.
-pub fn refuse(out: &mut [u8], line: u64, s: State) -> usize
-    requires { ⌜ length (noLine line (stateView s .said)) ≤ length (now out) ⌝ }
-    ensures { λ e. ⌜ Put (now (out .entry)) 0 (noLine line (stateView s .said)) e (now (out .exit)) ⌝ }
+// A text's lines, taken in order on fresh tables: the one state that they are taken on stands here.
+pub fn read(text: &[u8], results: &mut [u64]) -> Sofar
+    requires { ⌜ length (now results) ≡ resultsSize ⌝ }
+    ensures { λ t. ⌜ Fed (now (text .entry)) fresh (now (results .entry)) t (tablesAfter (now (text .entry))) (now (results .exit)) ⌝ }
 {
-    put_no(out, 0, line, s.number, s.namespace, s.owner, s.detail)
+    let mut s = tables::fresh();
+    feed::feed(&mut s, text, results)
 }
 
 // The `got` lines of the first n records.
@@ -55,43 +48,17 @@ pub fn put_gots(out: &mut [u8], n: usize, results: &[u64]) -> usize
     e
 }
 
-// The answer to wants that were all accepted: their `got` lines and `end`, unless the line behind them was refused.
-pub fn finish(out: &mut [u8], lines: usize, w: Wants, results: &[u64]) -> usize
-    requires { ⌜ (lines ≤ textLimit) × (w .count ≤ planLimit) ⌝ }
-    requires { ⌜ (recordSize * w .count ≤ length (now results)) × (length (finished lines w (now results)) ≤ length (now out)) ⌝ }
-    ensures { λ e. ⌜ Put (now (out .entry)) 0 (finished lines w (now (results .entry))) e (now (out .exit)) ⌝ }
+// The answer to a text whose lines are taken: a `got` line for each want and `end`; or the one `no` line, so nothing is written before the last line is.
+pub fn answer(out: &mut [u8], t: Sofar, results: &[u64]) -> usize
+    requires { ⌜ (recordSize * t .wants ≤ length (now results)) × (length (answeredBy t (now results)) ≤ length (now out)) ⌝ }
+    ensures { λ e. ⌜ Put (now (out .entry)) 0 (answeredBy t (now (results .entry))) e (now (out .exit)) ⌝ }
 {
-    let n = w.count;
-    if w.number != 0 {
-        let line = lines + n + 1;
-        return put_no(out, 0, line as u64, w.number, 0, 0, 0);
+    if t.number != 0 {
+        return put_no(out, 0, t.lines, t.number, t.namespace, t.owner, t.detail);
     }
+    let n = t.wants;
     let e = put_gots(out, n, results);
     put_end(out, e, n as u64)
-}
-
-// The answer to a text whose head is taken.
-pub fn answer(text: &[u8], head: Setup, out: &mut [u8]) -> usize
-    requires { ⌜ (length (now text) ≤ textLimit) × (outputLimit ≤ length (now out)) ⌝ }
-    requires { ⌜ SetsUp (now text) head ⌝ }
-    ensures { λ e. ⌜ Put (now (out .entry)) 0 (output (now (text .entry))) e (now (out .exit)) ⌝ }
-{
-    let s = head.state;
-    let lines = head.lines;
-    if s.number != 0 {
-        return refuse(out, lines as u64, s);
-    }
-    let at = head.at;
-    let mut numbers = [0u64; 1536];
-    let w = read_wants(text, at, &mut numbers);
-    let n = 12 * w.count;
-    let mut results = [0u64; 1152];
-    let t = plan_by_value(start(s), &numbers[..n], &mut results);
-    if t.number != 0 {
-        let line = lines as u64 + t.index + 1;
-        return refuse(out, line, t);
-    }
-    finish(out, lines, w, &results)
 }
 
 // A text over the limit is 10 at line 0, before all else.
@@ -111,8 +78,9 @@ pub fn respond(text: &[u8], out: &mut [u8]) -> Response
             length: e,
         };
     }
-    let head = set_up(text);
-    let e = answer(text, head, out);
+    let mut results = [0u64; 1152];
+    let t = read(text, &mut results);
+    let e = answer(out, t, &results);
     Response {
         number: 0,
         length: e,

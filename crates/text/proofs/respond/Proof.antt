@@ -1,9 +1,10 @@
 -- `text::respond` meets its contract: the definition's output, or 11 and the buffer as it was. Assumes nothing.
 use native.Mathlib.Omega.{arith}
-use mathlib.Core.Path.{ap}
+use mathlib.Core.Path.{_≡_, ap}
 use lib.ListN.{length}
 use Rattle.lines.proofs.Longest.{output-length}
-use Rattle.text.proofs.OutputLaws.{output-long, reply-put, reply-short}
+use Rattle.text.specs.Respond.{tablesAfter}
+use Rattle.text.proofs.OutputLaws.{output-long, records-inside, output-is, blank, reply-put, reply-short}
 use borrow.Author.Needs.{needs}
 use Rattle.text.proofs.respond.Statement.{statement}
 use Rattle.text.proofs.respond.Tie as tie
@@ -25,19 +26,36 @@ returns-2 c =
     reply-put (a .text .now) (a .out .now) (c .before .before .put-no .result) (c .before .before .put-no .last .0) (omega arith)
     (rw (output-long (a .text .now) (omega arith)) (c .before .before .put-no .ensures))
 
-set-up-requires : tie.Need-set-up-requires
-set-up-requires c κs = search needs
+slice-aggregate-read : tie.Need-slice-aggregate-read
+slice-aggregate-read c = search needs
+
+read-requires : tie.Need-read-requires
+read-requires c κs = search needs
+
+slice-aggregate-answer : tie.Need-slice-aggregate-answer
+slice-aggregate-answer c = search needs
 
 answer-requires : tie.Need-answer-requires
-answer-requires c κs = search needs
+answer-requires c κs =
+    let a = c .before .before .before .before .before .before .before .before .before .args in
+    let r = c .before .before .before .read in
+    let long : length (r .last .1 .0) ≡ 1152 = search needs in (
+      records-inside (a .text .now) blank (r .result) (tablesAfter (a .text .now)) (r .last .1 .0) (r .ensures) long,
+      omega (arith, ap length (output-is (a .text .now) blank (r .result) (tablesAfter (a .text .now)) (r .last .1 .0) (r .ensures) long (omega arith)), output-length (a .text .now)),
+    )
 
 same-length-2 : tie.Need-same-length-2
 same-length-2 c = search needs
 
 returns-3 : tie.Need-returns-3
 returns-3 c =
-    let a = c .before .before .before .before .before .before .before .before .before .args in
-    reply-put (a .text .now) (a .out .now) (c .before .before .answer .result) (c .before .before .answer .last .1 .1 .0) (omega arith) (c .before .before .answer .ensures)
+    let a = c .before .before .before .before .before .before .before .before .before .before .before .before .args in
+    let r = c .before .before .before .before .before .before .read in
+    let long : length (r .last .1 .0) ≡ 1152 = search needs in
+    reply-put (a .text .now) (a .out .now) (c .before .before .answer .result) (c .before .before .answer .last .0) (omega arith)
+    (rw (output-is (a .text .now) blank (r .result) (tablesAfter (a .text .now)) (r .last .1 .0) (r .ensures) long (omega arith)) (c .before .before .answer .ensures))
 
 pub respond-spec : {M : Type 1} → statement M
-respond-spec = tie.close (tie.spec returns put-no-requires same-length returns-2 set-up-requires answer-requires same-length-2 returns-3)
+respond-spec =
+    tie.close (tie.spec returns put-no-requires same-length returns-2 slice-aggregate-read read-requires slice-aggregate-answer answer-requires same-length-2
+    returns-3)

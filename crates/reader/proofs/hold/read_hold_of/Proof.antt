@@ -16,26 +16,26 @@ slice-aggregate-read-form-2 c = search needs
 read-form-requires : tie.Need-read-form-requires
 read-form-requires c κs = search needs
 
-array-read-t19 : tie.Need-array-read-t19
-array-read-t19 c = search needs
+array-read-t20 : tie.Need-array-read-t20
+array-read-t20 c = search needs
 
-cast-t20 : tie.Need-cast-t20
-cast-t20 c = omega (arith, row-within _ _ _ _ _ (omega arith) (c .before .before .read-form .ensures) (c .before .if1 .taken) 0)
+cast-t21 : tie.Need-cast-t21
+cast-t21 c = omega (arith, row-within _ _ _ _ _ (omega arith) (c .before .before .read-form .ensures) (c .before .if1 .taken) 0)
 
-array-read-t23 : tie.Need-array-read-t23
-array-read-t23 c = search needs
+array-read-t24 : tie.Need-array-read-t24
+array-read-t24 c = search needs
 
-array-read-t26 : tie.Need-array-read-t26
-array-read-t26 c = search needs
+array-read-t27 : tie.Need-array-read-t27
+array-read-t27 c = search needs
 
-cast-t27 : tie.Need-cast-t27
-cast-t27 c = omega (arith, row-within _ _ _ _ _ (omega arith) (c .before .before .read-form .ensures) (c .before .if1 .taken) 2)
+cast-t28 : tie.Need-cast-t28
+cast-t28 c = omega (arith, row-within _ _ _ _ _ (omega arith) (c .before .before .read-form .ensures) (c .before .if1 .taken) 2)
 
-array-read-t30 : tie.Need-array-read-t30
-array-read-t30 c = search needs
+array-read-t31 : tie.Need-array-read-t31
+array-read-t31 c = search needs
 
-cast-t31 : tie.Need-cast-t31
-cast-t31 c = omega (arith, row-within _ _ _ _ _ (omega arith) (c .before .before .read-form .ensures) (c .before .if1 .taken) 3)
+cast-t32 : tie.Need-cast-t32
+cast-t32 c = omega (arith, row-within _ _ _ _ _ (omega arith) (c .before .before .read-form .ensures) (c .before .if1 .taken) 3)
 
 returns : tie.Need-returns
 unfolding holdOf
@@ -50,23 +50,23 @@ slice-aggregate-read-form-4 c = search needs
 read-form-requires-2 : tie.Need-read-form-requires-2
 read-form-requires-2 c κs = search needs
 
-array-read-t38 : tie.Need-array-read-t38
-array-read-t38 c = search needs
+array-read-t40 : tie.Need-array-read-t40
+array-read-t40 c = search needs
 
-cast-t39 : tie.Need-cast-t39
-cast-t39 c = omega (arith, row-within _ _ _ _ _ (omega arith) (c .before .before .read-form2 .ensures) (c .before .if2 .taken) 0)
+cast-t41 : tie.Need-cast-t41
+cast-t41 c = omega (arith, row-within _ _ _ _ _ (omega arith) (c .before .before .read-form2 .ensures) (c .before .if2 .taken) 1)
 
-array-read-t42 : tie.Need-array-read-t42
-array-read-t42 c = search needs
+array-read-t45 : tie.Need-array-read-t45
+array-read-t45 c = search needs
 
-cast-t43 : tie.Need-cast-t43
-cast-t43 c = omega (arith, row-within _ _ _ _ _ (omega arith) (c .before .before .read-form2 .ensures) (c .before .if2 .taken) 1)
+cast-t46 : tie.Need-cast-t46
+cast-t46 c = omega (arith, row-within _ _ _ _ _ (omega arith) (c .before .before .read-form2 .ensures) (c .before .if2 .taken) 2)
 
-array-read-t46 : tie.Need-array-read-t46
-array-read-t46 c = search needs
+array-read-t40-2 : tie.Need-array-read-t40-2
+array-read-t40-2 c = search needs
 
-cast-t47 : tie.Need-cast-t47
-cast-t47 c = omega (arith, row-within _ _ _ _ _ (omega arith) (c .before .before .read-form2 .ensures) (c .before .if2 .taken) 2)
+cast-t41-2 : tie.Need-cast-t41-2
+cast-t41-2 c = omega (arith, row-within _ _ _ _ _ (omega arith) (c .before .before .read-form2 .ensures) (c .before .if2 .taken) 0)
 
 returns-2 : tie.Need-returns-2
 unfolding holdOf
@@ -83,6 +83,6 @@ returns-3 c = c .read-hold-its .ensures ∙ sym (row-past _ _ _ _ _ (omega arith
 
 pub read-hold-of-spec : {M : Type 1} → statement M
 read-hold-of-spec =
-    tie.close (tie.spec slice-aggregate-read-form slice-aggregate-read-form-2 read-form-requires array-read-t19 cast-t20 array-read-t23 array-read-t26 cast-t27
-    array-read-t30 cast-t31 returns slice-aggregate-read-form-3 slice-aggregate-read-form-4 read-form-requires-2 array-read-t38 cast-t39 array-read-t42 cast-t43
-    array-read-t46 cast-t47 returns-2 read-hold-its-requires returns-3)
+    tie.close (tie.spec slice-aggregate-read-form slice-aggregate-read-form-2 read-form-requires array-read-t20 cast-t21 array-read-t24 array-read-t27
+    cast-t28 array-read-t31 cast-t32 returns slice-aggregate-read-form-3 slice-aggregate-read-form-4 read-form-requires-2 array-read-t40 cast-t41
+    array-read-t45 cast-t46 array-read-t40-2 cast-t41-2 returns-2 read-hold-its-requires returns-3)

@@ -37,9 +37,12 @@ cast-t29 c = omega (arith, row-within _ _ _ _ _ (omega arith) (c .before .before
 array-read-t32 : tie.Need-array-read-t32
 array-read-t32 c = search needs
 
+asked-requires : tie.Need-asked-requires
+asked-requires c κs = search needs
+
 returns : tie.Need-returns
 unfolding wantAtOf
-returns c = sym (row-here _ _ _ _ _ (omega arith) (c .before .before .read-form .ensures) _ _ (c .before .if1 .taken))
+returns c = c .asked .ensures ∙ sym (row-here _ _ _ _ _ (omega arith) (c .before .before .before .read-form .ensures) _ _ (c .before .before .if1 .taken))
 
 slice-aggregate-read-form-3 : tie.Need-slice-aggregate-read-form-3
 slice-aggregate-read-form-3 c = search needs
@@ -50,46 +53,49 @@ slice-aggregate-read-form-4 c = search needs
 read-form-requires-2 : tie.Need-read-form-requires-2
 read-form-requires-2 c κs = search needs
 
-array-read-t39 : tie.Need-array-read-t39
-array-read-t39 c = search needs
+array-read-t41 : tie.Need-array-read-t41
+array-read-t41 c = search needs
 
-cast-t40 : tie.Need-cast-t40
-cast-t40 c = omega (arith, row-within _ _ _ _ _ (omega arith) (c .before .before .read-form2 .ensures) (c .before .if2 .taken) 0)
+cast-t42 : tie.Need-cast-t42
+cast-t42 c = omega (arith, row-within _ _ _ _ _ (omega arith) (c .before .before .read-form2 .ensures) (c .before .if2 .taken) 0)
 
-array-read-t43 : tie.Need-array-read-t43
-array-read-t43 c = search needs
+array-read-t45 : tie.Need-array-read-t45
+array-read-t45 c = search needs
 
-cast-t44 : tie.Need-cast-t44
-cast-t44 c = omega (arith, row-within _ _ _ _ _ (omega arith) (c .before .before .read-form2 .ensures) (c .before .if2 .taken) 1)
+cast-t46 : tie.Need-cast-t46
+cast-t46 c = omega (arith, row-within _ _ _ _ _ (omega arith) (c .before .before .read-form2 .ensures) (c .before .if2 .taken) 1)
 
-array-read-t47 : tie.Need-array-read-t47
-array-read-t47 c = search needs
+array-read-t49 : tie.Need-array-read-t49
+array-read-t49 c = search needs
 
-cast-t48 : tie.Need-cast-t48
-cast-t48 c = omega (arith, row-within _ _ _ _ _ (omega arith) (c .before .before .read-form2 .ensures) (c .before .if2 .taken) 2)
+cast-t50 : tie.Need-cast-t50
+cast-t50 c = omega (arith, row-within _ _ _ _ _ (omega arith) (c .before .before .read-form2 .ensures) (c .before .if2 .taken) 2)
 
-array-read-t51 : tie.Need-array-read-t51
-array-read-t51 c = search needs
+array-read-t53 : tie.Need-array-read-t53
+array-read-t53 c = search needs
 
-cast-t52 : tie.Need-cast-t52
-cast-t52 c = omega (arith, row-within _ _ _ _ _ (omega arith) (c .before .before .read-form2 .ensures) (c .before .if2 .taken) 3)
-
-array-read-t55 : tie.Need-array-read-t55
-array-read-t55 c = search needs
-
-cast-t56 : tie.Need-cast-t56
-cast-t56 c = omega (arith, row-within _ _ _ _ _ (omega arith) (c .before .before .read-form2 .ensures) (c .before .if2 .taken) 4)
+cast-t54 : tie.Need-cast-t54
+cast-t54 c = omega (arith, row-within _ _ _ _ _ (omega arith) (c .before .before .read-form2 .ensures) (c .before .if2 .taken) 3)
 
 array-read-t59 : tie.Need-array-read-t59
 array-read-t59 c = search needs
 
 cast-t60 : tie.Need-cast-t60
-cast-t60 c = omega (arith, row-within _ _ _ _ _ (omega arith) (c .before .before .read-form2 .ensures) (c .before .if2 .taken) 5)
+cast-t60 c = omega (arith, row-within _ _ _ _ _ (omega arith) (c .before .before .read-form2 .ensures) (c .before .if2 .taken) 4)
+
+array-read-t65 : tie.Need-array-read-t65
+array-read-t65 c = search needs
+
+cast-t66 : tie.Need-cast-t66
+cast-t66 c = omega (arith, row-within _ _ _ _ _ (omega arith) (c .before .before .read-form2 .ensures) (c .before .if2 .taken) 5)
+
+asked-requires-2 : tie.Need-asked-requires-2
+asked-requires-2 c κs = search needs
 
 returns-2 : tie.Need-returns-2
 unfolding wantAtOf
-returns-2 c = sym (row-past _ _ _ _ _ (omega arith) (c .before .before .before .before .before .before .read-form .ensures) _ _ (c .before .before .before .before .before .if1 .left)
-    ∙ row-here _ _ _ _ _ (omega arith) (c .before .before .read-form2 .ensures) _ _ (c .before .if2 .taken))
+returns-2 c = c .asked2 .ensures ∙ sym (row-past _ _ _ _ _ (omega arith) (c .before .before .before .before .before .before .before .read-form .ensures) _ _ (c .before .before .before .before .before .before .if1 .left)
+    ∙ row-here _ _ _ _ _ (omega arith) (c .before .before .before .read-form2 .ensures) _ _ (c .before .before .if2 .taken))
 
 returns-3 : tie.Need-returns-3
 unfolding wantAtOf
@@ -98,6 +104,7 @@ returns-3 c = sym (row-past _ _ _ _ _ (omega arith) (c .before .before .before .
 
 pub read-want-at-of-spec : {M : Type 1} → statement M
 read-want-at-of-spec =
-    tie.close (tie.spec slice-aggregate-read-form slice-aggregate-read-form-2 read-form-requires array-read-t20 cast-t21 array-read-t24 cast-t25 array-read-t28
-    cast-t29 array-read-t32 returns slice-aggregate-read-form-3 slice-aggregate-read-form-4 read-form-requires-2 array-read-t39 cast-t40 array-read-t43 cast-t44
-    array-read-t47 cast-t48 array-read-t51 cast-t52 array-read-t55 cast-t56 array-read-t59 cast-t60 returns-2 returns-3)
+    tie.close (tie.spec slice-aggregate-read-form slice-aggregate-read-form-2 read-form-requires array-read-t20 cast-t21 array-read-t24 cast-t25
+    array-read-t28 cast-t29 array-read-t32 asked-requires returns slice-aggregate-read-form-3 slice-aggregate-read-form-4 read-form-requires-2 array-read-t41
+    cast-t42 array-read-t45 cast-t46 array-read-t49 cast-t50 array-read-t53 cast-t54 array-read-t59 cast-t60 array-read-t65 cast-t66 asked-requires-2
+    returns-2 returns-3)

@@ -1,0 +1,5 @@
+pub mod SofarLaws
+pub mod StepLaws
+pub mod LoopLaws
+pub mod Values
+pub mod Shared

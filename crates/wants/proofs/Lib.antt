@@ -1,3 +1,0 @@
-pub mod AskedLaws
-pub mod ReadLaws
-pub mod StoredLaws
