@@ -18,7 +18,7 @@ use Rattle.definition.specs.Calls.{State, given, Call, pool, hold, start, want}
 use Rattle.definition.specs.Plan.{Lent}
 use Rattle.lines.specs.Text as Text
 use Rattle.lines.specs.Text.{beginningOn, accepts, setUp, answered, ask, take-line, feed, close}
-use Rattle.lines.specs.Head.{callAt, nextAt}
+use Rattle.lines.specs.Place.{callAt, nextAt}
 use Rattle.lines.proofs.FeedLaws.{rest, rest-whole, rest-stands, rest-ended, rest-line, next-after}
 use Rattle.lines.proofs.Longest.{taken-few}
 use Rattle.feed.specs.Sofar.{saidIn, sofarOf, started}

@@ -8,7 +8,7 @@ use lib.Dec.{T}
 use lib.ListN.{drop}
 use Rattle.definition.specs.Tables.{planLimit, recordSize, kinds}
 use Rattle.definition.specs.Calls.{State, given, sound, Call}
-use Rattle.lines.specs.Head.{nextAt}
+use Rattle.lines.specs.Place.{nextAt}
 use Rattle.lines.specs.Text as Text
 use Rattle.lines.specs.Text.{beginningOn, take-line, feed, close}
 use Rattle.steps.specs.Steps.{clear}

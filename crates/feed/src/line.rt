@@ -6,7 +6,7 @@ use request::call::Call;
 ghost use mathlib.Core.Path.{_≡_};
 ghost use Prim.Native.Nat.{_≤_};
 ghost use lib.ListN.{length};
-ghost use Rattle.lines.specs.Head.{callAt, nextAt};
+ghost use Rattle.lines.specs.Place.{callAt, nextAt};
 ghost use Rattle.request.specs.Calls.{callOf};
 
 // The call that it says, and where the next line starts.

@@ -13,7 +13,7 @@ use Rattle.lines.specs.Base.{newline, split}
 use Rattle.lines.specs.Line.{readLine}
 use Rattle.lines.specs.Code.{first}
 use Rattle.lines.specs.Text.{Sofar, accepts, take-line, step, fed, feedParts, feed, unfinished, closedBy, close}
-use Rattle.lines.specs.Head.{endAt, callAt, nextAt}
+use Rattle.lines.specs.Place.{endAt, callAt, nextAt}
 use Rattle.lines.proofs.PartLaws.{part-last, part-next, split-some}
 
 -- ---- any step on lines

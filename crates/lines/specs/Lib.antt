@@ -5,4 +5,4 @@ pub mod Output
 pub mod Text
 pub mod Examples
 pub mod Code
-pub mod Head
+pub mod Place

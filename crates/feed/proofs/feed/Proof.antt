@@ -7,7 +7,7 @@ use denote.Struct.Laws as LL
 use Rattle.definition.specs.BaseLaws.{T-true, T-false, not-T→}
 use Rattle.definition.specs.Tables.{kinds}
 use Rattle.definition.specs.Calls.{given}
-use Rattle.lines.specs.Head.{callAt, nextAt}
+use Rattle.lines.specs.Place.{callAt, nextAt}
 use Rattle.tables.specs.Views.{stateView}
 use Rattle.tables.specs.declared.State.{State}
 use Rattle.tables.proofs.State as T
