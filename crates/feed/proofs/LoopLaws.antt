@@ -13,7 +13,6 @@ use lib.Seq.{drop-drop}
 use borrow.Author.Tests.{ltb-true, ltb-false}
 use Rattle.definition.specs.BaseLaws.{T-true, true-T, and-l, and-r}
 use Rattle.definition.specs.Tables.{planLimit, recordSize, kinds}
-use Rattle.definition.specs.Request.{Request}
 use Rattle.definition.specs.Calls.{State, given, Call, pool, hold, start, want}
 use Rattle.definition.specs.Plan.{Lent}
 use Rattle.lines.specs.Text as Text

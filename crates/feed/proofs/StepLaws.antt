@@ -8,7 +8,7 @@ use mathlib.Core.Option.{Option, none, some}
 use Prim.Native.Nat.{ℕ, suc, _+_, _*_, _/_, _≤_, _<_}
 use native.Mathlib.Omega.{arith}
 use native.Mathlib.Numerals.{add-one}
-use lib.Dec.{T, eqb, ltb, eqb→eq}
+use lib.Dec.{eqb, ltb, eqb→eq}
 use lib.ListN.{length, take, drop, replicate, length-append, length-take}
 use lib.Seq.{take-append-seam, drop-append-seam, drop-drop}
 use borrow.Author.Tests.{eq-eqb, ne-eqb, lt-ltb, ltb-true, ltb-false}
@@ -20,7 +20,7 @@ use Rattle.definition.specs.Pools.{Claim}
 use Rattle.definition.specs.Request.{Request, resolve}
 use Rattle.definition.specs.Calls.{State, poolsOf, ownersOf, given, sound, granting, Call, pool, hold, start, want, serve}
 use Rattle.definition.specs.StateLaws.{SoundFor, given-for, for-given, sound-for, for-sound, serve-given, started-sound, want-sound}
-use Rattle.definition.specs.Plan.{grant, recordOf, written, Lent, lent, allocateInto}
+use Rattle.definition.specs.Plan.{grant, recordOf, Lent, lent, allocateInto}
 use Rattle.definition.specs.RunLaws.{record-length}
 use Rattle.definition.specs.PlanLaws.{tell-number, start-is}
 use Rattle.lines.specs.Text as Text
@@ -28,7 +28,7 @@ use Rattle.lines.specs.Text.{sofar, accepts, next, refuse, setUp, opened, namin
 use Rattle.lines.proofs.WantLaws.{want-serves, want-record}
 use Rattle.allocation.proofs.ServeLaws.{into-refused}
 use Rattle.decide.specs.Outcome.{basesIn, after}
-use Rattle.steps.specs.Steps.{clear, Steady, indexed, indexFor, recorded, putFrom, turned}
+use Rattle.steps.specs.Steps.{Steady, indexFor, recorded, putFrom, turned}
 use Rattle.steps.proofs.StepLaws.{is-clear}
 use Rattle.steps.proofs.PlanLaws.{turned-in-place}
 use Rattle.lent.specs.declared.Marks.{Marks}

@@ -20,7 +20,6 @@ use Rattle.request.specs.Asked.{wantOf}
 use Rattle.request.specs.Calls.{useOf, poolCall, holdCall, callOf}
 use Rattle.request.specs.declared.Want.{Want}
 use Rattle.request.specs.declared.Want.the-variants as W
-use Rattle.request.specs.declared.Request.{Request}
 use Rattle.request.specs.declared.call.Use.{Use}
 use Rattle.request.specs.declared.call.Use.the-variants.{Automatic, Fixed}
 use Rattle.request.specs.declared.call.PoolRange.{PoolRange}

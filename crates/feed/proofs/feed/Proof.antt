@@ -1,5 +1,5 @@
 -- `feed::feed` meets its contract: the loop of the line step over the text's lines, up to its end or to the first refusal. Assumes nothing.
-use Rattle.walks.proofs.Prelude.{_≡_, refl, sym, ap, subst, _∙_, ℕ, _-_, _<_, _≤_, _^_, Bool, true, false, _&&_, WellFounded, InvImage·wf, Nat·lt-wfRel, eqb, ltb, [], _∷_, List, none, length, URA, fullShare, T as Holds, named, w64, Local, tyInt, Val, WT, hasTy, vint, vptr, vbool, SProp, ent, emp, via, snd∗, exE, id⊢, GName, Lft, Share, ftrue, flft, fres, Memory, Routine, Heap, Out, Env, afterSeq, afterBlock, afterTurn, Wp, atReturn, WpFn, Tables, Atoms, sem, Fun, fact, factI, AllOutlive, givenOf, tables, tablesOf, Given, Item, atRet, anyQ, mean, ⋆, ‵, raw, _⊛_, some, place, field, deref, copy, rvOpd, addrOf, aggregate, assign, call, seq, cond, skip, exit, return, _$_, _∵_, !, qed, move, keep, drop, use1, split, join, pick, fsplit, fjoin, feqL, suffices, frame, show, done, load, of-opd, and-then, no-more, addr, hop, fld, from, stop, agg, whole, sub, first as in-front, blocks, exec, Below, again, loops, FmC, fmOf, WpFn-mono, owns, Is, uint-makes, bool-tells, usize, u64, bool, RefT, MutRef, ptr-vals, mut-tells, sliceVal, ShrSlice, MutSlice, Room, finally, slice-vals, shr-slice-tells, shr-slice-lawful, mut-slice-tells, plain, owned, heard, nothing, only, onEntry, Meets, tripleOf, Contract, Triple, ensured, lasts, says, entered, cited, needs, Stays, stay-none-slice, stay-ref, stay-slice, walkOf, AllGo, goes-none-slice, goes-ref, goes-slice, Walks, walked, walk-meets, yes}
+use Rattle.walks.proofs.Prelude.{_≡_, refl, sym, ap, subst, _∙_, ℕ, _-_, _<_, _≤_, _^_, Bool, true, false, _&&_, WellFounded, InvImage·wf, Nat·lt-wfRel, eqb, ltb, [], _∷_, List, none, length, URA, fullShare, T as Holds, named, w64, Local, tyInt, Val, vint, vptr, vbool, SProp, ent, emp, via, snd∗, exE, id⊢, GName, Lft, Share, ftrue, flft, fres, Memory, Routine, Heap, Out, Env, afterSeq, afterBlock, afterTurn, Wp, atReturn, WpFn, Tables, Atoms, sem, Fun, fact, factI, AllOutlive, givenOf, tables, tablesOf, Given, Item, atRet, anyQ, mean, ⋆, ‵, raw, _⊛_, some, place, field, deref, copy, rvOpd, addrOf, aggregate, assign, call, seq, cond, skip, exit, return, _$_, _∵_, !, qed, move, keep, drop, use1, split, join, pick, fsplit, fjoin, feqL, suffices, frame, show, done, load, of-opd, and-then, no-more, addr, hop, fld, from, stop, agg, whole, sub, first as in-front, blocks, exec, Below, again, loops, FmC, fmOf, WpFn-mono, owns, Is, uint-makes, bool-tells, usize, u64, bool, RefT, MutRef, ptr-vals, mut-tells, sliceVal, ShrSlice, MutSlice, Room, finally, slice-vals, shr-slice-tells, shr-slice-lawful, mut-slice-tells, plain, owned, heard, nothing, only, onEntry, Meets, tripleOf, Contract, Triple, ensured, lasts, says, entered, cited, needs, Stays, stay-none-slice, stay-ref, stay-slice, walkOf, AllGo, goes-none-slice, goes-ref, goes-slice, Walks, walked, walk-meets, yes}
 use mathlib.Core.Option.{some as some′}
 use mir.Syntax.{Body}
 use denote.Builtin.{u8}

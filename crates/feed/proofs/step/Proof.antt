@@ -1,5 +1,5 @@
 -- `feed::step` meets its contract: what the line does before a want, the want's turn where it has one, and how far the text has come. Assumes nothing.
-use Rattle.walks.proofs.Prelude.{_≡_, refl, sym, ap, ap₂, subst, _∙_, ℕ, _<_, _^_, Bool, true, not, [], _∷_, List, none, length, URA, T as Holds, named, w64, Local, Val, vint, vunit, vptr, vbool, SProp, ent, emp, via, id⊢, GName, Lft, Share, ftrue, flft, Memory, Routine, Heap, WpFn, Tables, Atoms, sem, Fun, factI, AllOutlive, givenOf, tables, tablesOf, Given, Item, atRet, mean, ‵, _⊛_, _$_, _∵_, !, qed, move, keep, split, join, fsplit, fjoin, suffices, frame, done, load, and-then, no-more, addr, hop, fld, from, stop, agg, whole, sub, FmC, fmOf, WpFn-mono, owns, Is, uint-tells, bool-tells, nothing-tells, usize, u64, bool, unit, RefT, MutRef, ptr-vals, mut-tells, sliceVal, MutSlice, Room, slice-vals, mut-slice-tells, plain, owned, nothing, onEntry, Meets, tripleOf, Contract, Triple, entered, cited, needs, Stays, stay-none, stay-ref, stay-slice, walkOf, AllGo, goes-none, goes-ref, goes-slice, Walks, walked, walk-meets, yes}
+use Rattle.walks.proofs.Prelude.{_≡_, refl, sym, ap, ap₂, subst, _∙_, ℕ, _<_, _^_, Bool, [], _∷_, List, none, length, URA, named, w64, Local, Val, vint, vunit, vptr, vbool, SProp, ent, emp, via, id⊢, GName, Lft, Share, ftrue, flft, Memory, Routine, Heap, WpFn, Tables, Atoms, sem, Fun, factI, AllOutlive, givenOf, tables, tablesOf, Given, Item, atRet, mean, ‵, _⊛_, _$_, _∵_, !, qed, move, keep, split, join, fsplit, fjoin, suffices, frame, done, load, and-then, no-more, addr, hop, fld, from, stop, agg, whole, sub, FmC, fmOf, WpFn-mono, owns, Is, uint-tells, bool-tells, nothing-tells, usize, u64, bool, unit, RefT, MutRef, ptr-vals, mut-tells, sliceVal, MutSlice, Room, slice-vals, mut-slice-tells, plain, owned, nothing, onEntry, Meets, tripleOf, Contract, Triple, entered, cited, needs, Stays, stay-none, stay-ref, stay-slice, walkOf, AllGo, goes-none, goes-ref, goes-slice, Walks, walked, walk-meets, yes}
 use denote.Struct.Laws as LL
 use denote.Enum.Laws as EE
 use Rattle.definition.specs.BaseLaws.{T-true, T-false, not-T→}

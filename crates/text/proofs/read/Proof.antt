@@ -1,5 +1,5 @@
 -- `text::read` meets its contract: the walk of ReadWalk.antt at the crate's state, over `tables::fresh` and `feed::feed`. Assumes nothing.
-use Rattle.walks.proofs.Prelude.{_≡_, refl, sym, ap, subst, _∙_, ℕ, [], _∷_, List, length, URA, fullShare, T as Holds, named, Fn, Val, WT, hasTy, vptr, SProp, ent, emp, via, exE, snd∗, id⊢, Fml, GName, Lft, Share, ftrue, flft, fres, Memory, Routine, Heap, Calls, Loops, WpFn, Tables, Atoms, sem, Fun, fact, AllOutlive, givenOf, tables, tablesOf, Given, Item, mean, ⋆, ‵, raw, _⊛_, some, _$_, _∵_, !, qed, by, move, keep, drop, use1, split, join, pick, fsplit, fjoin, feqL, suffices, frame, show, done, FmC, fmOf, WpFn-mono, owns, Is, u64, RefT, MutRef, sliceVal, ShrSlice, MutSlice, Room, finally, slice-vals, shr-slice-tells, shr-slice-lawful, shr-slice-copy, mut-slice-tells, plain, owned, heard, nothing, onEntry, Meets, tripleOf, Contract, Triple, ensured, lasts, entered, cited, says, needs, Stays, stay-none-slice, gave-slice, walkOf, AllGo, goes-none-slice, goes-gave-slice, Walks, ends-at, walked, walk-meets, yes}
+use Rattle.walks.proofs.Prelude.{_≡_, refl, sym, ap, subst, _∙_, ℕ, [], _∷_, List, length, URA, fullShare, T as Holds, named, Fn, Val, WT, hasTy, vptr, SProp, ent, via, exE, snd∗, id⊢, Fml, GName, Lft, Share, ftrue, flft, fres, Memory, Routine, Heap, Calls, Loops, WpFn, Tables, Atoms, sem, Fun, fact, AllOutlive, givenOf, tables, tablesOf, Given, Item, mean, ⋆, ‵, raw, _⊛_, some, _$_, _∵_, !, qed, by, move, keep, drop, use1, split, join, pick, fsplit, fjoin, feqL, suffices, frame, show, done, FmC, fmOf, WpFn-mono, owns, Is, u64, RefT, MutRef, sliceVal, ShrSlice, MutSlice, Room, finally, slice-vals, shr-slice-tells, shr-slice-lawful, shr-slice-copy, mut-slice-tells, plain, owned, heard, nothing, onEntry, Meets, tripleOf, Contract, Triple, ensured, lasts, entered, cited, says, needs, Stays, stay-none-slice, gave-slice, walkOf, AllGo, goes-none-slice, goes-gave-slice, Walks, ends-at, walked, walk-meets, yes}
 use denote.Builtin.{u8}
 use denote.Struct.Laws as LL
 use Rattle.definition.specs.Tables.{kinds}
@@ -16,7 +16,6 @@ use Rattle.feed.specs.declared.sofar.Sofar.{Sofar}
 use Rattle.feed.proofs.sofar.Sofar as So
 use Rattle.feed.proofs.sofar.Sofar.Laws as So′
 use Rattle.feed.proofs.Values.{sofar-typed}
-use Rattle.text.specs.Respond.{tablesAfter}
 use Rattle.text.proofs.OutputLaws.{tables-are}
 use Rattle.text.proofs.ReadWalk.{readCode, read-walk}
 use Rattle.tables.proofs.fresh as m

@@ -1,6 +1,4 @@
 -- By the first test, then the second. Assumes nothing.
-use mathlib.Core.Path.{sym}
-use mathlib.Core.Bool.{_&&_}
 use borrow.Author.Tests.{eq-eqb, ne-eqb}
 use Rattle.feed.proofs.sofar.goes.Statement.{statement}
 use Rattle.feed.proofs.sofar.goes.Tie as tie
