@@ -2,6 +2,7 @@
 use mathlib.Core.Path.{_≡_, refl}
 use mathlib.Core.Bool.{true, false, _&&_}
 use mathlib.Core.List.{List, [], _∷_}
+use mathlib.Core.Option.{Option}
 use Prim.Native.Nat.{ℕ, zero, suc, _≤_, _<_}
 use lib.Dec.{T, leb, leb→le}
 use borrow.Author.Tests.{le-leb, lt-leb}
@@ -46,7 +47,7 @@ three-of-four a b c = refl
 
 -- ---- a call of such numbers
 
-module _ (bits : ℕ) (xs : List ℕ) (c : Call) where
+module _ (bits : ℕ) (xs : List ℕ) (c : Option Call) where
   pub narrow-in : allOf (below bits) xs ≡ true → c ≡ narrow bits xs c
   unfolding narrow
   narrow-in e = rw (e, narrow)
@@ -55,11 +56,11 @@ module _ (bits : ℕ) (xs : List ℕ) (c : Call) where
   unfolding narrow
   narrow-out e = rw (e, narrow)
 
-pub one-in : (a : ℕ) (c : Call) → a ≤ 4294967295 → c ≡ narrow 32 (a ∷ []) c
+pub one-in : (a : ℕ) (c : Option Call) → a ≤ 4294967295 → c ≡ narrow 32 (a ∷ []) c
 unfolding allOf narrow
 one-in a c l = rw (le-leb a 4294967295 l, narrow)
 
-pub one-out : (a : ℕ) (c : Call) → 4294967295 < a → bad ≡ narrow 32 (a ∷ []) c
+pub one-out : (a : ℕ) (c : Option Call) → 4294967295 < a → bad ≡ narrow 32 (a ∷ []) c
 unfolding allOf narrow
 one-out a c l = rw (lt-leb a 4294967295 l, narrow)
 

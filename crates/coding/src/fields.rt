@@ -1,10 +1,9 @@
 // Numbers that fit the fields of a call, and the call that stands for those that do not.
-use pool::Call;
-use request::call::Hold;
+use request::call::Call;
 ghost use mathlib.Core.Path.{_≡_};
 ghost use mathlib.Core.List.{[], _∷_};
 ghost use Rattle.definition.specs.Base.{allOf};
-ghost use Rattle.pool.specs.Served.{callOf};
+ghost use Rattle.request.specs.Calls.{callOf};
 ghost use Rattle.coding.specs.Coding.{bad, below};
 
 // The largest number of 32 bits.
@@ -13,11 +12,11 @@ pub const TOP_32: u64 = 4294967295;
 // The largest number of 16 bits.
 pub const TOP_16: u64 = 65535;
 
-// A reservation with an unknown trigger: the call itself is answered with 2.
+// What cannot be read.
 pub fn bad() -> Call
     ensures { λ r. ⌜ callOf r ≡ bad ⌝ }
 {
-    Call::Hold(0, Hold::Input(0, 0, 4, 0))
+    Call::Bad
 }
 
 // Both fit fields of 16 bits.

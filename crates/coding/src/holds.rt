@@ -3,7 +3,7 @@ use super::fields::TOP_32;
 use super::fields::bad;
 use super::fields::narrow_16;
 use super::fields::narrow_32;
-use pool::Call;
+use request::call::Call;
 use request::call::Devices;
 use request::call::Events;
 use request::call::Hold;
@@ -13,9 +13,10 @@ use tables::EventId;
 use tables::Lpi;
 ghost use mathlib.Core.Path.{_≡_};
 ghost use mathlib.Core.List.{[], _∷_};
+ghost use mathlib.Core.Option.{some};
 ghost use Rattle.definition.specs.Pools.{pioHold, inputHold, deviceHold, eventHold, lpiHold, pairHold};
 ghost use Rattle.definition.specs.Calls.{hold};
-ghost use Rattle.pool.specs.Served.{callOf};
+ghost use Rattle.request.specs.Calls.{callOf};
 ghost use Rattle.coding.specs.Coding.{narrow, heldIn, holdIn, holdSize};
 
 // How many numbers a reservation of a kind needs.
@@ -32,7 +33,7 @@ pub fn hold_size(kind: u64) -> usize
 // ---- the kinds that have narrow fields
 
 fn hold_pio(o: u32, a: u64, b: u64) -> Call
-    ensures { λ r. ⌜ callOf r ≡ narrow 16 (a ∷ b ∷ []) (hold o (pioHold a b)) ⌝ }
+    ensures { λ r. ⌜ callOf r ≡ narrow 16 (a ∷ b ∷ []) (some (hold o (pioHold a b))) ⌝ }
 {
     if narrow_16(a, b) {
         return Call::Hold(o, Hold::Pio(a as u16, b as u16));
@@ -41,7 +42,7 @@ fn hold_pio(o: u32, a: u64, b: u64) -> Call
 }
 
 fn hold_input(o: u32, a: u64, b: u64, c: u64, d: u64) -> Call
-    ensures { λ r. ⌜ callOf r ≡ narrow 32 (a ∷ c ∷ d ∷ []) (hold o (inputHold a b c d)) ⌝ }
+    ensures { λ r. ⌜ callOf r ≡ narrow 32 (a ∷ c ∷ d ∷ []) (some (hold o (inputHold a b c d))) ⌝ }
 {
     if narrow_32(a, c, d, 0) {
         return Call::Hold(o, Hold::Input(a as u32, b, c as u32, d as u32));
@@ -50,7 +51,7 @@ fn hold_input(o: u32, a: u64, b: u64, c: u64, d: u64) -> Call
 }
 
 fn hold_devices(o: u32, a: u64, b: u64, c: u64, d: u64) -> Call
-    ensures { λ r. ⌜ callOf r ≡ narrow 32 (a ∷ b ∷ c ∷ d ∷ []) (hold o (deviceHold a b c d)) ⌝ }
+    ensures { λ r. ⌜ callOf r ≡ narrow 32 (a ∷ b ∷ c ∷ d ∷ []) (some (hold o (deviceHold a b c d))) ⌝ }
 {
     if narrow_32(a, b, c, d) {
         let ids = Devices {
@@ -63,7 +64,7 @@ fn hold_devices(o: u32, a: u64, b: u64, c: u64, d: u64) -> Call
 }
 
 fn hold_events(o: u32, a: u64, b: u64, c: u64, d: u64, e: u64) -> Call
-    ensures { λ r. ⌜ callOf r ≡ narrow 32 (a ∷ b ∷ c ∷ d ∷ []) (narrow 32 (e ∷ []) (hold o (eventHold a b c d e))) ⌝ }
+    ensures { λ r. ⌜ callOf r ≡ narrow 32 (a ∷ b ∷ c ∷ d ∷ []) (narrow 32 (e ∷ []) (some (hold o (eventHold a b c d e)))) ⌝ }
 {
     if !narrow_32(a, b, c, d) {
         return bad();
@@ -79,7 +80,7 @@ fn hold_events(o: u32, a: u64, b: u64, c: u64, d: u64, e: u64) -> Call
 }
 
 fn hold_lpis(o: u32, a: u64, b: u64, c: u64) -> Call
-    ensures { λ r. ⌜ callOf r ≡ narrow 32 (a ∷ b ∷ c ∷ []) (hold o (lpiHold a b c)) ⌝ }
+    ensures { λ r. ⌜ callOf r ≡ narrow 32 (a ∷ b ∷ c ∷ []) (some (hold o (lpiHold a b c))) ⌝ }
 {
     if narrow_32(a, b, c, 0) {
         let ids = Lpis {
@@ -92,7 +93,7 @@ fn hold_lpis(o: u32, a: u64, b: u64, c: u64) -> Call
 }
 
 fn hold_pair(o: u32, a: u64, b: u64, c: u64, d: u64) -> Call
-    ensures { λ r. ⌜ callOf r ≡ narrow 32 (a ∷ c ∷ []) (hold o (pairHold a b c d)) ⌝ }
+    ensures { λ r. ⌜ callOf r ≡ narrow 32 (a ∷ c ∷ []) (some (hold o (pairHold a b c d))) ⌝ }
 {
     if narrow_32(a, c, 0, 0) {
         return Call::Hold(o, Hold::Pair(a as u32, b, c as u32, d));

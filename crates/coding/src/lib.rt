@@ -1,7 +1,7 @@
 // A call that adds or starts, from plain numbers: how many it needs, and what it asks.
-use pool::Call;
+use request::call::Call;
 ghost use mathlib.Core.Path.{_≡_};
-ghost use Rattle.pool.specs.Served.{callOf};
+ghost use Rattle.request.specs.Calls.{callOf};
 ghost use Rattle.coding.specs.Coding.{addingIn, sizeIn};
 
 pub mod fields;

@@ -2,7 +2,7 @@
 use super::fields::bad;
 use super::fields::narrow_16;
 use super::fields::narrow_32;
-use pool::Call;
+use request::call::Call;
 use request::call::Devices;
 use request::call::Events;
 use request::call::Lpis;
@@ -13,10 +13,10 @@ use tables::EventId;
 use tables::Lpi;
 ghost use mathlib.Core.Path.{_≡_};
 ghost use mathlib.Core.List.{[], _∷_};
+ghost use mathlib.Core.Option.{some};
 ghost use Rattle.definition.specs.Pools.{pioPool, inputPool, msiPool};
 ghost use Rattle.definition.specs.Calls.{pool};
-ghost use Rattle.request.specs.Calls.{useOf};
-ghost use Rattle.pool.specs.Served.{callOf};
+ghost use Rattle.request.specs.Calls.{useOf, callOf};
 ghost use Rattle.coding.specs.Coding.{narrow, poolIn, usedIn, poolSize};
 
 // How many numbers a pool of a kind needs.
@@ -33,7 +33,7 @@ pub fn pool_size(kind: u64) -> usize
 // ---- the kinds that have narrow fields
 
 fn pool_pio(u: Use, a: u64, b: u64) -> Call
-    ensures { λ r. ⌜ callOf r ≡ narrow 16 (a ∷ b ∷ []) (pool (useOf u) (pioPool a b)) ⌝ }
+    ensures { λ r. ⌜ callOf r ≡ narrow 16 (a ∷ b ∷ []) (some (pool (useOf u) (pioPool a b))) ⌝ }
 {
     if narrow_16(a, b) {
         return Call::Pool(u, PoolRange::Pio(a as u16, b as u16));
@@ -42,7 +42,7 @@ fn pool_pio(u: Use, a: u64, b: u64) -> Call
 }
 
 fn pool_input(u: Use, a: u64, b: u64, c: u64) -> Call
-    ensures { λ r. ⌜ callOf r ≡ narrow 32 (a ∷ []) (pool (useOf u) (inputPool a b c)) ⌝ }
+    ensures { λ r. ⌜ callOf r ≡ narrow 32 (a ∷ []) (some (pool (useOf u) (inputPool a b c))) ⌝ }
 {
     if narrow_32(a, 0, 0, 0) {
         return Call::Pool(u, PoolRange::Input(a as u32, b, c));
@@ -51,7 +51,7 @@ fn pool_input(u: Use, a: u64, b: u64, c: u64) -> Call
 }
 
 fn pool_msi(u: Use, a: u64, b: u64, c: u64, d: u64, e: u64, f: u64, g: u64, h: u64) -> Call
-    ensures { λ r. ⌜ callOf r ≡ narrow 32 (a ∷ b ∷ c ∷ d ∷ []) (narrow 32 (e ∷ f ∷ g ∷ h ∷ []) (pool (useOf u) (msiPool a b c d e f g h))) ⌝ }
+    ensures { λ r. ⌜ callOf r ≡ narrow 32 (a ∷ b ∷ c ∷ d ∷ []) (narrow 32 (e ∷ f ∷ g ∷ h ∷ []) (some (pool (useOf u) (msiPool a b c d e f g h)))) ⌝ }
 {
     if !narrow_32(a, b, c, d) {
         return bad();

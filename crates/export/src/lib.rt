@@ -1,9 +1,7 @@
 // The planner for callers in C and Rust. The state is the caller's memory, lent with its size: a state of another size is not touched and answers 1.
 // Numbers come and go in lists. Nothing is required of them: whatever cannot be read gets its refusal.
-use face::lent::call_into;
-use face::lent::filled;
-use face::lent::number_of;
-use face::lent::read;
+use face::back::filled;
+use face::back::read;
 use lent::Marks;
 use tables::State;
 use tables::fresh;
@@ -53,9 +51,9 @@ pub extern "C" fn planner_call(
     ensures { λ r. ⌜ answered (lent (stateView (now (state .exit))) (now (answer .exit))) r ≡ sized size (stateView (now (state .entry))) (now (answer .entry)) (numbered (callTold (now (numbers .entry)) (stateView (now (state .entry))) (now (answer .entry)))) ⌝ }
 {
     if size == STATE {
-        let next = call_into(*state, numbers, answer);
-        *state = next;
-        return number_of(next, numbers);
+        face::call_in(state, numbers, answer);
+        let m = lent::peek(state);
+        return m.number;
     }
     1
 }

@@ -1,19 +1,29 @@
 -- A list of numbers, as `faceCall` reads it: one law for each way out. Assumes nothing.
 use mathlib.Core.Path.{_≡_, refl, sym, ap, ap₂, subst, _∙_}
-use mathlib.Core.Bool.{Bool, true, false}
+use mathlib.Core.Bool.{Bool, true, false, true≢false}
+use mathlib.Core.Option.{some}
+use lib.Dec.{leb, eqb}
 use mathlib.Core.List.{List, [], _∷_}
 use Prim.Native.Nat.{ℕ, suc, _≤_, _<_, _-_}
 use native.Mathlib.Omega.{arith}
 use lib.ListN.{length, drop, take}
 use borrow.Author.Tests.{le-leb, lt-leb, eq-eqb, ne-eqb}
 use Rattle.definition.specs.Tables.{kinds}
-use Rattle.definition.specs.Base.{malformed, short, refused, require, tell}
-use Rattle.definition.specs.Request.{Request}
-use Rattle.definition.specs.Calls.{State, Call, want, given, sound, saying, settle, serve}
+use Rattle.definition.specs.Base.{malformed, short, refused, require}
+use Rattle.definition.specs.Request.{Request as DRequest}
+use Rattle.definition.specs.Calls.{State, want, given, sound, settle}
+use Rattle.request.specs.Asked.{requestOf}
+use Rattle.request.specs.Calls.{callOf}
+use Rattle.request.specs.declared.Request.{Request}
+use Rattle.request.specs.declared.call.Call.{Call}
+use Rattle.request.specs.declared.call.Call.the-variants.{Want, Bad}
+use Rattle.door.specs.Served.{serveOf}
 use Rattle.flat.specs.Flat.{requestAt}
 use Rattle.coding.specs.Coding.{addingIn, sizeIn}
 use Rattle.coding.proofs.SizeLaws.{size-asks}
-use Rattle.face.specs.Face.{number, addingAt, callAt, callSize, judged, faceCall}
+use Rattle.face.specs.Face.{number, addingAt, asks, callAt, callSize, judged, faceCall}
+use Rattle.face.specs.Reading.{Reads, servedAs}
+use Rattle.face.specs.declared.Reading.{Reading}
 
 take-whole : (xs : List ℕ) → take (length xs) xs ≡ xs
 take-whole [] = refl
@@ -28,8 +38,8 @@ pub behind-first : (xs : List ℕ) → 13 ≤ length xs → 12 ≤ length (drop 
 behind-first [] h = absurd (omega arith)
 behind-first (x ∷ xs) h = omega arith
 
-module _ (xs : List ℕ) (s : State) where
-  pub asks-is : number xs 0 ≡ 4 → callAt xs ≡ want (requestAt (drop 1 xs) 0)
+module _ (xs : List ℕ) where
+  pub asks-is : number xs 0 ≡ 4 → callAt xs ≡ some (want (requestAt (drop 1 xs) 0))
   unfolding callAt
   asks-is e = rw (eq-eqb (number xs 0) 4 e, callAt)
 
@@ -37,34 +47,10 @@ module _ (xs : List ℕ) (s : State) where
   unfolding callAt
   adds-is n = rw (ne-eqb (number xs 0) 4 n, callAt)
 
-  pub judges-all : number xs 0 ≡ 4 → judged xs s ≡ sound kinds s
-  unfolding judged
-  judges-all e = rw (eq-eqb (number xs 0) 4 e, judged)
-
-  pub judges-given : (number xs 0 ≡ 4 → ⊥) → judged xs s ≡ given kinds s
-  unfolding judged
-  judges-given n = rw (ne-eqb (number xs 0) 4 n, judged)
-
-  pub long : callSize xs ≤ length xs → serve kinds (callAt xs) s ≡ faceCall xs s
-  unfolding faceCall
-  long h = rw (le-leb (callSize xs) (length xs) h, faceCall)
-
-  pub cut : length xs < callSize xs → settle s (require (judged xs s) malformed (refused short)) ≡ faceCall xs s
-  unfolding faceCall
-  cut h = rw (lt-leb (callSize xs) (length xs) h, faceCall)
-
 -- ---- by the numbers that the code has read
 
 pub numbers-are : (xs : List ℕ) (first second kind a b c d e f g h : ℕ) → first ≡ number xs 0 → second ≡ number xs 1 → kind ≡ number xs 2 → a ≡ number xs 3 → b ≡ number xs 4 → c ≡ number xs 5 → d ≡ number xs 6 → e ≡ number xs 7 → f ≡ number xs 8 → g ≡ number xs 9 → h ≡ number xs 10 → addingIn first second kind a b c d e f g h ≡ addingAt xs
 numbers-are xs first second kind a b c d e f g h e₀ e₁ e₂ e₃ e₄ e₅ e₆ e₇ e₈ e₉ e₁₀ = rw (e₀, e₁, e₂, e₃, e₄, e₅, e₆, e₇, e₈, e₉, e₁₀)
-
-pub judged-short : (b : Bool) (s : State) → b ≡ true → saying (tell 0 short) s ≡ settle s (require b malformed (refused short))
-unfolding require
-judged-short b s e = rw e
-
-pub judged-not : (b : Bool) (s : State) → b ≡ false → saying (tell 0 malformed) s ≡ settle s (require b malformed (refused short))
-unfolding require
-judged-not b s e = rw e
 
 module _ (xs : List ℕ) (first kind size : ℕ) (e₀ : first ≡ number xs 0) (e₂ : kind ≡ number xs 2) (e : size ≡ sizeIn first kind) where
   size-is : size ≡ callSize xs
@@ -76,19 +62,36 @@ module _ (xs : List ℕ) (first kind size : ℕ) (e₀ : first ≡ number xs 0) 
   pub room-to-ask : size ≤ length xs → first ≡ 4 → 12 ≤ length (take (length xs - 1) (drop 1 xs))
   room-to-ask h f = subst (λ (l : List ℕ). 12 ≤ length l) (sym (part-is xs)) (behind-first xs (long-to-ask h f))
 
-  module _ (s t : State) where
-    pub served-want : size ≤ length xs → first ≡ 4 → (r : Request) → r ≡ requestAt (take (length xs - 1) (drop 1 xs)) 0 → t ≡ serve kinds (want r) s → t ≡ faceCall xs s
-    served-want h f r g w =
-        w ∙ ap (λ (x : Request). serve kinds (want x) s) (g ∙ ap (λ (l : List ℕ). requestAt l 0) (part-is xs)) ∙ ap (λ (x : Call). serve kinds x s) (sym (asks-is xs s (sym e₀ ∙ f))) ∙ long xs s (subst (λ (n : ℕ). n ≤ length xs) size-is h)
+  pub reads-want : size ≤ length xs → first ≡ 4 → (r : Request) → requestOf r ≡ requestAt (take (length xs - 1) (drop 1 xs)) 0 → Reads xs (record { whole = true; asks = true; call = Want r })
+  reads-want h f r g = record {
+    whole = sym (le-leb (callSize xs) (length xs) (subst (λ (n : ℕ). n ≤ length xs) size-is h));
+    asks = sym (eq-eqb (number xs 0) 4 (sym e₀ ∙ f));
+    call = λ z. ap (λ (x : DRequest). some (want x)) (g ∙ ap (λ (l : List ℕ). requestAt l 0) (part-is xs)) ∙ sym (asks-is xs (sym e₀ ∙ f));
+  }
 
-    pub served-adding : size ≤ length xs → (first ≡ 4 → ⊥) → (c : Call) → c ≡ addingAt xs → t ≡ serve kinds c s → t ≡ faceCall xs s
-    served-adding h n c g w =
-        w ∙ ap (λ (x : Call). serve kinds x s) (g ∙ sym (adds-is xs s (λ z. n (e₀ ∙ z)))) ∙ long xs s (subst (λ (n : ℕ). n ≤ length xs) size-is h)
+  pub reads-adding : size ≤ length xs → (first ≡ 4 → ⊥) → (c : Call) → callOf c ≡ addingAt xs → Reads xs (record { whole = true; asks = false; call = c })
+  reads-adding h n c g = record {
+    whole = sym (le-leb (callSize xs) (length xs) (subst (λ (n : ℕ). n ≤ length xs) size-is h));
+    asks = sym (ne-eqb (number xs 0) 4 (λ z. n (e₀ ∙ z)));
+    call = λ z. g ∙ sym (adds-is xs (λ z. n (e₀ ∙ z)));
+  }
 
-    pub short-want : length xs < size → first ≡ 4 → (b : Bool) → b ≡ sound kinds s → t ≡ settle s (require b malformed (refused short)) → t ≡ faceCall xs s
-    short-want h f b g w =
-        w ∙ ap (λ (x : Bool). settle s (require x malformed (refused short))) (g ∙ sym (judges-all xs s (sym e₀ ∙ f))) ∙ cut xs s (subst (λ (n : ℕ). length xs < n) size-is h)
+  pub reads-short : length xs < size → Reads xs (record { whole = false; asks = eqb first 4; call = Bad })
+  reads-short h = record {
+    whole = sym (lt-leb (callSize xs) (length xs) (subst (λ (n : ℕ). length xs < n) size-is h));
+    asks = ap (λ (n : ℕ). eqb n 4) e₀;
+    call = λ z. absurd (true≢false (sym z));
+  }
 
-    pub short-adding : length xs < size → (first ≡ 4 → ⊥) → (b : Bool) → b ≡ given kinds s → t ≡ settle s (require b malformed (refused short)) → t ≡ faceCall xs s
-    short-adding h n b g w =
-        w ∙ ap (λ (x : Bool). settle s (require x malformed (refused short))) (g ∙ sym (judges-given xs s (λ z. n (e₀ ∙ z)))) ∙ cut xs s (subst (λ (n : ℕ). length xs < n) size-is h)
+-- what is served of a reading is the call's
+pub served-read : (xs : List ℕ) (k : Reading) (s : State) → Reads xs k → servedAs k s ≡ faceCall xs s
+unfolding servedAs faceCall judged
+served-read xs k s r = go (leb (callSize xs) (length xs)) (k .whole) (r .whole) (r .call)
+  where
+    go : (b w : Bool) → w ≡ b → (w ≡ true → callOf (k .call) ≡ callAt xs)
+        → _≡_ {A = State} (elim w as (λ _. State) [ true ↦ serveOf (callOf (k .call)) s | false ↦ settle s (require (elim (k .asks) as (λ _. Bool) [ true ↦ sound kinds s | false ↦ given kinds s ]) malformed (refused short)) ])
+        (elim b as (λ _. State) [ true ↦ serveOf (callAt xs) s | false ↦ settle s (require (elim (asks xs) as (λ _. Bool) [ true ↦ sound kinds s | false ↦ given kinds s ]) malformed (refused short)) ])
+    go true true e c = ap (λ x. serveOf x s) (c refl)
+    go false false e c = ap (λ (a : Bool). settle s (require (elim a as (λ _. Bool) [ true ↦ sound kinds s | false ↦ given kinds s ]) malformed (refused short))) (r .asks)
+    go true false e c = absurd (true≢false (sym e))
+    go false true e c = absurd (true≢false e)

@@ -1,17 +1,26 @@
 -- Calls with lists lent beside the numbers: one law for each way out. Assumes nothing.
-use mathlib.Core.Path.{_≡_, sym, ap, _∙_}
+use mathlib.Core.Path.{_≡_, refl, sym, ap, _∙_}
 use mathlib.Core.List.{List}
 use Prim.Native.Nat.{ℕ, _≤_, _<_, _*_, _/_}
 use lib.ListN.{length}
 use borrow.Author.Tests.{le-leb, lt-leb, eq-eqb, ne-eqb}
-use Rattle.definition.specs.Calls.{State}
+use Rattle.definition.specs.Base.{Said}
+use Rattle.definition.specs.Calls.{State, fresh, saying}
+use Rattle.lent.specs.declared.Marks.{Marks}
+use Rattle.face.specs.Reading.{saidBy, toldBy}
 use Rattle.definition.specs.Plan.{lent}
 use Rattle.face.specs.Face.{number, faceCall}
 use Rattle.face.specs.Rows.{Told, told, rowTold, answerTold}
 use Rattle.face.specs.Lent.{telling, callTold, readTold, filledBy}
 
-pub call-told : (xs : List ℕ) (s t : State) (out zs : List ℕ) (y : ℕ) → t ≡ faceCall xs s → told y zs ≡ answerTold t out → lent t zs ≡ callTold xs s out
-call-told xs s t out zs y e a = ap (λ (w : Told). lent t (w .out)) a ∙ ap (λ (v : State). telling v out) e
+-- the five numbers alone are told
+told-alone : (t : State) (out : List ℕ) → answerTold (saying (t .said) fresh) out ≡ answerTold t out
+unfolding answerTold
+told-alone t out = refl
+
+pub call-told : (xs : List ℕ) (s t : State) (m : Marks) (out zs : List ℕ) (y : ℕ) → t ≡ faceCall xs s → saidBy m ≡ t .said → told y zs ≡ answerTold (toldBy m) out → lent t zs ≡ callTold xs s out
+call-told xs s t m out zs y e w a =
+    ap (λ (x : Told). lent t (x .out)) (a ∙ ap (λ (x : Said). answerTold (saying x fresh) out) w ∙ told-alone t out) ∙ ap (λ (v : State). telling v out) e
 
 module _ (xs : List ℕ) (s : State) (out : List ℕ) where
   pub read-none : length xs ≡ 0 → told 11 out ≡ readTold xs s out

@@ -1,4 +1,5 @@
 pub mod CallLaws
-pub mod AskedLaws
 pub mod ReadLaws
 pub mod LentLaws
+pub mod ServeLaws
+pub mod ListActs

@@ -1,3 +1,4 @@
 pub mod Face
 pub mod Rows
 pub mod Lent
+pub mod Reading

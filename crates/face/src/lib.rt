@@ -1,23 +1,33 @@
-// The calls as plain numbers, for callers outside: a list of numbers is read as a call, and the call is served on a state by value.
-use choose::Refusal;
+// The calls as plain numbers, for callers outside: a list of numbers is read as a call, and the call is served where the state stands.
 use coding::adding_of;
 use coding::call_size;
-use plan::numbers::plan_by_value;
-use pool::Call;
+use lent::Marks;
+use range::Reply;
+use request::Request;
+use request::call::Call;
 use tables::State;
 ghost use mathlib.Core.Path.{_≡_};
 ghost use Prim.Native.Nat.{_≤_};
-ghost use lib.ListN.{length, getD};
-ghost use Rattle.definition.specs.Base.{malformed, short, refused, require};
-ghost use Rattle.definition.specs.Tables.{kinds};
-ghost use Rattle.definition.specs.Calls.{settle, want, serve};
+ghost use lib.ListN.{length, getD, drop};
+ghost use Rattle.definition.specs.Plan.{lent};
 ghost use Rattle.tables.specs.Views.{stateView};
-ghost use Rattle.flat.specs.Flat.{requestSize, requestAt};
-ghost use Rattle.pool.specs.Served.{callOf};
-ghost use Rattle.face.specs.Face.{addingAt, faceCall};
+ghost use Rattle.request.specs.Asked.{requestOf};
+ghost use Rattle.request.specs.Calls.{callOf};
+ghost use Rattle.flat.specs.Flat.{requestAt};
+ghost use Rattle.face.specs.Face.{addingAt};
+ghost use Rattle.face.specs.Rows.{told, answerTold};
+ghost use Rattle.face.specs.Lent.{callTold};
+ghost use Rattle.face.specs.Reading.{Reads, servedAs, shortOf, toldBy};
 
-pub mod lent;
+pub mod back;
 pub mod row;
+
+// A list of numbers as it is read: whether it is as long as its call needs, whether it is a request, and the call.
+pub struct Reading {
+    pub whole: bool,
+    pub asks: bool,
+    pub call: Call,
+}
 
 // ---- a list of numbers
 
@@ -49,45 +59,107 @@ fn adding_at(numbers: &[u64]) -> Call
     adding_of(first, second, kind, a, b, c, d, e, f, g, h)
 }
 
-// ---- the state afterwards
-
-// The tables as they were: 1 where they are not sound, else 11.
-pub fn too_short(s: State, judged: bool) -> State
-    ensures { λ t. ⌜ stateView t ≡ settle (stateView s) (require judged malformed (refused short)) ⌝ }
-{
-    if judged {
-        return allocation::refuse(s, Refusal::Short);
-    }
-    allocation::refuse(s, Refusal::Malformed)
-}
-
-// One request of twelve numbers: a plan of one, whose record is not told.
-pub fn asked(s: State, request: &[u64]) -> State
-    requires { ⌜ requestSize ≤ length (now request) ⌝ }
-    ensures { λ t. ⌜ stateView t ≡ serve kinds (want (requestAt (now (request .entry)) 0)) (stateView s) ⌝ }
-{
-    let mut record = [0u64; 9];
-    plan_by_value(s, &request[..12], &mut record)
-}
-
-// A call that adds or starts, or one request, from its numbers: 1, 11, 2 and the rest.
-pub fn call(s: State, numbers: &[u64]) -> State
-    ensures { λ t. ⌜ stateView t ≡ faceCall (now (numbers .entry)) (stateView s) ⌝ }
+// A call, read as far as its numbers go.
+pub fn read_call(numbers: &[u64]) -> Reading
+    ensures { λ k. ⌜ Reads (now (numbers .entry)) k ⌝ }
 {
     let first = number(numbers, 0);
     let kind = number(numbers, 2);
     let size = call_size(first, kind);
     if size <= numbers.len() {
         if first == 4 {
-            return asked(s, &numbers[1..]);
+            let r = flat::request_at(&numbers[1..], 0);
+            return Reading {
+                whole: true,
+                asks: true,
+                call: Call::Want(r),
+            };
         }
         let c = adding_at(numbers);
-        return pool::serve(s, c);
+        return Reading {
+            whole: true,
+            asks: false,
+            call: c,
+        };
     }
-    if first == 4 {
-        let judged = sound::sound(s);
-        return too_short(s, judged);
+    Reading {
+        whole: false,
+        asks: first == 4,
+        call: Call::Bad,
     }
-    let judged = sound::given(s);
-    too_short(s, judged)
+}
+
+pub fn is_whole(k: Reading) -> bool
+    ensures { λ b. ⌜ b ≡ k .whole ⌝ }
+{
+    k.whole
+}
+
+pub fn is_asked(k: Reading) -> bool
+    ensures { λ b. ⌜ b ≡ k .asks ⌝ }
+{
+    k.asks
+}
+
+pub fn call_of(k: Reading) -> Call
+    ensures { λ c. ⌜ c ≡ k .call ⌝ }
+{
+    k.call
+}
+
+// 11 for a list that is too short, 1 before that where the tables are not sound.
+pub fn too_short(judged: bool) -> Reply
+    ensures { λ r. ⌜ r ≡ shortOf judged ⌝ }
+{
+    if judged {
+        return admit::plain(11);
+    }
+    admit::plain(1)
+}
+
+// ---- on a lent state
+
+// What was read, served.
+pub fn serve_as(s: &mut State, k: Reading)
+    ensures { λ _. ⌜ stateView (now (s .exit)) ≡ servedAs k (stateView (now (s .entry))) ⌝ }
+{
+    if is_whole(k) {
+        let c = call_of(k);
+        door::serve(s, c);
+        return;
+    }
+    if is_asked(k) {
+        let judged = lent_sound::sound(s);
+        let r = too_short(judged);
+        applied::say(s, r);
+        return;
+    }
+    let judged = lent_sound::given(s);
+    let r = too_short(judged);
+    applied::say(s, r);
+}
+
+// The five numbers that were read of a state, into a lent list: 11 where it is too short.
+pub fn tell(m: Marks, out: &mut [u64]) -> u64
+    ensures { λ r. ⌜ told r (now (out .exit)) ≡ answerTold (toldBy m) (now (out .entry)) ⌝ }
+{
+    if out.len() < 5 {
+        return 11;
+    }
+    out[0] = m.number;
+    out[1] = m.index;
+    out[2] = m.namespace;
+    out[3] = m.owner;
+    out[4] = m.detail;
+    0
+}
+
+// A call that adds or starts, or one request, from its numbers, where the state stands: 1, 11, 2 and the rest. Its answer's five numbers are told where the list has room for them.
+pub fn call_in(state: &mut State, numbers: &[u64], answer: &mut [u64])
+    ensures { λ _. ⌜ lent (stateView (now (state .exit))) (now (answer .exit)) ≡ callTold (now (numbers .entry)) (stateView (now (state .entry))) (now (answer .entry)) ⌝ }
+{
+    let k = read_call(numbers);
+    serve_as(state, k);
+    let m = lent::peek(state);
+    let _room = tell(m, answer);
 }

@@ -10,7 +10,7 @@ use Rattle.face.specs.Lent.{readTold}
 use Rattle.export.specs.Export.{stateSize}
 use Rattle.export.proofs.SizeLaws.{right-read, wrong-read}
 use Rattle.export.proofs.ReadWalk.{readCode, read-walk}
-use Rattle.face.proofs.lent.read as g
+use Rattle.face.proofs.back.read as g
 use Rattle.export.proofs.planner_read as f
 
 abbrev Slice : Type 0
@@ -169,4 +169,4 @@ planner-read-spec 𝓤 H 𝓜 𝓖 𝓡 =
     entered 𝓤 H (tripleOf 𝓤 H (𝓖 .A) f.signature (f.spec 𝓤 H (𝓖 .A) (𝓜 .mem) (𝓡 .run)))
     (tables 𝓤 H 𝓜 𝓡 f.Code.env .C) (tables 𝓤 H 𝓜 𝓡 f.Code.env .Λ) f.Key.name f.Code.function (f.Code.unfolded 𝓤 H 𝓜 𝓡)
     (f-meets 𝓤 H (𝓖 .A) (givenOf 𝓤 H 𝓜 𝓖) (𝓜 .mem) (𝓡 .run) (tablesOf 𝓤 H 𝓜 (tables 𝓤 H 𝓜 𝓡 f.Code.env))
-    (cited 𝓤 H (G 𝓤 H (𝓖 .A) (𝓜 .mem) (𝓡 .run)) 𝓜 𝓡 f.Code.env g.Symbol.name g.Symbol.routine f.Code.calls-face·lent·read (g.Met.met 𝓤 H 𝓜 𝓖 𝓡)))
+    (cited 𝓤 H (G 𝓤 H (𝓖 .A) (𝓜 .mem) (𝓡 .run)) 𝓜 𝓡 f.Code.env g.Symbol.name g.Symbol.routine f.Code.calls-face·back·read (g.Met.met 𝓤 H 𝓜 𝓖 𝓡)))

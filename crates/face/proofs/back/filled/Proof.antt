@@ -3,8 +3,8 @@ use borrow.Author.Needs.{needs}
 use Prim.Native.Nat.{_≤_}
 use Rattle.face.proofs.LentLaws.{filled-all, filled-far, filled-front}
 use native.Mathlib.Omega.{arith}
-use Rattle.face.proofs.lent.filled.Statement.{statement}
-use Rattle.face.proofs.lent.filled.Tie as tie
+use Rattle.face.proofs.back.filled.Statement.{statement}
+use Rattle.face.proofs.back.filled.Tie as tie
 
 mul-result : tie.Need-mul-result
 mul-result c = search needs

@@ -1,22 +1,11 @@
-// The same calls with lists lent beside the numbers: the answer's five numbers, what is read back. And what an exported call answers with.
-use super::call;
+// What is read back of a state, into lent lists, and what an exported call answers with.
 use super::number;
 use super::row;
 use tables::State;
 ghost use mathlib.Core.Path.{_≡_};
-ghost use Rattle.definition.specs.Plan.{lent};
 ghost use Rattle.tables.specs.Views.{stateView};
 ghost use Rattle.face.specs.Rows.{told};
-ghost use Rattle.face.specs.Lent.{callTold, readTold, filledBy};
-
-// A call, and its answer's five numbers where the list has room for them.
-pub fn call_into(s: State, numbers: &[u64], answer: &mut [u64]) -> State
-    ensures { λ t. ⌜ lent (stateView t) (now (answer .exit)) ≡ callTold (now (numbers .entry)) (stateView s) (now (answer .entry)) ⌝ }
-{
-    let t = call(s, numbers);
-    let _room = row::answer(t, answer);
-    t
-}
+ghost use Rattle.face.specs.Lent.{readTold, filledBy};
 
 // Reading back: the last answer (0), or a row (part, kind, row).
 pub fn read(s: State, what: &[u64], out: &mut [u64]) -> u64
@@ -35,13 +24,6 @@ pub fn read(s: State, what: &[u64], out: &mut [u64]) -> u64
         return 11;
     }
     row::row(s, part, kind, i, out)
-}
-
-// The number of the last answer.
-pub fn number_of(s: State, numbers: &[u64]) -> u64
-    ensures { λ r. ⌜ r ≡ stateView s .said .number ⌝ }
-{
-    s.number
 }
 
 // How many numbers of its results a plan has filled: nine a request, of all its requests or of those before the refused one.

@@ -4,8 +4,8 @@ use Prim.Native.Nat.{_≤_, _<_}
 use Rattle.face.proofs.LentLaws.{read-none, read-answer, read-short, read-row}
 use lib.ListN.{length}
 use native.Mathlib.Omega.{arith}
-use Rattle.face.proofs.lent.read.Statement.{statement}
-use Rattle.face.proofs.lent.read.Tie as tie
+use Rattle.face.proofs.back.read.Statement.{statement}
+use Rattle.face.proofs.back.read.Tie as tie
 
 number-requires : tie.Need-number-requires
 number-requires c κs = search needs
