@@ -3,7 +3,9 @@
 
 mod common;
 
-use common::{planner_allocate, planner_call, planner_fresh, planner_plan, planner_read, small_stack};
+use common::{
+    planner_allocate, planner_call, planner_fresh, planner_plan, planner_read, small_stack,
+};
 use std::{fmt::Write, path::Path};
 use thurgoleo::{Part, STATE_SIZE};
 
@@ -135,9 +137,11 @@ impl State {
             let count = self.get(part, kind, 0, 0);
             for row in 0..PARTS[part].rows().min(count as usize) {
                 let last = widths(part, kind).len();
-                let numbers: Vec<u64> =
-                    (1..=last).map(|j| self.get(part, kind, j, row)).collect();
-                assert_eq!(self.told(part, kind, row), told_as(part, kind, count, &numbers));
+                let numbers: Vec<u64> = (1..=last).map(|j| self.get(part, kind, j, row)).collect();
+                assert_eq!(
+                    self.told(part, kind, row),
+                    told_as(part, kind, count, &numbers)
+                );
                 writeln!(shown, "row {part} {kind} {}", line(&numbers)).unwrap();
             }
         }

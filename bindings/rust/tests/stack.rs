@@ -1,10 +1,13 @@
-//! One request and whole plans on a stack of 64 KB, as a hypervisor's thread has it: through the C face the same answers, records and states as on a large one;
-//! through the wrapper what it grants.
+//! Requests, plans and calls that add or start on a stack of 64 KB, as a hypervisor's thread has it: through the C face the same answers, records and states as on a
+//! large one; through the wrapper what it grants. A text on a stack of 64 KB beside the state that it keeps there.
 
 mod common;
 
-use common::{mixed, numbers, on_stack, planner_allocate, planner_pin, planner_plan, stand};
-use thurgoleo::{Plan, STATE_SIZE};
+use common::{
+    mixed, numbers, on_stack, planner_allocate, planner_call, planner_pin, planner_plan,
+    planner_text, stand,
+};
+use thurgoleo::{Plan, STATE_SIZE, TEXT_OUTPUT};
 
 const SMALL: usize = 64 << 10;
 const LARGE: usize = 1 << 20;
@@ -101,5 +104,62 @@ fn the_wrapper() {
         assert_eq!(plan.granted().count(), 5);
         plan.pin();
         assert!(p.plan(&mut plan).is_err());
+    });
+}
+
+/// Pools of both uses, reservations and the pair, a start, a request; each refused in one way or another too.
+const CALLS: &[&[u64]] = &[
+    &[1, 0, 1, 0x200_0000, 0x300_0000],
+    &[1, 1, 2, 0xf000, 0xf100],
+    &[1, 0, 3, 7, 0, 9],
+    &[1, 1, 4, 500, 600],
+    &[1, 0, 5, 3, 4, 8, 10, 0, 4, 8192, 8200],
+    &[1, 1, 5, 3, 4, 8, 10, 4, 4, 8192, 8200],
+    &[1, 0, 1, 9, 9],
+    &[1, 0, 6, 0, 0],
+    &[1, 0],
+    &[2, 5, 1, 0x400_0000, 0x400_1000],
+    &[2, 5, 1, 0x2000, 0x3000],
+    &[2, 5, 2, 1, 2],
+    &[2, 5, 3, 7, 3, 1, 0],
+    &[2, 5, 4, 700, 701],
+    &[2, 5, 5, 3, 4, 8, 9],
+    &[2, 5, 6, 3, 4, 8, 0, 2],
+    &[2, 5, 7, 3, 8192, 8193],
+    &[2, 5, 8, 7, 4, 1, 800],
+    &[2, 5, 8, 7, 5, 1, 33],
+    &[2, 0, 1, 1, 2],
+    &[3],
+    &[4, 1, 9, 0, 0x1000, 0x1000, 0, 0, 0, 0, 0, 0, 0],
+    &[5],
+    &[],
+];
+
+#[test]
+fn calls_that_add_or_start() {
+    let state = stand().as_words().to_vec();
+    let mut accepted = 0;
+    for call in CALLS {
+        let (number, after, told) = same(planner_call, &state, call, 5);
+        assert_eq!(after[after.len() - 5..], told);
+        assert_eq!(number, told[0]);
+        accepted += u32::from(number == 0);
+        let mut unsound = state.clone();
+        unsound[0] = 1 << 40;
+        assert_eq!(same(planner_call, &unsound, call, 0).0, 1);
+    }
+    assert_eq!(accepted, 15);
+}
+
+#[test]
+fn a_text_beside_its_state() {
+    let text = "pool\tauto\tmmio\t0\t1000000\npool\tfixed\tpio\t0\t65535\npool\tauto\tmsi\t0\t0\t0\t64\t0\t64\t8192\t9000\nhold\t7\tmmio\t4096\t8192\n".to_string()
+        + &"want\t3\t1\tmmio\t256\t256\tauto\nwant\t4\t0\tmsi\t0\t0\t2\tauto\n".repeat(64);
+    let text = text.into_bytes();
+    on_stack(STATE_SIZE + SMALL, move || {
+        let mut out = vec![0; TEXT_OUTPUT];
+        let n = unsafe { planner_text(text.as_ptr(), text.len(), out.as_mut_ptr(), out.len()) };
+        let said = String::from_utf8(out[..n as usize].to_vec()).unwrap();
+        assert!(said.ends_with("end\t128\n"), "{said}");
     });
 }
