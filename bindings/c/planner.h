@@ -73,7 +73,7 @@
  * tested. Null is tested by the helpers below alone.
  *
  * Stack, as measured (docs/SPEED.md): planner_allocate, planner_plan, planner_pin and their helpers under 2 KB, planner_read 69 KB,
- * planner_call and planner_text up to 700 KB: give a thread that makes these 1 MB. */
+ * XX */
 #ifndef PLANNER_H
 #define PLANNER_H
 
