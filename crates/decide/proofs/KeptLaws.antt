@@ -14,7 +14,7 @@ use Rattle.definition.specs.Calls.{state, saying, pushAll}
 use Rattle.definition.specs.Plan.{baseAt}
 use Rattle.tables.specs.Views.{poolsView, holdersView, stateView, rangesView, rangeOf, wireOf}
 use Rattle.tables.specs.Whole.{pushedRange}
-use Rattle.tables.specs.Sized.{SizedRanges, SizedHolders}
+use Rattle.tables.specs.Sized.{SizedRanges, SizedWires}
 use Rattle.tables.specs.declared.State.{State}
 use Rattle.tables.specs.declared.Ranges.{Ranges}
 use Rattle.tables.specs.declared.RangeRow.{RangeRow}
@@ -81,38 +81,38 @@ module _ (s : State) (q : R.Request) where
   given-finds k n ps fs rs c (Stands b e) f a t g = g b e (stands-room rs _ _ t) (stands-end ps fs rs n c _ t) (sym (a ∙ ap (claimOf k) (sym t)))
 
   -- a request of one range
-  module _ (z : SizedHolders (s .owners)) (one : (cs : List Claim) → someBase (baseAt 0 cs) ≡ firstsIn (q .want) cs) where
-    pub mmio-finds : (n : Need) (b e : ℕ) → s .owners .mmio .n < rowLimit → accepted (at-kind mmio (rangeOf (rowFor n b e)) ∷ []) ≡ answer s q → Finds s q (granted (W.Mmio (rowFor n b e)) (someBase b))
+  module _ (one : (cs : List Claim) → someBase (baseAt 0 cs) ≡ firstsIn (q .want) cs) where
+    pub mmio-finds : SizedRanges (s .owners .mmio) → (n : Need) (b e : ℕ) → s .owners .mmio .n < rowLimit → accepted (at-kind mmio (rangeOf (rowFor n b e)) ∷ []) ≡ answer s q → Finds s q (granted (W.Mmio (rowFor n b e)) (someBase b))
     unfolding pushAll rowsOf sameKind
-    mmio-finds n b e l a =
+    mmio-finds z n b e l a =
         granted-finds _ (granted (W.Mmio (rowFor n b e)) (someBase b)) a (record { mmio = λ _. l; pio = none _; input = none _; host = none _; device = none _; event = none _; lpi = none _ }) refl (one _)
-        (record { mmio = pushed (s .owners .mmio) (rowFor n b e) (z .mmio) l; pio = refl; input = refl; host = refl; device = refl; event = refl; lpi = refl })
+        (record { mmio = pushed (s .owners .mmio) (rowFor n b e) z l; pio = refl; input = refl; host = refl; device = refl; event = refl; lpi = refl })
 
-    pub pio-finds : (n : Need) (b e : ℕ) → s .owners .pio .n < rowLimit → accepted (at-kind pio (rangeOf (rowFor n b e)) ∷ []) ≡ answer s q → Finds s q (granted (W.Pio (rowFor n b e)) (someBase b))
+    pub pio-finds : SizedRanges (s .owners .pio) → (n : Need) (b e : ℕ) → s .owners .pio .n < rowLimit → accepted (at-kind pio (rangeOf (rowFor n b e)) ∷ []) ≡ answer s q → Finds s q (granted (W.Pio (rowFor n b e)) (someBase b))
     unfolding pushAll rowsOf sameKind
-    pio-finds n b e l a =
+    pio-finds z n b e l a =
         granted-finds _ (granted (W.Pio (rowFor n b e)) (someBase b)) a (record { mmio = none _; pio = λ _. l; input = none _; host = none _; device = none _; event = none _; lpi = none _ }) refl (one _)
-        (record { mmio = refl; pio = pushed (s .owners .pio) (rowFor n b e) (z .pio) l; input = refl; host = refl; device = refl; event = refl; lpi = refl })
+        (record { mmio = refl; pio = pushed (s .owners .pio) (rowFor n b e) z l; input = refl; host = refl; device = refl; event = refl; lpi = refl })
 
-    pub host-finds : (n : Need) (b e : ℕ) → s .owners .host .n < rowLimit → accepted (at-kind host (rangeOf (rowFor n b e)) ∷ []) ≡ answer s q → Finds s q (granted (W.Host (rowFor n b e)) (someBase b))
+    pub host-finds : SizedRanges (s .owners .host) → (n : Need) (b e : ℕ) → s .owners .host .n < rowLimit → accepted (at-kind host (rangeOf (rowFor n b e)) ∷ []) ≡ answer s q → Finds s q (granted (W.Host (rowFor n b e)) (someBase b))
     unfolding pushAll rowsOf sameKind
-    host-finds n b e l a =
+    host-finds z n b e l a =
         granted-finds _ (granted (W.Host (rowFor n b e)) (someBase b)) a (record { mmio = none _; pio = none _; input = none _; host = λ _. l; device = none _; event = none _; lpi = none _ }) refl (one _)
-        (record { mmio = refl; pio = refl; input = refl; host = pushed (s .owners .host) (rowFor n b e) (z .host) l; device = refl; event = refl; lpi = refl })
+        (record { mmio = refl; pio = refl; input = refl; host = pushed (s .owners .host) (rowFor n b e) z l; device = refl; event = refl; lpi = refl })
 
-    pub input-finds : (w : Wire) (b e : ℕ) → s .owners .input .n < rowLimit → e ≡ b + 1 → claimOf input (told (wireAsked w) (Stands b e)) ≡ answer s q → Finds s q (wireGranted w b e)
+    pub input-finds : SizedWires (s .owners .input) → (w : Wire) (b e : ℕ) → s .owners .input .n < rowLimit → e ≡ b + 1 → claimOf input (told (wireAsked w) (Stands b e)) ≡ answer s q → Finds s q (wireGranted w b e)
     unfolding pushAll rowsOf sameKind
-    input-finds w b e l h a =
+    input-finds z w b e l h a =
         granted-finds (at-kind input (wireOf (wireFor w b)) ∷ []) (wireGranted w b e) (ap (λ x. claimOf input (told (wireAsked w) (Stands b x))) (sym (h ∙ add-one b)) ∙ a)
         (record { mmio = none _; pio = none _; input = λ _. l; host = none _; device = none _; event = none _; lpi = none _ }) refl (one _)
-        (record { mmio = refl; pio = refl; input = push-wire-view (s .owners .input) (w .controller) b (w .trigger) (w .sharing) (w .requester) (z .input) l; host = refl; device = refl; event = refl; lpi = refl })
+        (record { mmio = refl; pio = refl; input = push-wire-view (s .owners .input) (w .controller) b (w .trigger) (w .sharing) (w .requester) z l; host = refl; device = refl; event = refl; lpi = refl })
 
   -- a device, its events and LPIs
-  module _ (z : SizedHolders (s .owners))
+  module _ (z : SizedRanges (s .owners .device)) (z′ : SizedRanges (s .owners .event)) (z″ : SizedRanges (s .owners .lpi))
       (three : (cs : List Claim) → someMsi (record { 0 = baseAt 0 cs }) (record { 0 = baseAt 1 cs }) (record { 0 = baseAt 2 cs }) ≡ firstsIn (q .want) cs) where
     pub msi-finds : (m : Msi) (d : DeviceId) (e : EventId) (l : Lpi) → s .owners .device .n < rowLimit → s .owners .event .n < rowLimit → s .owners .lpi .n < rowLimit
         → accepted (msiRows m d e l) ≡ answer s q → Finds s q (msiGranted m d e l)
     unfolding R.rowAt pushAll rowsOf sameKind
     msi-finds m d e l p u v a =
         granted-finds (msiRows m d e l) (msiGranted m d e l) a (record { mmio = none _; pio = none _; input = none _; host = none _; device = λ _. p; event = λ _. u; lpi = λ _. v }) refl (three (msiRows m d e l))
-        (record { mmio = refl; pio = refl; input = refl; host = refl; device = pushed (s .owners .device) (MsiSpec.rowsOf m d e l .device) (z .device) p; event = pushed (s .owners .event) (MsiSpec.rowsOf m d e l .event) (z .event) u; lpi = pushed (s .owners .lpi) (MsiSpec.rowsOf m d e l .lpi) (z .lpi) v })
+        (record { mmio = refl; pio = refl; input = refl; host = refl; device = pushed (s .owners .device) (MsiSpec.rowsOf m d e l .device) z p; event = pushed (s .owners .event) (MsiSpec.rowsOf m d e l .event) z′ u; lpi = pushed (s .owners .lpi) (MsiSpec.rowsOf m d e l .lpi) z″ v })

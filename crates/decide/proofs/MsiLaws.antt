@@ -12,7 +12,7 @@ use Rattle.definition.specs.Request as R
 use Rattle.definition.specs.Calls.{sound}
 use Rattle.definition.specs.Plan.{baseAt}
 use Rattle.tables.specs.Views.{poolOf, poolView, stateView}
-use Rattle.tables.specs.Sized.{SizedHolders}
+use Rattle.tables.specs.Sized.{SizedRanges}
 use Rattle.tables.specs.declared.Pool.{Pool}
 use Rattle.tables.specs.declared.Ranges.{Ranges}
 use Rattle.tables.specs.declared.State.{State}
@@ -64,7 +64,7 @@ module _ (s : State) (t : T (sound kinds (stateView s))) where
   abbrev L : Part
   L = part (s .auto .lpi) (s .fixed .lpi) (s .owners .lpi)
 
-  module _ (q : R.Request) (z : SizedHolders (s .owners)) (m : Msi)
+  module _ (q : R.Request) (m : Msi)
       (three : (cs : List Claim) → someMsi (record { 0 = baseAt 0 cs }) (record { 0 = baseAt 1 cs }) (record { 0 = baseAt 2 cs }) ≡ firstsIn (q .want) cs)
       (is : answer s q ≡ msiIn D E L m) where
     d# : length (D .rows) ≡ s .owners .device .n
@@ -76,16 +76,16 @@ module _ (s : State) (t : T (sound kinds (stateView s))) where
     l# : length (L .rows) ≡ s .owners .lpi .n
     l# = ranges-length (s .owners .lpi) (counted s lpi t)
 
-    decided : (c : MsiChosen) → toldMsi m c ≡ msiIn D E L m → Finds s q (msiGiven m c)
-    decided (M.Refused y) h = refused-finds s q y (h ∙ sym is)
-    decided (M.Stands d e l) h =
+    decided : SizedRanges (s .owners .device) → SizedRanges (s .owners .event) → SizedRanges (s .owners .lpi) → (c : MsiChosen) → toldMsi m c ≡ msiIn D E L m → Finds s q (msiGiven m c)
+    decided z z′ z″ (M.Refused y) h = refused-finds s q y (h ∙ sym is)
+    decided z z′ z″ (M.Stands d e l) h =
         let r = msi-room D E L m d e l h in
-        msi-finds s q z three m d e l (omega (arith, r .devices, d#)) (omega (arith, r .events, e#)) (omega (arith, r .lpis, l#)) (h ∙ sym is)
+        msi-finds s q z z′ z″ three m d e l (omega (arith, r .devices, d#)) (omega (arith, r .events, e#)) (omega (arith, r .lpis, l#)) (h ∙ sym is)
 
     pub msi-verdict-finds : (d e l : Seen) → Sees (s .auto .device) (s .fixed .device) (s .owners .device) (deviceAsk m) d
         → Sees (s .auto .event) (s .fixed .event) (s .owners .event) (eventAsk m (deviceIn (d .chosen))) e
         → Sees (s .auto .lpi) (s .fixed .lpi) (s .owners .lpi) (lpiAsk m (eventIn (e .chosen))) l
         → Finds s q (msiGiven m (chained (deviceIn (d .chosen)) (eventIn (e .chosen)) (lpiIn (l .chosen)) (d .at) (e .at) (l .at)))
     msi-verdict-finds d e l x y v =
-        decided (chained (deviceIn (d .chosen)) (eventIn (e .chosen)) (lpiIn (l .chosen)) (d .at) (e .at) (l .at)) (chain-is D E L m (goods device) (goods event) (goods lpi) (d .at) (e .at) (l .at) (d# ∙ sym (x .at)) (e# ∙ sym (y .at)) (l# ∙ sym (v .at)) (d .chosen) (e .chosen) (l .chosen)
+        decided (x .sized) (y .sized) (v .sized) (chained (deviceIn (d .chosen)) (eventIn (e .chosen)) (lpiIn (l .chosen)) (d .at) (e .at) (l .at)) (chain-is D E L m (goods device) (goods event) (goods lpi) (d .at) (e .at) (l .at) (d# ∙ sym (x .at)) (e# ∙ sym (y .at)) (l# ∙ sym (v .at)) (d .chosen) (e .chosen) (l .chosen)
         (x .chosen refl) (event-seen _ _ _ m e (deviceIn (d .chosen)) y) (lpi-seen _ _ _ m l (eventIn (e .chosen)) v))

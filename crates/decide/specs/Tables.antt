@@ -3,8 +3,10 @@ use Rattle.tables.specs.declared.State.{State}
 use Rattle.request.specs.declared.Request.{Request}
 use Rattle.look.specs.Look.{Asks, Sees, WireAsks, SeesWire}
 use Rattle.look.specs.declared.Seen.{Seen}
-use Rattle.decide.specs.Query.{asked, queryOf}
+use Rattle.msi.specs.Msi.{deviceIn, eventIn}
+use Rattle.decide.specs.Query.{ask, askWire, deviceAsk, eventAsk, lpiAsk, asked, queryOf}
 use Rattle.decide.specs.declared.Query.{Query}
+use Rattle.decide.specs.declared.Query.the-variants as Q
 
 pub record Asking (s : State) (q : Query) : Type 0 where
   pub mmio : Asks (s .auto .mmio) (s .fixed .mmio) (s .owners .mmio) (asked q .mmio)
@@ -30,3 +32,14 @@ AllAsk s r = Asking s (queryOf r)
 
 abbrev pub AllSeen : State → Request → Seen → Seen → Seen → Seen → Seen → Seen → Seen → Type 0
 AllSeen s r m p w h d e l = Seeing s (queryOf r) m p w h d e l
+
+-- what is seen in the tables that the query is for: one, or the three of an MSI request
+abbrev pub SeeingOwn : State → Query → Seen → Seen → Seen → Seen → Seen → Seen → Seen → Type 0
+SeeingOwn s Q.Nothing m p w h d e l = Unit {0}
+SeeingOwn s (Q.Mmio n c) m p w h d e l = Sees (s .auto .mmio) (s .fixed .mmio) (s .owners .mmio) (ask n c) m
+SeeingOwn s (Q.Pio n c) m p w h d e l = Sees (s .auto .pio) (s .fixed .pio) (s .owners .pio) (ask n c) p
+SeeingOwn s (Q.Input x c) m p w h d e l = SeesWire (s .auto .input) (s .fixed .input) (s .owners .input) (askWire x c) w
+SeeingOwn s (Q.Host n c) m p w h d e l = Sees (s .auto .host) (s .fixed .host) (s .owners .host) (ask n c) h
+SeeingOwn s (Q.Msi x) m p w h d e l =
+    Sees (s .auto .device) (s .fixed .device) (s .owners .device) (deviceAsk x) d × (Sees (s .auto .event) (s .fixed .event) (s .owners .event) (eventAsk x (deviceIn (d .chosen))) e ×
+    Sees (s .auto .lpi) (s .fixed .lpi) (s .owners .lpi) (lpiAsk x (eventIn (e .chosen))) l)

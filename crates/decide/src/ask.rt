@@ -14,6 +14,46 @@ use search::Kind;
 ghost use mathlib.Core.Path.{_≡_};
 ghost use Rattle.decide.specs.Query.{idle, idleWire, asked, deviceAsk, eventAsk, lpiAsk};
 
+// ---- whether the query is for one table alone, and for which
+
+pub fn for_mmio(q: Query) -> bool
+    ensures { λ b. ⌜ b ≡ asked q .mmio .go ⌝ }
+{
+    match q {
+        Query::Mmio(_, _) => true,
+        _ => false,
+    }
+}
+
+pub fn for_pio(q: Query) -> bool
+    ensures { λ b. ⌜ b ≡ asked q .pio .go ⌝ }
+{
+    match q {
+        Query::Pio(_, _) => true,
+        _ => false,
+    }
+}
+
+pub fn for_input(q: Query) -> bool
+    ensures { λ b. ⌜ b ≡ asked q .input .go ⌝ }
+{
+    match q {
+        Query::Input(_, _) => true,
+        _ => false,
+    }
+}
+
+pub fn for_host(q: Query) -> bool
+    ensures { λ b. ⌜ b ≡ asked q .host .go ⌝ }
+{
+    match q {
+        Query::Host(_, _) => true,
+        _ => false,
+    }
+}
+
+// ---- what it asks of each
+
 // The table of MMIO.
 pub fn mmio(q: Query) -> Ask
     ensures { λ a. ⌜ a ≡ asked q .mmio ⌝ }

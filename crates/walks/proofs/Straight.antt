@@ -7,11 +7,13 @@
 --         point        `_l = addrOf (*_p).st`: the address of a part
 --         ask          `_l = f(xs)`, of a callee that `Gives`
 --         back         `return`
+--         leave        `if _k { .. return; }`, and then the rest
 --     make             `ask`, where it is told which value is returned
 --     straight         so does the machine
-use Rattle.walks.proofs.Prelude.{_≡_, refl, sym, ap, subst, _∙_, ℕ, zero, suc, _+_, _^_, Option, none, [], _∷_, List, _++_, URA, fullShare, T as Holds, ltb, Name, Width, Ty, tyUnit, Step as PStep, deref, field, variant, place, Opd as Operand, copy, int, addrOf, seq, assign, call, return, Local, local, valueLocal, Fn, Val, vint, vptr, WT, hasTy, bits, SProp, ent, sep, via, comm∗, monoR, fat, froom, fdies, fieldOf, Heap, Env, spotOf, Calls, Loops, WpFn, Atoms, FmC, fact, Given, Item, Goal, atRet, Seq, prop, runs, lands, allocs, params′, passes, frees, mean, ⋆, nth, put, pop, push, ++⊢, ⊢++, ‵, raw, _⊛_, some as any, later, _$_, _∵_, !, Go, qed, by, move, use1, split, join, pick, await, done, Reads, Writes, Opds, look, init, store, forget, stop, hop, fld, from, load, lit, no-more, and-then, addr, assigns, land, returns, calls, enter, alloc1, alloc0, params1, pass1, pass0, free1, free0, heard}
+use Rattle.walks.proofs.Prelude.{_≡_, refl, sym, ap, subst, _∙_, ℕ, zero, suc, _+_, _^_, Bool, not, Option, none, [], _∷_, List, _++_, URA, fullShare, T as Holds, ltb, Name, Width, Ty, tyUnit, Step as PStep, deref, field, variant, place, Opd as Operand, copy, int, addrOf, seq, assign, call, cond, skip, return, Local, local, valueLocal, Fn, Val, vint, vptr, vbool, WT, hasTy, bits, SProp, ent, sep, via, comm∗, monoR, fat, froom, fdies, fieldOf, Heap, Env, spotOf, Calls, Loops, WpFn, Atoms, FmC, fact, Given, Item, Goal, Post as Ends, atRet, post, atReturn, Seq, prop, runs, lands, allocs, params′, passes, frees, mean, ⋆, nth, put, pop, push, ++⊢, ⊢++, ‵, raw, _⊛_, some as any, later, _$_, _∵_, !, Go, qed, by, move, use1, split, join, pick, await, done, Reads, Writes, Opds, look, init, store, forget, stop, hop, fld, from, load, lit, no-more, and-then, addr, assigns, land, first as first-of, branches, skips, exec, returns-within, calls, enter, alloc1, alloc0, params1, pass1, pass0, free1, free0, heard}
 use mathlib.Core.Option.{some}
 use mir.Syntax.{Body}
+use prog.Wp.{returns as returnsᴼ}
 use types.Run.{Walks}
 
 -- ---- what the locals hold
@@ -130,6 +132,7 @@ pub data Runs {M : Type 1} {𝓤 : URA M} {H : Heap 𝓤} {A : Atoms 𝓤} (W : 
   learn : {σ : Store} {b : Body} (φ : Type 0) → ent 𝓤 (mean 𝓤 H A i) (mean 𝓤 H A (later (i ⊛ raw (fact 𝓤 φ)))) → (φ → Runs W C i ls Post σ b) → Runs W C i ls Post σ b
   point : {σ : Store} {l p : ℕ} {π : Ty} {st : List PStep} {rest : Body} {b o a : ℕ} → val p σ ≡ some (vptr b o) → leads π o st ≡ some a → Has p ls → Has l ls → Holds (hasTy (tyAt l ls) (vptr b a)) × WT (vptr b a)
       → Runs W C i ls Post (set l (vptr b a) σ) rest → Runs W C i ls Post σ (seq (assign (place l []) (addrOf (place p (deref π ∷ st)))) rest)
+  leave : {σ : Store} {k : ℕ} {a rest : Body} (y : Bool) → val k σ ≡ some (vbool y) → Has k ls → (Holds y → Runs W C i ls Post σ a) → (Holds (not y) → Runs W C i ls Post σ rest) → Runs W C i ls Post σ (seq (cond (copy (place k [])) a skip) rest)
   ask : {σ : Store} {g : Name} {xs : List Operand} {l : ℕ} {rest : Body} (Y : Value) (P : Y .D → Type 0) {vs : List Val} → Evals σ ls xs vs → Gives 𝓤 H A W C i g vs Y P → Has l ls → Y .ty ≡ tyAt l ls
       → ((d : Y .D) → Y .ok d → P d → Runs W C i ls Post (set l (Y .val d) σ) rest) → Runs W C i ls Post σ (seq (call g xs (place l [])) rest)
 
@@ -240,17 +243,20 @@ module _ {M : Type 1} {𝓤 : URA M} {H : Heap 𝓤} {A : Atoms 𝓤} (W : Given
 
   -- the code runs
   module _ (C : Calls 𝓤 H) (Λ : Loops 𝓤 H) (fm : FmC 𝓤 H (W .laws) C) (i : Item 𝓤) (ls : List Local) (f : ℕ → ℕ) (Post : Val → SProp 𝓤) where
-    goes : (σ : Store) (b : Body) → Runs W C i ls Post σ b → Seq (Go {0}) W (i ∷ cells 𝓤 (env ls f) σ) (runs C Λ (env ls f) b (atRet (env ls f) Post))
-    goes σ _ (back v e h k) = returns ! (reads W ls f i σ zero v e h) $ free-all i (env ls f) σ (prop (Post v)) (by ! k)
-    goes σ b (learn φ tells k) = use1 W (later (i ⊛ raw (fact 𝓤 φ))) tells $ await ! tt $ split ! $ move ! (1 ∷ []) $ heard ! φ (λ x. goes σ b (k x))
-    goes σ _ (point {l} {p} {π} {st} {rest} {b} {o} {a} e lies hp hl wt k) =
+    -- q is what the code comes to: of it only what it says of a return is used, which is the same inside an arm
+    goes : (q : Ends 𝓤 H) → post 𝓤 H q returnsᴼ ≡ atReturn 𝓤 H (env ls f) Post returnsᴼ → (σ : Store) (b : Body) → Runs W C i ls Post σ b → Seq (Go {0}) W (i ∷ cells 𝓤 (env ls f) σ) (runs C Λ (env ls f) b q)
+    goes q r σ _ (back v e h k) = returns-within ! Post r (reads W ls f i σ zero v e h) $ free-all i (env ls f) σ (prop (Post v)) (by ! k)
+    goes q r σ b (learn φ tells k) = use1 W (later (i ⊛ raw (fact 𝓤 φ))) tells $ await ! tt $ split ! $ move ! (1 ∷ []) $ heard ! φ (λ x. goes q r σ b (k x))
+    goes q r σ _ (leave {k} {a} {rest} y e h held failed) =
+        first-of ! $ branches ! (load ! (from ! (stop !)) (reads W ls f i σ k (vbool y) e h)) (λ t. goes _ r σ a (held t)) (λ t. skips ! $ exec ! C Λ (env ls f) rest q $ goes q r σ rest (failed t))
+    goes q r σ _ (point {l} {p} {π} {st} {rest} {b} {o} {a} e lies hp hl wt k) =
         let w : Way W (i ∷ cells 𝓤 (env ls f) σ) (env ls f) π b o a st = way W (i ∷ cells 𝓤 (env ls f) σ) (env ls f) st π b o a lies in
-        assigns ! (addr ! (from ! (hop ! (reads W ls f i σ p (vptr b o) e hp) (w .walk)))) (from ! (stop !)) (writes W ls f i σ l (vptr b a) hl wt) $ goes (set l (vptr b a) σ) rest k
-    goes σ _ (ask {g} {xs} {l} {rest} Y P {vs} os gives hl ty k) =
+        assigns ! (addr ! (from ! (hop ! (reads W ls f i σ p (vptr b o) e hp) (w .walk)))) (from ! (stop !)) (writes W ls f i σ l (vptr b a) hl wt) $ goes q r (set l (vptr b a) σ) rest k
+    goes q r σ _ (ask {g} {xs} {l} {rest} Y P {vs} os gives hl ty k) =
         use1 W (later (raw (C g vs (λ v. mean 𝓤 H A (Back 𝓤 H A W C i Y P v))))) gives $ await ! tt $ calls ! fm (λ v. Back 𝓤 H A W C i Y P v) (operands W ls f (raw (C g vs (λ v. mean 𝓤 H A (Back 𝓤 H A W C i Y P v)))) σ xs vs os) (λ v.
         await ! tt $ pick ! (λ d. split ! $ move ! (1 ∷ []) $ heard ! ((v ≡ Y .val d) × (Y .ok d × P d)) (λ e.
-        subst (λ (w : Val). Seq (Go {0}) W (i ∷ cells 𝓤 (env ls f) σ) (lands C Λ (env ls f) (place l []) w rest (atRet (env ls f) Post))) (sym (e .0))
-        (land ! (from ! (stop !)) (writes W ls f i σ l (Y .val d) hl (subst (λ (τ : Ty). Holds (hasTy τ (Y .val d)) × WT (Y .val d)) ty (Y .typed d (e .1 .0)))) $ goes (set l (Y .val d) σ) rest (k d (e .1 .0) (e .1 .1))))))
+        subst (λ (w : Val). Seq (Go {0}) W (i ∷ cells 𝓤 (env ls f) σ) (lands C Λ (env ls f) (place l []) w rest q)) (sym (e .0))
+        (land ! (from ! (stop !)) (writes W ls f i σ l (Y .val d) hl (subst (λ (τ : Ty). Holds (hasTy τ (Y .val d)) × WT (Y .val d)) ty (Y .typed d (e .1 .0)))) $ goes q r (set l (Y .val d) σ) rest (k d (e .1 .0) (e .1 .1))))))
 
   pub straight : (C : Calls 𝓤 H) (Λ : Loops 𝓤 H) → FmC 𝓤 H (W .laws) C → (i : Item 𝓤) (c : Fn) (l₀ : Local) (ls : List Local) (vs : List Val) (Post : Val → SProp 𝓤) → c .locals ≡ l₀ ∷ ls → Typed ls vs
       → Runs W C i (l₀ ∷ ls) Post (none ∷ given vs) (c .body) → ent 𝓤 (mean 𝓤 H A i) (WpFn 𝓤 H C Λ c vs Post)
@@ -264,4 +270,4 @@ module _ {M : Type 1} {𝓤 : URA M} {H : Heap 𝓤} {A : Atoms 𝓤} (W : Given
       begins f =
           params1 ! $ move ! (1 ∷ 2 ∷ 0 ∷ []) $ join ! $ move ! (1 ∷ 0 ∷ []) $ join ! $
           pass-all (i ⊛ (‵ (froom τ (f zero) zero) ⊛ ‵ (fdies τ (f zero)))) ls (λ n. f (suc n)) vs _ wt
-          (split ! $ move ! (1 ∷ []) $ split ! $ move ! (2 ∷ []) $ goes C Λ fm i (local τ h ∷ ls) f Post (none ∷ given vs) (c .body) k)
+          (split ! $ move ! (1 ∷ []) $ split ! $ move ! (2 ∷ []) $ goes C Λ fm i (local τ h ∷ ls) f Post (atRet (env (local τ h ∷ ls) f) Post) refl (none ∷ given vs) (c .body) k)

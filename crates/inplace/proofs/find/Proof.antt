@@ -1,5 +1,7 @@
 -- `inplace::find` meets its contract: straight code over the covered functions of `decide` and the two that look into tables. Assumes nothing.
 use Rattle.walks.proofs.Prelude.{_≡_, refl, [], _∷_, List, none, ℕ, _+_, URA, named, SProp, emp, id⊢, Lft, Share, Memory, Routine, Heap, Calls, WpFn, Tables, Atoms, fmOf, Fun, factI, AllOutlive, givenOf, tables, tablesOf, Given, Item, ‵, owns, flat, Is, ptr-vals, shr-tells, typesAt, Args, Vals, Meets, tripleOf, Triple, entered, cited, T as Holds, GName, Makes, Parts}
+use mathlib.Core.Option.{some}
+use mir.Syntax.{Body, return}
 use denote.Struct.Laws as LL
 use denote.Enum.Laws as EE
 use Rattle.definition.specs.Tables.{kinds}
@@ -38,6 +40,10 @@ use Rattle.decide.proofs.Query.Laws as Q′
 use Rattle.decide.proofs.Granted as F
 use Rattle.decide.proofs.Granted.Laws as F′
 use Rattle.decide.proofs.queried as queried
+use Rattle.decide.proofs.ask.for_mmio as for-mmio
+use Rattle.decide.proofs.ask.for_pio as for-pio
+use Rattle.decide.proofs.ask.for_input as for-input
+use Rattle.decide.proofs.ask.for_host as for-host
 use Rattle.decide.proofs.ask.mmio as ask-mmio
 use Rattle.decide.proofs.ask.pio as ask-pio
 use Rattle.decide.proofs.ask.input as ask-input
@@ -45,12 +51,13 @@ use Rattle.decide.proofs.ask.host as ask-host
 use Rattle.decide.proofs.ask.device as ask-device
 use Rattle.decide.proofs.ask.event as ask-event
 use Rattle.decide.proofs.ask.lpi as ask-lpi
+use Rattle.decide.proofs.one as one
 use Rattle.decide.proofs.verdict as verdict
-use Rattle.decide.specs.Tables.{AllAsk}
+use Rattle.decide.specs.Tables.{AllAsk, SeeingOwn}
 use Rattle.decide.proofs.AskLaws.{asks}
-use Rattle.decide.proofs.VerdictLaws.{finds}
-use Rattle.walks.proofs.Straight.{first, others, given, Gives, Runs, back, point, ask as get, make, nil, arg}
-use Rattle.walks.proofs.Passing.{Plain, declaredAs, valueAs, Arg, plainly, slots, valsOf, covered, passing, refTo, among}
+use Rattle.decide.proofs.VerdictLaws.{own-finds, mmio-seen, pio-seen, input-seen, host-seen, three-seen}
+use Rattle.walks.proofs.Straight.{first, others, given, Store, val, Gives, Runs, back, point, leave, ask as get, make, nil, arg}
+use Rattle.walks.proofs.Passing.{Plain, declaredAs, booleanAs, valueAs, Arg, plainly, slots, valsOf, covered, passing, refTo, among}
 use Rattle.walks.proofs.Columns.{Into}
 use Rattle.walks.proofs.StateParts.{Table, mmio, pio, input, host, device, event, lpi, auto-at, fixed-at, owners-at, pool-at, holder-at, mmio-pool, pio-pool, input-pool, host-pool, device-pool, event-pool, lpi-pool, mmio-holder, pio-holder, input-holder, host-holder, device-holder, event-holder, lpi-holder, auto-table, fixed-table, owners-table}
 use Rattle.walks.proofs.Frame.{mine, After, ends, frame}
@@ -62,6 +69,10 @@ Sound h = Holds (sound-state kinds (stateView h))
 -- what is known of the callees
 record Known {M : Type 1} (𝓤 : URA M) (H : Heap 𝓤) (A : Atoms 𝓤) (at-mem : Memory → SProp 𝓤) (run : Routine → Fun 𝓤) (C : Calls 𝓤 H) : Type 1 where
   k-queried : Triple 𝓤 (C queried.Symbol.name) (tripleOf 𝓤 H A queried.signature (queried.spec 𝓤 H A at-mem run))
+  k-for-mmio : Triple 𝓤 (C for-mmio.Symbol.name) (tripleOf 𝓤 H A for-mmio.signature (for-mmio.spec 𝓤 H A at-mem run))
+  k-for-pio : Triple 𝓤 (C for-pio.Symbol.name) (tripleOf 𝓤 H A for-pio.signature (for-pio.spec 𝓤 H A at-mem run))
+  k-for-input : Triple 𝓤 (C for-input.Symbol.name) (tripleOf 𝓤 H A for-input.signature (for-input.spec 𝓤 H A at-mem run))
+  k-for-host : Triple 𝓤 (C for-host.Symbol.name) (tripleOf 𝓤 H A for-host.signature (for-host.spec 𝓤 H A at-mem run))
   k-ask-mmio : Triple 𝓤 (C ask-mmio.Symbol.name) (tripleOf 𝓤 H A ask-mmio.signature (ask-mmio.spec 𝓤 H A at-mem run))
   k-ask-pio : Triple 𝓤 (C ask-pio.Symbol.name) (tripleOf 𝓤 H A ask-pio.signature (ask-pio.spec 𝓤 H A at-mem run))
   k-ask-input : Triple 𝓤 (C ask-input.Symbol.name) (tripleOf 𝓤 H A ask-input.signature (ask-input.spec 𝓤 H A at-mem run))
@@ -71,6 +82,7 @@ record Known {M : Type 1} (𝓤 : URA M) (H : Heap 𝓤) (A : Atoms 𝓤) (at-me
   k-ask-lpi : Triple 𝓤 (C ask-lpi.Symbol.name) (tripleOf 𝓤 H A ask-lpi.signature (ask-lpi.spec 𝓤 H A at-mem run))
   k-range : Triple 𝓤 (C range.Symbol.name) (tripleOf 𝓤 H A range.signature (range.spec 𝓤 H A at-mem run))
   k-wire : Triple 𝓤 (C wire.Symbol.name) (tripleOf 𝓤 H A wire.signature (wire.spec 𝓤 H A at-mem run))
+  k-one : Triple 𝓤 (C one.Symbol.name) (tripleOf 𝓤 H A one.signature (one.spec 𝓤 H A at-mem run))
   k-verdict : Triple 𝓤 (C verdict.Symbol.name) (tripleOf 𝓤 H A verdict.signature (verdict.spec 𝓤 H A at-mem run))
 
 module _ {M : Type 1} (𝓤 : URA M) (H : Heap 𝓤) (A : Atoms 𝓤) (W : Given 𝓤 H A) (at-mem : Memory → SProp 𝓤) (run : Routine → Fun 𝓤) (𝓣 : Tables 𝓤 H) (known : Known 𝓤 H A at-mem run (𝓣 .C)) where
@@ -88,6 +100,9 @@ module _ {M : Type 1} (𝓤 : URA M) (H : Heap 𝓤) (A : Atoms 𝓤) (W : Given
 
   abbrev Se : Plain
   Se = declaredAs 𝓤 H A W S.the-type S′.the-laws
+
+  abbrev Bo : Plain
+  Bo = booleanAs 𝓤 H A W
 
   make-query : Makes 𝓤 H A Q.the-row (Is Q.the-row)
   make-query = EE.makes Q.the-type Q′.the-plain 𝓤 H A
@@ -134,6 +149,26 @@ module _ {M : Type 1} (𝓤 : URA M) (H : Heap 𝓤) (A : Atoms 𝓤) (W : Given
         (LL.makes R.the-type R′.the-plain 𝓤 H A, tt) (r-is, tt) (id⊢ 𝓤 (emp 𝓤)) (λ d e. id⊢ 𝓤 _)
 
     module _ (y-is : Is Q.the-row y (Qu .val y ∷ [])) where
+      for-mmio-made : Gives 𝓤 H A W (𝓣 .C) hold for-mmio.Symbol.name (Qu .val y ∷ []) (valueAs Bo) (λ d. d ≡ asked y .mmio .go)
+      for-mmio-made =
+          covered 𝓤 H A W (𝓣 .C) (fmOf 𝓤 H (W .laws) 𝓣) hold for-mmio.Symbol.name Bo (λ d. d ≡ asked y .mmio .go) (for-mmio.signature .params) (for-mmio.ended .kept) (for-mmio.clauses 𝓤 H A at-mem run) (known .k-for-mmio) (y, tt) (Qu .val y ∷ [], tt) tt
+          (make-query, tt) (y-is, tt) (id⊢ 𝓤 (emp 𝓤)) (λ d e. id⊢ 𝓤 _)
+
+      for-pio-made : Gives 𝓤 H A W (𝓣 .C) hold for-pio.Symbol.name (Qu .val y ∷ []) (valueAs Bo) (λ d. d ≡ asked y .pio .go)
+      for-pio-made =
+          covered 𝓤 H A W (𝓣 .C) (fmOf 𝓤 H (W .laws) 𝓣) hold for-pio.Symbol.name Bo (λ d. d ≡ asked y .pio .go) (for-pio.signature .params) (for-pio.ended .kept) (for-pio.clauses 𝓤 H A at-mem run) (known .k-for-pio) (y, tt) (Qu .val y ∷ [], tt) tt
+          (make-query, tt) (y-is, tt) (id⊢ 𝓤 (emp 𝓤)) (λ d e. id⊢ 𝓤 _)
+
+      for-input-made : Gives 𝓤 H A W (𝓣 .C) hold for-input.Symbol.name (Qu .val y ∷ []) (valueAs Bo) (λ d. d ≡ asked y .input .go)
+      for-input-made =
+          covered 𝓤 H A W (𝓣 .C) (fmOf 𝓤 H (W .laws) 𝓣) hold for-input.Symbol.name Bo (λ d. d ≡ asked y .input .go) (for-input.signature .params) (for-input.ended .kept) (for-input.clauses 𝓤 H A at-mem run) (known .k-for-input) (y, tt) (Qu .val y ∷ [], tt) tt
+          (make-query, tt) (y-is, tt) (id⊢ 𝓤 (emp 𝓤)) (λ d e. id⊢ 𝓤 _)
+
+      for-host-made : Gives 𝓤 H A W (𝓣 .C) hold for-host.Symbol.name (Qu .val y ∷ []) (valueAs Bo) (λ d. d ≡ asked y .host .go)
+      for-host-made =
+          covered 𝓤 H A W (𝓣 .C) (fmOf 𝓤 H (W .laws) 𝓣) hold for-host.Symbol.name Bo (λ d. d ≡ asked y .host .go) (for-host.signature .params) (for-host.ended .kept) (for-host.clauses 𝓤 H A at-mem run) (known .k-for-host) (y, tt) (Qu .val y ∷ [], tt) tt
+          (make-query, tt) (y-is, tt) (id⊢ 𝓤 (emp 𝓤)) (λ d e. id⊢ 𝓤 _)
+
       mmio-made : Gives 𝓤 H A W (𝓣 .C) hold ask-mmio.Symbol.name (Qu .val y ∷ []) (valueAs As) (λ d. d ≡ asked y .mmio)
       mmio-made =
           covered 𝓤 H A W (𝓣 .C) (fmOf 𝓤 H (W .laws) 𝓣) hold ask-mmio.Symbol.name As (λ d. d ≡ asked y .mmio) (ask-mmio.signature .params) (ask-mmio.ended .kept) (ask-mmio.clauses 𝓤 H A at-mem run) (known .k-ask-mmio) (y, tt) (Qu .val y ∷ [], tt) tt
@@ -169,6 +204,11 @@ module _ {M : Type 1} (𝓤 : URA M) (H : Heap 𝓤) (A : Atoms 𝓤) (W : Given
           covered 𝓤 H A W (𝓣 .C) (fmOf 𝓤 H (W .laws) 𝓣) hold ask-lpi.Symbol.name As (λ z. z ≡ asked y .lpi e) (ask-lpi.signature .params) (ask-lpi.ended .kept) (ask-lpi.clauses 𝓤 H A at-mem run) (known .k-ask-lpi) (y, (e, tt)) (Qu .val y ∷ [], (Se .val e ∷ [], tt)) tt
           (make-query, (make-seen, tt)) (y-is, (e-is, tt)) (id⊢ 𝓤 (emp 𝓤)) (λ z e. id⊢ 𝓤 _)
 
+      one-made : (x : Seen) → Is S.the-row x (Se .val x ∷ []) → Gives 𝓤 H A W (𝓣 .C) hold one.Symbol.name (Qu .val y ∷ Se .val x ∷ []) (valueAs Fo) (λ v. v ≡ verdictOf y x x x x x x x)
+      one-made x x-is =
+          covered 𝓤 H A W (𝓣 .C) (fmOf 𝓤 H (W .laws) 𝓣) hold one.Symbol.name Fo (λ v. v ≡ verdictOf y x x x x x x x) (one.signature .params) (one.ended .kept) (one.clauses 𝓤 H A at-mem run) (known .k-one) (y, (x, tt)) (Qu .val y ∷ [], (Se .val x ∷ [], tt)) tt
+          (make-query, (make-seen, tt)) (y-is, (x-is, tt)) (id⊢ 𝓤 (emp 𝓤)) (λ v e. id⊢ 𝓤 _)
+
       verdict-made : (m p w j d e l : Seen) → Is S.the-row m (Se .val m ∷ []) → Is S.the-row p (Se .val p ∷ []) → Is S.the-row w (Se .val w ∷ []) → Is S.the-row j (Se .val j ∷ []) → Is S.the-row d (Se .val d ∷ []) → Is S.the-row e (Se .val e ∷ []) → Is S.the-row l (Se .val l ∷ [])
           → Gives 𝓤 H A W (𝓣 .C) hold verdict.Symbol.name (Qu .val y ∷ Se .val m ∷ Se .val p ∷ Se .val w ∷ Se .val j ∷ Se .val d ∷ Se .val e ∷ Se .val l ∷ []) (valueAs Fo) (λ v. v ≡ verdictOf y m p w j d e l)
       verdict-made m p w j d e l m-is p-is w-is j-is d-is e-is l-is =
@@ -195,26 +235,41 @@ module _ {M : Type 1} (𝓤 : URA M) (H : Heap 𝓤) (A : Atoms 𝓤) (W : Given
       wire-seen : WireAsks (h .auto .input) (h .fixed .input) (h .owners .input) x → Gives 𝓤 H A W (𝓣 .C) hold wire.Symbol.name (flat (typesAt (slots 𝓤 H A W κ q r wired) (κ, tt)) (valsOf 𝓤 H A W κ q r wired)) (valueAs Se) (SeesWire (h .auto .input) (h .fixed .input) (h .owners .input) x)
       wire-seen asked = passing 𝓤 H A W κ q r (𝓣 .C) (fmOf 𝓤 H (W .laws) 𝓣) wire.Symbol.name Se (SeesWire (h .auto .input) (h .fixed .input) (h .owners .input) x) wired (wire.ended .kept) (wire.clauses 𝓤 H A at-mem run) (known .k-wire) (λ γs. tt) (λ γs. factI 𝓤 _ (emp 𝓤) asked) (λ γs d e. id⊢ 𝓤 _)
 
-    walk : Runs W (𝓣 .C) hold (f.Code.function .locals) (After 𝓤 H A W (f.signature .params) (f.ended .kept) Fo (f.clauses 𝓤 H A at-mem run) κ q bounds a vss tt) (none ∷ given W (flat (typesAt (f.signature .params) (κ, tt)) vss)) (f.Code.function .body)
+    abbrev Ends : Body → Store → Type 1
+    Ends c σ = Runs W (𝓣 .C) hold (f.Code.function .locals) (After 𝓤 H A W (f.signature .params) (f.ended .kept) Fo (f.clauses 𝓤 H A at-mem run) κ q bounds a vss tt) σ c
+
+    -- the verdict is returned
+    returned : (m p w j d e l : Seen) → Is F.the-row (verdictOf y m p w j d e l) (Fo .val (verdictOf y m p w j d e l) ∷ []) → SeeingOwn h y m p w j d e l → {σ : Store} → val 0 σ ≡ some (Fo .val (verdictOf y m p w j d e l)) → Ends return σ
+    returned m p w j d e l v-is seen e₀ = back (Fo .val (verdictOf y m p w j d e l)) e₀ tt
+        (ends 𝓤 H A W (f.signature .params) (f.ended .kept) Fo (f.clauses 𝓤 H A at-mem run) (LL.makes F.the-type F′.the-plain 𝓤 H A) κ q bounds a vss tt (verdictOf y m p w j d e l) v-is (tt, (tt, tt)) (factI 𝓤 _ (emp 𝓤) (own-finds h (a .1 .0) m p w j d e l ok seen)))
+
+    walk : Ends (f.Code.function .body) (none ∷ given W (flat (typesAt (f.signature .params) (κ, tt)) vss))
     walk =
         make (valueAs Qu) y (arg refl tt nil) query-made tt refl (λ y-is.
+        make (valueAs Bo) (asked y .mmio .go) (arg refl tt nil) (for-mmio-made y-is) tt refl (λ b-is. leave (asked y .mmio .go) refl tt (λ yes.
         point {b = b} {o = o} {a = (o + auto-at) + pool-at mmio} refl refl tt tt (tt, tt) (point {b = b} {o = o} {a = (o + fixed-at) + pool-at mmio} refl refl tt tt (tt, tt) (point {b = b} {o = o} {a = (o + owners-at) + holder-at mmio} refl refl tt tt (tt, tt) (make (valueAs As) (asked y .mmio) (arg refl tt nil) (mmio-made y-is) tt refl (λ x-is.
-        get (valueAs Se) (Sees (h .auto .mmio) (h .fixed .mmio) (h .owners .mmio) (asked y .mmio)) (arg refl tt (arg refl tt (arg refl tt (arg refl tt nil)))) (range-seen mmio (λ p. p .mmio) (λ p. p .mmio) (mmio-pool 𝓤 H A W) (mmio-holder 𝓤 H A W) (asked y .mmio) x-is (may .mmio)) tt refl (λ m m-is m-seen.
+        get (valueAs Se) (Sees (h .auto .mmio) (h .fixed .mmio) (h .owners .mmio) (asked y .mmio)) (arg refl tt (arg refl tt (arg refl tt (arg refl tt nil)))) (range-seen mmio (λ p. p .mmio) (λ p. p .mmio) (mmio-pool 𝓤 H A W) (mmio-holder 𝓤 H A W) (asked y .mmio) x-is (may .mmio)) tt refl (λ z z-is z-seen.
+        make (valueAs Fo) (verdictOf y z z z z z z z) (arg refl tt (arg refl tt nil)) (one-made y-is z z-is) tt refl (λ v-is. returned z z z z z z z v-is (mmio-seen h z y yes z-seen) refl))))))) (λ no-mmio.
+        make (valueAs Bo) (asked y .pio .go) (arg refl tt nil) (for-pio-made y-is) tt refl (λ b-is. leave (asked y .pio .go) refl tt (λ yes.
         point {b = b} {o = o} {a = (o + auto-at) + pool-at pio} refl refl tt tt (tt, tt) (point {b = b} {o = o} {a = (o + fixed-at) + pool-at pio} refl refl tt tt (tt, tt) (point {b = b} {o = o} {a = (o + owners-at) + holder-at pio} refl refl tt tt (tt, tt) (make (valueAs As) (asked y .pio) (arg refl tt nil) (pio-made y-is) tt refl (λ x-is.
-        get (valueAs Se) (Sees (h .auto .pio) (h .fixed .pio) (h .owners .pio) (asked y .pio)) (arg refl tt (arg refl tt (arg refl tt (arg refl tt nil)))) (range-seen pio (λ p. p .pio) (λ p. p .pio) (pio-pool 𝓤 H A W) (pio-holder 𝓤 H A W) (asked y .pio) x-is (may .pio)) tt refl (λ p p-is p-seen.
+        get (valueAs Se) (Sees (h .auto .pio) (h .fixed .pio) (h .owners .pio) (asked y .pio)) (arg refl tt (arg refl tt (arg refl tt (arg refl tt nil)))) (range-seen pio (λ p. p .pio) (λ p. p .pio) (pio-pool 𝓤 H A W) (pio-holder 𝓤 H A W) (asked y .pio) x-is (may .pio)) tt refl (λ z z-is z-seen.
+        make (valueAs Fo) (verdictOf y z z z z z z z) (arg refl tt (arg refl tt nil)) (one-made y-is z z-is) tt refl (λ v-is. returned z z z z z z z v-is (pio-seen h z y yes z-seen) refl))))))) (λ no-pio.
+        make (valueAs Bo) (asked y .input .go) (arg refl tt nil) (for-input-made y-is) tt refl (λ b-is. leave (asked y .input .go) refl tt (λ yes.
         point {b = b} {o = o} {a = (o + auto-at) + pool-at input} refl refl tt tt (tt, tt) (point {b = b} {o = o} {a = (o + fixed-at) + pool-at input} refl refl tt tt (tt, tt) (point {b = b} {o = o} {a = (o + owners-at) + holder-at input} refl refl tt tt (tt, tt) (make (valueAs Xs) (asked y .input) (arg refl tt nil) (input-made y-is) tt refl (λ x-is.
-        get (valueAs Se) (SeesWire (h .auto .input) (h .fixed .input) (h .owners .input) (asked y .input)) (arg refl tt (arg refl tt (arg refl tt (arg refl tt nil)))) (wire-seen (asked y .input) x-is (may .input)) tt refl (λ w w-is w-seen.
+        get (valueAs Se) (SeesWire (h .auto .input) (h .fixed .input) (h .owners .input) (asked y .input)) (arg refl tt (arg refl tt (arg refl tt (arg refl tt nil)))) (wire-seen (asked y .input) x-is (may .input)) tt refl (λ z z-is z-seen.
+        make (valueAs Fo) (verdictOf y z z z z z z z) (arg refl tt (arg refl tt nil)) (one-made y-is z z-is) tt refl (λ v-is. returned z z z z z z z v-is (input-seen h z y yes z-seen) refl))))))) (λ no-input.
+        make (valueAs Bo) (asked y .host .go) (arg refl tt nil) (for-host-made y-is) tt refl (λ b-is. leave (asked y .host .go) refl tt (λ yes.
         point {b = b} {o = o} {a = (o + auto-at) + pool-at host} refl refl tt tt (tt, tt) (point {b = b} {o = o} {a = (o + fixed-at) + pool-at host} refl refl tt tt (tt, tt) (point {b = b} {o = o} {a = (o + owners-at) + holder-at host} refl refl tt tt (tt, tt) (make (valueAs As) (asked y .host) (arg refl tt nil) (host-made y-is) tt refl (λ x-is.
-        get (valueAs Se) (Sees (h .auto .host) (h .fixed .host) (h .owners .host) (asked y .host)) (arg refl tt (arg refl tt (arg refl tt (arg refl tt nil)))) (range-seen host (λ p. p .host) (λ p. p .host) (host-pool 𝓤 H A W) (host-holder 𝓤 H A W) (asked y .host) x-is (may .host)) tt refl (λ j j-is j-seen.
+        get (valueAs Se) (Sees (h .auto .host) (h .fixed .host) (h .owners .host) (asked y .host)) (arg refl tt (arg refl tt (arg refl tt (arg refl tt nil)))) (range-seen host (λ p. p .host) (λ p. p .host) (host-pool 𝓤 H A W) (host-holder 𝓤 H A W) (asked y .host) x-is (may .host)) tt refl (λ z z-is z-seen.
+        make (valueAs Fo) (verdictOf y z z z z z z z) (arg refl tt (arg refl tt nil)) (one-made y-is z z-is) tt refl (λ v-is. returned z z z z z z z v-is (host-seen h z y yes z-seen) refl))))))) (λ no-host.
         point {b = b} {o = o} {a = (o + auto-at) + pool-at device} refl refl tt tt (tt, tt) (point {b = b} {o = o} {a = (o + fixed-at) + pool-at device} refl refl tt tt (tt, tt) (point {b = b} {o = o} {a = (o + owners-at) + holder-at device} refl refl tt tt (tt, tt) (make (valueAs As) (asked y .device) (arg refl tt nil) (device-made y-is) tt refl (λ x-is.
         get (valueAs Se) (Sees (h .auto .device) (h .fixed .device) (h .owners .device) (asked y .device)) (arg refl tt (arg refl tt (arg refl tt (arg refl tt nil)))) (range-seen device (λ p. p .device) (λ p. p .device) (device-pool 𝓤 H A W) (device-holder 𝓤 H A W) (asked y .device) x-is (may .device)) tt refl (λ d d-is d-seen.
         point {b = b} {o = o} {a = (o + auto-at) + pool-at event} refl refl tt tt (tt, tt) (point {b = b} {o = o} {a = (o + fixed-at) + pool-at event} refl refl tt tt (tt, tt) (point {b = b} {o = o} {a = (o + owners-at) + holder-at event} refl refl tt tt (tt, tt) (make (valueAs As) (asked y .event d) (arg refl tt (arg refl tt nil)) (event-made y-is d d-is) tt refl (λ x-is.
         get (valueAs Se) (Sees (h .auto .event) (h .fixed .event) (h .owners .event) (asked y .event d)) (arg refl tt (arg refl tt (arg refl tt (arg refl tt nil)))) (range-seen event (λ p. p .event) (λ p. p .event) (event-pool 𝓤 H A W) (event-holder 𝓤 H A W) (asked y .event d) x-is (may .event d)) tt refl (λ e e-is e-seen.
         point {b = b} {o = o} {a = (o + auto-at) + pool-at lpi} refl refl tt tt (tt, tt) (point {b = b} {o = o} {a = (o + fixed-at) + pool-at lpi} refl refl tt tt (tt, tt) (point {b = b} {o = o} {a = (o + owners-at) + holder-at lpi} refl refl tt tt (tt, tt) (make (valueAs As) (asked y .lpi e) (arg refl tt (arg refl tt nil)) (lpi-made y-is e e-is) tt refl (λ x-is.
         get (valueAs Se) (Sees (h .auto .lpi) (h .fixed .lpi) (h .owners .lpi) (asked y .lpi e)) (arg refl tt (arg refl tt (arg refl tt (arg refl tt nil)))) (range-seen lpi (λ p. p .lpi) (λ p. p .lpi) (lpi-pool 𝓤 H A W) (lpi-holder 𝓤 H A W) (asked y .lpi e) x-is (may .lpi e)) tt refl (λ l l-is l-seen.
-        make (valueAs Fo) (verdictOf y m p w j d e l) (arg refl tt (arg refl tt (arg refl tt (arg refl tt (arg refl tt (arg refl tt (arg refl tt (arg refl tt (nil))))))))) (verdict-made y-is m p w j d e l m-is p-is w-is j-is d-is e-is l-is) tt refl (λ v-is. back (Fo .val (verdictOf y m p w j d e l)) refl tt
-        (ends 𝓤 H A W (f.signature .params) (f.ended .kept) Fo (f.clauses 𝓤 H A at-mem run) (LL.makes F.the-type F′.the-plain 𝓤 H A) κ q bounds a vss tt (verdictOf y m p w j d e l) v-is (tt, (tt, tt))
-        (factI 𝓤 _ (emp 𝓤) (finds h (a .1 .0) m p w j d e l ok (record { mmio = m-seen; pio = p-seen; input = w-seen; host = j-seen; device = d-seen; event = e-seen; lpi = l-seen })))))))))))))))))))))))))))))))))))))))))
+        make (valueAs Fo) (verdictOf y d d d d d e l) (arg refl tt (arg refl tt (arg refl tt (arg refl tt (arg refl tt (arg refl tt (arg refl tt (arg refl tt (nil))))))))) (verdict-made y-is d d d d d e l d-is d-is d-is d-is d-is e-is l-is) tt refl (λ v-is.
+        returned d d d d d e l v-is (three-seen h d e l y no-mmio no-pio no-input no-host d-seen e-seen l-seen) refl)))))))))))))))))))))))))
 
   f-meets : Meets 𝓤 H A f.signature (WpFn 𝓤 H (𝓣 .C) (𝓣 .Λ) f.Code.function) (f.spec 𝓤 H A at-mem run)
   f-meets =
@@ -229,6 +284,10 @@ find-spec 𝓤 H 𝓜 𝓖 𝓡 =
     (tables 𝓤 H 𝓜 𝓡 f.Code.env .C) (tables 𝓤 H 𝓜 𝓡 f.Code.env .Λ) f.Key.name f.Code.function (f.Code.unfolded 𝓤 H 𝓜 𝓡)
     (f-meets 𝓤 H (𝓖 .A) (givenOf 𝓤 H 𝓜 𝓖) (𝓜 .mem) (𝓡 .run) (tablesOf 𝓤 H 𝓜 (tables 𝓤 H 𝓜 𝓡 f.Code.env)) (record {
       k-queried = cited 𝓤 H (tripleOf 𝓤 H (𝓖 .A) queried.signature (queried.spec 𝓤 H (𝓖 .A) (𝓜 .mem) (𝓡 .run))) 𝓜 𝓡 f.Code.env queried.Symbol.name queried.Symbol.routine f.Code.calls-decide·queried (queried.Met.met 𝓤 H 𝓜 𝓖 𝓡);
+      k-for-mmio = cited 𝓤 H (tripleOf 𝓤 H (𝓖 .A) for-mmio.signature (for-mmio.spec 𝓤 H (𝓖 .A) (𝓜 .mem) (𝓡 .run))) 𝓜 𝓡 f.Code.env for-mmio.Symbol.name for-mmio.Symbol.routine f.Code.calls-decide·ask·for-mmio (for-mmio.Met.met 𝓤 H 𝓜 𝓖 𝓡);
+      k-for-pio = cited 𝓤 H (tripleOf 𝓤 H (𝓖 .A) for-pio.signature (for-pio.spec 𝓤 H (𝓖 .A) (𝓜 .mem) (𝓡 .run))) 𝓜 𝓡 f.Code.env for-pio.Symbol.name for-pio.Symbol.routine f.Code.calls-decide·ask·for-pio (for-pio.Met.met 𝓤 H 𝓜 𝓖 𝓡);
+      k-for-input = cited 𝓤 H (tripleOf 𝓤 H (𝓖 .A) for-input.signature (for-input.spec 𝓤 H (𝓖 .A) (𝓜 .mem) (𝓡 .run))) 𝓜 𝓡 f.Code.env for-input.Symbol.name for-input.Symbol.routine f.Code.calls-decide·ask·for-input (for-input.Met.met 𝓤 H 𝓜 𝓖 𝓡);
+      k-for-host = cited 𝓤 H (tripleOf 𝓤 H (𝓖 .A) for-host.signature (for-host.spec 𝓤 H (𝓖 .A) (𝓜 .mem) (𝓡 .run))) 𝓜 𝓡 f.Code.env for-host.Symbol.name for-host.Symbol.routine f.Code.calls-decide·ask·for-host (for-host.Met.met 𝓤 H 𝓜 𝓖 𝓡);
       k-ask-mmio = cited 𝓤 H (tripleOf 𝓤 H (𝓖 .A) ask-mmio.signature (ask-mmio.spec 𝓤 H (𝓖 .A) (𝓜 .mem) (𝓡 .run))) 𝓜 𝓡 f.Code.env ask-mmio.Symbol.name ask-mmio.Symbol.routine f.Code.calls-decide·ask·mmio (ask-mmio.Met.met 𝓤 H 𝓜 𝓖 𝓡);
       k-ask-pio = cited 𝓤 H (tripleOf 𝓤 H (𝓖 .A) ask-pio.signature (ask-pio.spec 𝓤 H (𝓖 .A) (𝓜 .mem) (𝓡 .run))) 𝓜 𝓡 f.Code.env ask-pio.Symbol.name ask-pio.Symbol.routine f.Code.calls-decide·ask·pio (ask-pio.Met.met 𝓤 H 𝓜 𝓖 𝓡);
       k-ask-input = cited 𝓤 H (tripleOf 𝓤 H (𝓖 .A) ask-input.signature (ask-input.spec 𝓤 H (𝓖 .A) (𝓜 .mem) (𝓡 .run))) 𝓜 𝓡 f.Code.env ask-input.Symbol.name ask-input.Symbol.routine f.Code.calls-decide·ask·input (ask-input.Met.met 𝓤 H 𝓜 𝓖 𝓡);
@@ -238,5 +297,6 @@ find-spec 𝓤 H 𝓜 𝓖 𝓡 =
       k-ask-lpi = cited 𝓤 H (tripleOf 𝓤 H (𝓖 .A) ask-lpi.signature (ask-lpi.spec 𝓤 H (𝓖 .A) (𝓜 .mem) (𝓡 .run))) 𝓜 𝓡 f.Code.env ask-lpi.Symbol.name ask-lpi.Symbol.routine f.Code.calls-decide·ask·lpi (ask-lpi.Met.met 𝓤 H 𝓜 𝓖 𝓡);
       k-range = cited 𝓤 H (tripleOf 𝓤 H (𝓖 .A) range.signature (range.spec 𝓤 H (𝓖 .A) (𝓜 .mem) (𝓡 .run))) 𝓜 𝓡 f.Code.env range.Symbol.name range.Symbol.routine f.Code.calls-look·range (range.Met.met 𝓤 H 𝓜 𝓖 𝓡);
       k-wire = cited 𝓤 H (tripleOf 𝓤 H (𝓖 .A) wire.signature (wire.spec 𝓤 H (𝓖 .A) (𝓜 .mem) (𝓡 .run))) 𝓜 𝓡 f.Code.env wire.Symbol.name wire.Symbol.routine f.Code.calls-look·wire (wire.Met.met 𝓤 H 𝓜 𝓖 𝓡);
+      k-one = cited 𝓤 H (tripleOf 𝓤 H (𝓖 .A) one.signature (one.spec 𝓤 H (𝓖 .A) (𝓜 .mem) (𝓡 .run))) 𝓜 𝓡 f.Code.env one.Symbol.name one.Symbol.routine f.Code.calls-decide·one (one.Met.met 𝓤 H 𝓜 𝓖 𝓡);
       k-verdict = cited 𝓤 H (tripleOf 𝓤 H (𝓖 .A) verdict.signature (verdict.spec 𝓤 H (𝓖 .A) (𝓜 .mem) (𝓡 .run))) 𝓜 𝓡 f.Code.env verdict.Symbol.name verdict.Symbol.routine f.Code.calls-decide·verdict (verdict.Met.met 𝓤 H 𝓜 𝓖 𝓡);
     }))

@@ -1,0 +1,18 @@
+-- The query's own table, or another. Assumes nothing.
+use mathlib.Core.Path.{sym, ap}
+use borrow.Author.Needs.{needs}
+use Rattle.decide.proofs.ElseLaws.{ask-else}
+use Rattle.decide.proofs.ask.for_mmio.Statement.{statement}
+use Rattle.decide.proofs.ask.for_mmio.Tie as tie
+
+enum-told : tie.Need-enum-told
+enum-told c = search needs
+
+returns : tie.Need-returns
+returns c = search needs
+
+returns-2 : tie.Need-returns-2
+returns-2 c = sym (ap (λ a. a .go) (ask-else (c .before .args .q) .mmio (c .match .keys2)))
+
+pub for-mmio-spec : {M : Type 1} → statement M
+for-mmio-spec = tie.close (tie.spec enum-told returns returns-2)
