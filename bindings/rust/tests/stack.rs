@@ -1,11 +1,11 @@
-//! Requests, plans and calls that add or start on a stack of 64 KB, as a hypervisor's thread has it: through the C face the same answers, records and states as on a
+//! Requests, plans, calls that add or start, and reading back on a stack of 64 KB, as a hypervisor's thread has it: through the C face the same answers, records and states as on a
 //! large one; through the wrapper what it grants. A text on a stack of 64 KB beside the state that it keeps there.
 
 mod common;
 
 use common::{
     mixed, numbers, on_stack, planner_allocate, planner_call, planner_pin, planner_plan,
-    planner_text, stand,
+    planner_read, planner_text, stand,
 };
 use thurgoleo::{Plan, STATE_SIZE, TEXT_OUTPUT};
 
@@ -149,6 +149,43 @@ fn calls_that_add_or_start() {
         assert_eq!(same(planner_call, &unsound, call, 0).0, 1);
     }
     assert_eq!(accepted, 15);
+}
+
+unsafe extern "C" fn read(
+    state: *mut u64,
+    size: u64,
+    what: *const u64,
+    n: usize,
+    out: *mut u64,
+    m: usize,
+) -> u64 {
+    planner_read(state, size, what, n, out, m)
+}
+
+#[test]
+fn the_answer_and_every_table_read_back() {
+    let state = stand().as_words().to_vec();
+    let (number, after, told) = same(read, &state, &[0], 5);
+    assert_eq!((number, after), (0, state.clone()));
+    assert_eq!(told, state[state.len() - 5..]);
+    for part in 0..6 {
+        for kind in 0..9 {
+            for row in [0, 31, 32, 127, 128] {
+                let rows = [0, 32, 32, 128, 128, 0][part as usize];
+                let there = row < rows && (1..8).contains(&kind);
+                let (number, after, told) = same(read, &state, &[part, kind, row], 9);
+                assert_eq!(after, state);
+                if part > 0 {
+                    assert_eq!(number, if there { 0 } else { 2 });
+                    assert_eq!(told == [5; 9], !there);
+                }
+            }
+        }
+    }
+    // no room for a row; a list that is too short; none
+    assert_eq!(same(read, &state, &[4, 1, 0], 8).0, 11);
+    assert_eq!(same(read, &state, &[4, 1], 9).0, 11);
+    assert_eq!(same(read, &state, &[], 9).0, 11);
 }
 
 #[test]

@@ -1,6 +1,5 @@
 pub mod SizeLaws
 pub mod FaceWalk
 pub mod PlanWalk
-pub mod ReadWalk
 pub mod FreshWalk
 pub mod FilledLaws

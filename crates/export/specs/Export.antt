@@ -11,7 +11,7 @@ use Rattle.tables.specs.Whole.{freshState}
 use Rattle.tables.specs.declared.State.{State}
 use Rattle.text.specs.Respond.{Replied}
 use Rattle.face.specs.Lent.{filledIn}
-use Rattle.face.specs.Rows.{Told, told}
+use Rattle.face.specs.Rows.{answerSize, Told, told}
 
 -- ---- the bytes of a state
 
@@ -33,7 +33,7 @@ wiresSize = tableSize rowLimit (4 + 8 + 4 + 4 + 4)
 
 -- automatic and fixed pools of each kind; reservations and owners of inputs and of each other kind; the answer's five numbers
 abbrev pub stateSize : ℕ
-stateSize = 2 * (length kinds * poolSize) + 2 * (wiresSize + (length kinds - 1) * rangesSize) + 5 * 8
+stateSize = 2 * (length kinds * poolSize) + 2 * (wiresSize + (length kinds - 1) * rangesSize) + answerSize * 8
 
 -- ---- what a call leaves and answers
 

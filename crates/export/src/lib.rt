@@ -1,8 +1,13 @@
-// The planner for callers in C and Rust. The state is the caller's memory, lent with its size: a state of another size is not touched and answers 1.
+// The planner for callers in C and Rust. The state is the caller's memory, lent with its size: with another number for its size a state is left as it was, and the answer is 1.
 // Numbers come and go in lists. Nothing is required of them: whatever cannot be read gets its refusal.
+use face::ANSWER;
 use face::back::filled;
-use face::back::read;
+use face::back::tell_read;
+use face::back::which;
+use face::row::row;
 use lent::Marks;
+use tables::POOL_ROWS;
+use tables::ROWS;
 use tables::State;
 use tables::fresh;
 use text::respond;
@@ -17,8 +22,15 @@ ghost use Rattle.pin.specs.Pin.{pinnedNumbers};
 ghost use Rattle.text.specs.Respond.{respondsTo};
 ghost use Rattle.export.specs.Export.{stateSize, begun, sizedFresh, answered, sized, numbered, counted, sizedRead, bytesTold};
 
-// The bytes of a state.
-const STATE: u64 = 66312;
+// The bytes of a table: its count, and its rows, column by column. (Were ROWS odd, columns would be padded: `size-is` then refuses these numbers.)
+const POOL: usize = 8 + POOL_ROWS * (4 + 4 + 8 + 8);
+
+const RANGES: usize = 8 + ROWS * (4 + 4 + 4 + 8 + 8 + 4);
+
+const WIRES: usize = 8 + ROWS * (4 + 8 + 4 + 4 + 4);
+
+// The bytes of a state: automatic and fixed pools of seven kinds; reservations and owners of inputs and of six kinds of ranges; the answer.
+const STATE: u64 = (2 * 7 * POOL + 2 * (WIRES + 6 * RANGES) + 8 * ANSWER) as u64;
 
 // How many bytes a state has.
 #[no_mangle]
@@ -107,7 +119,10 @@ pub extern "C" fn planner_read(state: &State, size: u64, what: &[u64], out: &mut
     ensures { λ r. ⌜ told r (now (out .exit)) ≡ sizedRead size (now (out .entry)) (readTold (now (what .entry)) (stateView (now (state .entry))) (now (out .entry))) ⌝ }
 {
     if size == STATE {
-        return read(*state, what, out);
+        let k = which(what);
+        let x = row(state, k);
+        let m = lent::peek(state);
+        return tell_read(k, m, x, out);
     }
     1
 }

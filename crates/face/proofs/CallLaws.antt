@@ -18,7 +18,7 @@ use Rattle.request.specs.declared.Request.{Request}
 use Rattle.request.specs.declared.call.Call.{Call}
 use Rattle.request.specs.declared.call.Call.the-variants.{Want, Bad}
 use Rattle.door.specs.Served.{serveOf}
-use Rattle.flat.specs.Flat.{requestAt}
+use Rattle.flat.specs.Flat.{requestSize, requestAt}
 use Rattle.coding.specs.Coding.{addingIn, sizeIn}
 use Rattle.coding.proofs.SizeLaws.{size-asks}
 use Rattle.face.specs.Face.{number, addingAt, asks, callAt, callSize, judged, faceCall}
@@ -34,7 +34,7 @@ pub part-is : (xs : List ℕ) → take (length xs - 1) (drop 1 xs) ≡ drop 1 xs
 part-is [] = refl
 part-is (x ∷ xs) = let z : suc (length xs) - 1 ≡ length xs = omega arith in ap (λ (m : ℕ). take m xs) z ∙ take-whole xs
 
-pub behind-first : (xs : List ℕ) → 13 ≤ length xs → 12 ≤ length (drop 1 xs)
+pub behind-first : (xs : List ℕ) → suc requestSize ≤ length xs → requestSize ≤ length (drop 1 xs)
 behind-first [] h = absurd (omega arith)
 behind-first (x ∷ xs) h = omega arith
 
@@ -56,11 +56,11 @@ module _ (xs : List ℕ) (first kind size : ℕ) (e₀ : first ≡ number xs 0) 
   size-is : size ≡ callSize xs
   size-is = e ∙ ap₂ sizeIn e₀ e₂
 
-  pub long-to-ask : size ≤ length xs → first ≡ 4 → 13 ≤ length xs
-  long-to-ask h f = let z : size ≡ 13 = e ∙ ap (λ (n : ℕ). sizeIn n kind) f ∙ size-asks kind in omega arith
+  pub long-to-ask : size ≤ length xs → first ≡ 4 → suc requestSize ≤ length xs
+  long-to-ask h f = let z : size ≡ suc requestSize = e ∙ ap (λ (n : ℕ). sizeIn n kind) f ∙ size-asks kind in omega arith
 
-  pub room-to-ask : size ≤ length xs → first ≡ 4 → 12 ≤ length (take (length xs - 1) (drop 1 xs))
-  room-to-ask h f = subst (λ (l : List ℕ). 12 ≤ length l) (sym (part-is xs)) (behind-first xs (long-to-ask h f))
+  pub room-to-ask : size ≤ length xs → first ≡ 4 → requestSize ≤ length (take (length xs - 1) (drop 1 xs))
+  room-to-ask h f = subst (λ (l : List ℕ). requestSize ≤ length l) (sym (part-is xs)) (behind-first xs (long-to-ask h f))
 
   pub reads-want : size ≤ length xs → first ≡ 4 → (r : Request) → requestOf r ≡ requestAt (take (length xs - 1) (drop 1 xs)) 0 → Reads xs (record { whole = true; asks = true; call = Want r })
   reads-want h f r g = record {

@@ -2,3 +2,4 @@ pub mod Face
 pub mod Rows
 pub mod Lent
 pub mod Reading
+pub mod Back

@@ -1,18 +1,17 @@
 -- A table's row as plain numbers, for callers outside, as it is stored: nothing is judged. Assumes nothing.
-use mathlib.Core.Path.{_≡_}
 use mathlib.Core.Bool.{Bool, true, false, _&&_}
 use mathlib.Core.List.{List, [], _∷_}
 use Prim.Native.Nat.{ℕ}
 use lib.Dec.{leb, ltb}
 use lib.ListN.{length, getD}
-use Rattle.definition.specs.Tables.{poolLimit, rowLimit, Kind, mmio, kinds, nature, Span, Row, Table, blankSpan, blankRow}
+use Rattle.definition.specs.Tables.{poolLimit, rowLimit, recordSize, Kind, mmio, input, kinds, nature, Span, Row, Table, blankSpan, blankRow}
 use Rattle.definition.specs.Request.{automatic, fixed}
 use Rattle.definition.specs.Calls.{State}
 use Rattle.definition.specs.Plan.{written}
 
 -- the count of used rows, then controller, ITS, device, start, end, trigger, sharing, owner
 abbrev pub rowSize : ℕ
-rowSize = 9
+rowSize = recordSize
 
 abbrev pub spanNumbers : Span → List ℕ
 spanNumbers p = p .dom .controller ∷ p .dom .its ∷ 0 ∷ p .start ∷ p .end ∷ 0 ∷ 0 ∷ 0 ∷ []
@@ -32,9 +31,8 @@ poolRow t i = t .count ∷ spanNumbers (getD (t .rows) i blankSpan)
 abbrev pub holderRow : Kind → Table Row → ℕ → List ℕ
 holderRow k t i = t .count ∷ rowNumbers (nature k .wired) (getD (t .rows) i (blankRow k))
 
--- of any kind whose rows hold ranges
-abbrev pub Ranged : Table Row → ℕ → List ℕ → Type 0
-Ranged t i xs = (k : Kind) → nature k .wired ≡ false → xs ≡ holderRow k t i
+abbrev pub inputRow : Table Row → ℕ → List ℕ
+inputRow t i = holderRow input t i
 
 -- kinds in the definition's order, from 1 on
 abbrev pub kindAt : ℕ → Kind
@@ -76,8 +74,11 @@ rowTold s part kind i out =
 
 -- ---- the five numbers of the last answer: number, index, namespace, owner, detail
 
+abbrev pub answerSize : ℕ
+answerSize = 5
+
 abbrev pub answerNumbers : State → List ℕ
 answerNumbers s = s .said .number ∷ s .said .index ∷ s .said .namespace ∷ s .said .owner ∷ s .said .detail ∷ []
 
 unfoldable pub answerTold : State → List ℕ → Told
-answerTold s out = elim (leb 5 (length out)) [ false ↦ told 11 out | true ↦ told 0 (written (answerNumbers s) out) ]
+answerTold s out = elim (leb answerSize (length out)) [ false ↦ told 11 out | true ↦ told 0 (written (answerNumbers s) out) ]

@@ -22,6 +22,9 @@ ghost use Rattle.face.specs.Reading.{Reads, servedAs, shortOf, toldBy};
 pub mod back;
 pub mod row;
 
+// The numbers of an answer: number, index, namespace, owner, detail.
+pub const ANSWER: usize = 5;
+
 // A list of numbers as it is read: whether it is as long as its call needs, whether it is a request, and the call.
 pub struct Reading {
     pub whole: bool,
@@ -143,7 +146,7 @@ pub fn serve_as(s: &mut State, k: Reading)
 pub fn tell(m: Marks, out: &mut [u64]) -> u64
     ensures { λ r. ⌜ told r (now (out .exit)) ≡ answerTold (toldBy m) (now (out .entry)) ⌝ }
 {
-    if out.len() < 5 {
+    if out.len() < ANSWER {
         return 11;
     }
     out[0] = m.number;

@@ -1,201 +1,245 @@
-// Reading back, as plain numbers: one row of any table as it is stored, and the five numbers of the last answer. Nothing is judged.
+// Reading back a row as plain numbers: every table is asked for it through a reference, and the one that has it tells it as it is stored. Nothing is judged, and no table is copied.
 use allocation::Record;
 use allocation::line;
-use tables::Holders;
+use tables::POOL_ROWS;
 use tables::Pool;
-use tables::Pools;
+use tables::ROWS;
 use tables::Ranges;
 use tables::State;
 use tables::Wires;
 ghost use mathlib.Core.Path.{_≡_};
-ghost use Prim.Native.Nat.{_<_};
-ghost use Rattle.definition.specs.Tables.{poolLimit, rowLimit, input};
-ghost use Rattle.tables.specs.Views.{poolOf, poolView, rangesView, wiresView, holdersView, stateView};
-ghost use Rattle.allocation.specs.Records.{listOf};
-ghost use Rattle.face.specs.Rows.{Ranged, poolRow, holderRow, kindAt, tellsRow, rowsIn, there, told, rowTold, answerTold};
+ghost use mathlib.Core.Option.{none};
+ghost use Rattle.definition.specs.Tables.{poolLimit, rowLimit};
+ghost use Rattle.tables.specs.Views.{pool, ranges, wires, poolView, rangesView, wiresView, stateView};
+ghost use Rattle.face.specs.Rows.{poolRow, inputRow};
+ghost use Rattle.face.specs.Back.{asked, pick, foundOf, PickedRange, rowIn};
 
-// ---- one table
+// What is to be read: whether the numbers say it whole; the part (0 is the last answer), the kind and the row.
+pub struct Which {
+    pub whole: bool,
+    pub part: u64,
+    pub kind: u64,
+    pub row: u64,
+}
 
-fn pool_row(t: Pool, i: usize) -> Record
-    requires { ⌜ i < poolLimit ⌝ }
-    ensures { λ r. ⌜ listOf r ≡ poolRow (poolView t) i ⌝ }
+// The nine numbers of a row, where a table has told them.
+pub struct Found {
+    pub there: bool,
+    pub numbers: Record,
+}
+
+// No table was asked yet.
+fn nothing() -> Found
+    ensures { λ r. ⌜ foundOf r ≡ none ⌝ }
 {
-    line(
-        t.n as u64,
-        t.controller[i] as u64,
-        t.its[i] as u64,
-        0,
-        t.start[i],
-        t.end[i],
-        0,
-        0,
-        0,
+    Found {
+        there: false,
+        numbers: line(0, 0, 0, 0, 0, 0, 0, 0, 0),
+    }
+}
+
+// ---- one table: it tells the row that is asked for, if that is one of its own; else what was found before it stays
+
+fn is_asked(k: Which, part: u64, kind: u64, rows: usize) -> bool
+    ensures { λ r. ⌜ r ≡ asked k part kind rows ⌝ }
+{
+    if k.part == part {
+        if k.row < rows as u64 {
+            return k.kind == kind;
+        }
+    }
+    false
+}
+
+fn pool_columns<'a>(
+    controller: &'a [u32; POOL_ROWS],
+    its: &'a [u32; POOL_ROWS],
+    start: &'a [u64; POOL_ROWS],
+    end: &'a [u64; POOL_ROWS],
+    n: &'a usize,
+    k: Which,
+    part: u64,
+    kind: u64,
+    before: Found,
+) -> Found
+    ensures { λ r. ⌜ foundOf r ≡ pick (asked k part kind poolLimit) (poolRow (poolView (pool (now (n .entry)) (now (controller .entry)) (now (its .entry)) (now (start .entry)) (now (end .entry)))) (k .row)) (foundOf before) ⌝ }
+{
+    if is_asked(k, part, kind, POOL_ROWS) {
+        let r = tables::pool_at(k.row as usize, controller, its, start, end);
+        let numbers = line(
+            *n as u64,
+            r.controller as u64,
+            r.its as u64,
+            0,
+            r.start,
+            r.end,
+            0,
+            0,
+            0,
+        );
+        return Found {
+            there: true,
+            numbers,
+        };
+    }
+    before
+}
+
+fn range_columns<'a>(
+    controller: &'a [u32; ROWS],
+    its: &'a [u32; ROWS],
+    device: &'a [u32; ROWS],
+    start: &'a [u64; ROWS],
+    end: &'a [u64; ROWS],
+    owner: &'a [u32; ROWS],
+    n: &'a usize,
+    k: Which,
+    part: u64,
+    kind: u64,
+    before: Found,
+) -> Found
+    ensures { λ r. ⌜ PickedRange (asked k part kind rowLimit) (rangesView (ranges (now (n .entry)) (now (controller .entry)) (now (its .entry)) (now (device .entry)) (now (start .entry)) (now (end .entry)) (now (owner .entry)))) (k .row) (foundOf before) (foundOf r) ⌝ }
+{
+    if is_asked(k, part, kind, ROWS) {
+        let r = tables::range_at(k.row as usize, controller, its, device, start, end, owner);
+        let numbers = line(
+            *n as u64,
+            r.controller as u64,
+            r.its as u64,
+            r.device as u64,
+            r.start,
+            r.end,
+            0,
+            0,
+            r.owner as u64,
+        );
+        return Found {
+            there: true,
+            numbers,
+        };
+    }
+    before
+}
+
+fn wire_columns<'a>(
+    controller: &'a [u32; ROWS],
+    input: &'a [u64; ROWS],
+    trigger: &'a [u32; ROWS],
+    sharing: &'a [u32; ROWS],
+    owner: &'a [u32; ROWS],
+    n: &'a usize,
+    k: Which,
+    part: u64,
+    kind: u64,
+    before: Found,
+) -> Found
+    ensures { λ r. ⌜ foundOf r ≡ pick (asked k part kind rowLimit) (inputRow (wiresView (wires (now (n .entry)) (now (controller .entry)) (now (input .entry)) (now (trigger .entry)) (now (sharing .entry)) (now (owner .entry)))) (k .row)) (foundOf before) ⌝ }
+{
+    if is_asked(k, part, kind, ROWS) {
+        let r = tables::wire_at(k.row as usize, controller, input, trigger, sharing, owner);
+        let numbers = line(
+            *n as u64,
+            r.controller as u64,
+            0,
+            0,
+            r.input,
+            0,
+            r.trigger as u64,
+            r.sharing as u64,
+            r.owner as u64,
+        );
+        return Found {
+            there: true,
+            numbers,
+        };
+    }
+    before
+}
+
+// .. its columns lent out of the table
+fn pool_row<'a>(t: &'a Pool, k: Which, part: u64, kind: u64, before: Found) -> Found
+    ensures { λ r. ⌜ foundOf r ≡ pick (asked k part kind poolLimit) (poolRow (poolView (now (t .entry))) (k .row)) (foundOf before) ⌝ }
+{
+    pool_columns(
+        &t.controller,
+        &t.its,
+        &t.start,
+        &t.end,
+        &t.n,
+        k,
+        part,
+        kind,
+        before,
     )
 }
 
-fn range_row(t: Ranges, i: usize) -> Record
-    requires { ⌜ i < rowLimit ⌝ }
-    ensures { λ r. ⌜ Ranged (rangesView t) i (listOf r) ⌝ }
+fn range_row<'a>(t: &'a Ranges, k: Which, part: u64, kind: u64, before: Found) -> Found
+    ensures { λ r. ⌜ PickedRange (asked k part kind rowLimit) (rangesView (now (t .entry))) (k .row) (foundOf before) (foundOf r) ⌝ }
 {
-    line(
-        t.n as u64,
-        t.controller[i] as u64,
-        t.its[i] as u64,
-        t.device[i] as u64,
-        t.start[i],
-        t.end[i],
-        0,
-        0,
-        t.owner[i] as u64,
+    range_columns(
+        &t.controller,
+        &t.its,
+        &t.device,
+        &t.start,
+        &t.end,
+        &t.owner,
+        &t.n,
+        k,
+        part,
+        kind,
+        before,
     )
 }
 
-fn wire_row(t: Wires, i: usize) -> Record
-    requires { ⌜ i < rowLimit ⌝ }
-    ensures { λ r. ⌜ listOf r ≡ holderRow input (wiresView t) i ⌝ }
+fn wire_row<'a>(t: &'a Wires, k: Which, part: u64, kind: u64, before: Found) -> Found
+    ensures { λ r. ⌜ foundOf r ≡ pick (asked k part kind rowLimit) (inputRow (wiresView (now (t .entry))) (k .row)) (foundOf before) ⌝ }
 {
-    line(
-        t.n as u64,
-        t.controller[i] as u64,
-        0,
-        0,
-        t.input[i],
-        0,
-        t.trigger[i] as u64,
-        t.sharing[i] as u64,
-        t.owner[i] as u64,
+    wire_columns(
+        &t.controller,
+        &t.input,
+        &t.trigger,
+        &t.sharing,
+        &t.owner,
+        &t.n,
+        k,
+        part,
+        kind,
+        before,
     )
 }
 
-// ---- the tables of all kinds
+// ---- all tables, each by its part and its kind
 
-fn pools_row(p: Pools, kind: u64, i: usize) -> Record
-    requires { ⌜ i < poolLimit ⌝ }
-    ensures { λ r. ⌜ listOf r ≡ poolRow (poolView (poolOf p (kindAt kind))) i ⌝ }
+pub fn row<'a>(s: &'a State, k: Which) -> Found
+    ensures { λ r. ⌜ foundOf r ≡ rowIn (stateView (now (s .entry))) (k .part) (k .kind) (k .row) ⌝ }
 {
-    if kind == 2 {
-        return pool_row(p.pio, i);
-    }
-    if kind == 3 {
-        return pool_row(p.input, i);
-    }
-    if kind == 4 {
-        return pool_row(p.host, i);
-    }
-    if kind == 5 {
-        return pool_row(p.device, i);
-    }
-    if kind == 6 {
-        return pool_row(p.event, i);
-    }
-    if kind == 7 {
-        return pool_row(p.lpi, i);
-    }
-    pool_row(p.mmio, i)
-}
-
-fn holders_row(h: Holders, kind: u64, i: usize) -> Record
-    requires { ⌜ i < rowLimit ⌝ }
-    ensures { λ r. ⌜ listOf r ≡ holderRow (kindAt kind) (holdersView h (kindAt kind)) i ⌝ }
-{
-    if kind == 2 {
-        return range_row(h.pio, i);
-    }
-    if kind == 3 {
-        return wire_row(h.input, i);
-    }
-    if kind == 4 {
-        return range_row(h.host, i);
-    }
-    if kind == 5 {
-        return range_row(h.device, i);
-    }
-    if kind == 6 {
-        return range_row(h.event, i);
-    }
-    if kind == 7 {
-        return range_row(h.lpi, i);
-    }
-    range_row(h.mmio, i)
-}
-
-// ---- the whole state
-
-// The rows that a table of a part has.
-fn rows_in(part: u64) -> u64
-    ensures { λ r. ⌜ r ≡ rowsIn part ⌝ }
-{
-    if part == 1 {
-        return 32;
-    }
-    if part == 2 {
-        return 32;
-    }
-    if part == 3 {
-        return 128;
-    }
-    if part == 4 {
-        return 128;
-    }
-    0
-}
-
-// The part, the kind and the row are known.
-fn is_there(part: u64, kind: u64, i: u64) -> bool
-    ensures { λ r. ⌜ r ≡ there part kind i ⌝ }
-{
-    if rows_in(part) <= i {
-        return false;
-    }
-    if kind == 0 {
-        return false;
-    }
-    kind <= 7
-}
-
-fn row_of(s: State, part: u64, kind: u64, i: u64) -> Record
-    requires { ⌜ i < rowsIn part ⌝ }
-    ensures { λ r. ⌜ listOf r ≡ tellsRow (stateView s) part kind i ⌝ }
-{
-    let at = i as usize;
-    if part == 1 {
-        return pools_row(s.auto, kind, at);
-    }
-    if part == 2 {
-        return pools_row(s.fixed, kind, at);
-    }
-    if part == 3 {
-        return holders_row(s.held, kind, at);
-    }
-    holders_row(s.owners, kind, at)
-}
-
-// One row, used or not, into a lent list: 2 where there is none such, 11 where the list is too short.
-pub fn row(s: State, part: u64, kind: u64, i: u64, out: &mut [u64]) -> u64
-    ensures { λ r. ⌜ told r (now (out .exit)) ≡ rowTold (stateView s) part kind i (now (out .entry)) ⌝ }
-{
-    if !is_there(part, kind, i) {
-        return 2;
-    }
-    if out.len() < 9 {
-        return 11;
-    }
-    let x = row_of(s, part, kind, i);
-    allocation::write_record(out, x);
-    0
-}
-
-// The five numbers of the last answer into a lent list: 11 where it is too short.
-pub fn answer(s: State, out: &mut [u64]) -> u64
-    ensures { λ r. ⌜ told r (now (out .exit)) ≡ answerTold (stateView s) (now (out .entry)) ⌝ }
-{
-    if out.len() < 5 {
-        return 11;
-    }
-    out[0] = s.number;
-    out[1] = s.index;
-    out[2] = s.namespace;
-    out[3] = s.owner;
-    out[4] = s.detail;
-    0
+    let x = nothing();
+    let x = pool_row(&s.auto.mmio, k, 1, 1, x);
+    let x = pool_row(&s.auto.pio, k, 1, 2, x);
+    let x = pool_row(&s.auto.input, k, 1, 3, x);
+    let x = pool_row(&s.auto.host, k, 1, 4, x);
+    let x = pool_row(&s.auto.device, k, 1, 5, x);
+    let x = pool_row(&s.auto.event, k, 1, 6, x);
+    let x = pool_row(&s.auto.lpi, k, 1, 7, x);
+    let x = pool_row(&s.fixed.mmio, k, 2, 1, x);
+    let x = pool_row(&s.fixed.pio, k, 2, 2, x);
+    let x = pool_row(&s.fixed.input, k, 2, 3, x);
+    let x = pool_row(&s.fixed.host, k, 2, 4, x);
+    let x = pool_row(&s.fixed.device, k, 2, 5, x);
+    let x = pool_row(&s.fixed.event, k, 2, 6, x);
+    let x = pool_row(&s.fixed.lpi, k, 2, 7, x);
+    let x = range_row(&s.held.mmio, k, 3, 1, x);
+    let x = range_row(&s.held.pio, k, 3, 2, x);
+    let x = wire_row(&s.held.input, k, 3, 3, x);
+    let x = range_row(&s.held.host, k, 3, 4, x);
+    let x = range_row(&s.held.device, k, 3, 5, x);
+    let x = range_row(&s.held.event, k, 3, 6, x);
+    let x = range_row(&s.held.lpi, k, 3, 7, x);
+    let x = range_row(&s.owners.mmio, k, 4, 1, x);
+    let x = range_row(&s.owners.pio, k, 4, 2, x);
+    let x = wire_row(&s.owners.input, k, 4, 3, x);
+    let x = range_row(&s.owners.host, k, 4, 4, x);
+    let x = range_row(&s.owners.device, k, 4, 5, x);
+    let x = range_row(&s.owners.event, k, 4, 6, x);
+    range_row(&s.owners.lpi, k, 4, 7, x)
 }

@@ -2,13 +2,14 @@
 use borrow.Author.Needs.{needs}
 use Prim.Native.Nat.{_≤_, _<_}
 use Rattle.face.proofs.ReadLaws.{answer-short, answer-written, five-stores}
+use Rattle.face.specs.Rows.{answerSize}
 use lib.ListN.{length-set, length}
 use native.Mathlib.Omega.{arith}
 use Rattle.face.proofs.tell.Statement.{statement}
 use Rattle.face.proofs.tell.Tie as tie
 
 returns : tie.Need-returns
-returns c = let l : length (c .before .args .out .now) < 5 = omega arith in answer-short _ _ l
+returns c = let l : length (c .before .args .out .now) < answerSize = omega arith in answer-short _ _ l
 
 slice-write-out : tie.Need-slice-write-out
 slice-write-out c = search needs
@@ -29,7 +30,7 @@ same-length : tie.Need-same-length
 same-length c = search needs
 
 returns-2 : tie.Need-returns-2
-returns-2 c = let l : 5 ≤ length (c .before .args .out .now) = omega arith in answer-written _ (c .before .args .out .now) l _ (five-stores _ _ _ _ _ (c .before .args .out .now) l)
+returns-2 c = let l : answerSize ≤ length (c .before .args .out .now) = omega arith in answer-written _ (c .before .args .out .now) l _ (five-stores _ _ _ _ _ (c .before .args .out .now) l)
 
 pub tell-spec : {M : Type 1} → statement M
 tell-spec = tie.close (tie.spec returns slice-write-out slice-write-out-2 slice-write-out-3 slice-write-out-4 slice-write-out-5 same-length returns-2)

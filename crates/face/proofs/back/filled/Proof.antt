@@ -3,6 +3,7 @@ use borrow.Author.Needs.{needs}
 use Prim.Native.Nat.{_≤_}
 use Rattle.face.proofs.LentLaws.{filled-all, filled-far, filled-front}
 use native.Mathlib.Omega.{arith}
+use Rattle.definition.specs.Tables.{planLimit}
 use Rattle.face.proofs.back.filled.Statement.{statement}
 use Rattle.face.proofs.back.filled.Tie as tie
 
@@ -19,7 +20,7 @@ mul-result-2 : tie.Need-mul-result-2
 mul-result-2 c = search needs
 
 returns-3 : tie.Need-returns-3
-returns-3 c = let l : c .before .before .args .index ≤ 128 = omega arith in filled-front _ _ _ (c .before .if1 .left) l
+returns-3 c = let l : c .before .before .args .index ≤ planLimit = omega arith in filled-front _ _ _ (c .before .if1 .left) l
 
 pub filled-spec : {M : Type 1} → statement M
 filled-spec = tie.close (tie.spec mul-result returns returns-2 mul-result-2 returns-3)
