@@ -72,8 +72,8 @@
  * left alone is proved for callers who lend a whole one; that shorter memory is not even read is what the compiler makes of it, and
  * tested. Null is tested by the helpers below alone.
  *
- * Stack, as measured on aarch64 (docs/SPEED.md): planner_call 4 KB, planner_allocate and planner_plan 12 KB, planner_pin less than 1 KB;
- * planner_read 69 KB and planner_text 80 KB, a state among it: give a thread that makes these two 144 KB. */
+ * Stack, as measured (docs/SPEED.md): planner_call 4 KB, planner_allocate and planner_plan 12 KB, planner_read and planner_pin less than
+ * 1 KB; planner_text 80 KB, a state among it: give a thread that makes it 144 KB. */
 #ifndef PLANNER_H
 #define PLANNER_H
 

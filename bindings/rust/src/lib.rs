@@ -90,7 +90,7 @@ pub struct Row {
     pub owner: u64,
 }
 
-/// The planner with its tables: 66,312 bytes, on the stack unless it is put elsewhere. Requests, plans and the calls that add or start run on a stack of 64 KB; reading rows back and the text take up to 80 KB, as measured: give a thread that makes them 144 KB.
+/// The planner with its tables: 66,312 bytes, on the stack unless it is put elsewhere. Requests, plans, the calls that add or start and reading back run on a stack of 64 KB; the text takes 80 KB, as measured: give a thread that makes it 144 KB.
 #[derive(Clone)]
 pub struct Planner {
     state: [u64; WORDS],
