@@ -60,7 +60,7 @@ pub fn automatic<'a>(
     requires { ⌜ (InOrder (pool pn (now pc) (now pi) (now ps) (now pe))) × (on ≤ rowLimit) ⌝ }
     ensures { λ r. ⌜ AutomaticInput (pool pn (now (pc .entry)) (now (pi .entry)) (now (ps .entry)) (now (pe .entry))) on (now (oc .entry)) (now (ox .entry)) wire r ⌝ }
 {
-    let found = search::find_input(pc, pi, ps, pe, pn, oc, ox, on, wire.controller);
+    let found = search::input::find_input(pc, pi, ps, pe, pn, oc, ox, on, wire.controller);
     match found {
         Found::Nothing => Chosen::Refused(Refusal::Exhausted(3)),
         Found::At(b) => {
@@ -89,10 +89,10 @@ pub fn fixed<'a>(
     requires { ⌜ (nf ≤ poolLimit) × (on ≤ rowLimit) ⌝ }
     ensures { λ r. ⌜ FixedInput (pool nf (now (fc .entry)) (now (fi .entry)) (now (fs .entry)) (now (fe .entry))) (wires on (now (oc .entry)) (now (ox .entry)) (now (ot .entry)) (now (oh .entry)) (now (ow .entry))) wire b r ⌝ }
 {
-    let need = search::one_input(wire.controller);
+    let need = search::input::one_input(wire.controller);
     if search::range_allowed(fc, fi, fs, fe, nf, need, b) {
         let e = b + 1;
-        let hit = search::first_on(oc, ox, on, wire.controller, b);
+        let hit = search::input::first_on(oc, ox, on, wire.controller, b);
         let Hit::At(k) = hit else {
             return Chosen::Stands(b, e);
         };

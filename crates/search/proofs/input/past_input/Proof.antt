@@ -6,8 +6,8 @@ use mathlib.Core.Path.{refl, sym, _∙_}
 use mathlib.Core.Logic.{inl, inr}
 use Rattle.search.proofs.InputLaws.{input-meets}
 use Rattle.search.proofs.MeetLaws.{on-one, off-number, off-controller}
-use Rattle.search.proofs.past_input.Statement.{statement}
-use Rattle.search.proofs.past_input.Tie as tie
+use Rattle.search.proofs.input.past_input.Statement.{statement}
+use Rattle.search.proofs.input.past_input.Tie as tie
 
 mul-if1 : tie.Need-mul-if1
 mul-if1 c = search needs

@@ -9,8 +9,8 @@ use Rattle.tables.specs.Views.{wires, wireOf, wireAt}
 use Rattle.tables.specs.declared.Hit.the-variants.{Clear}
 use Rattle.tables.proofs.BelowLaws.{first-start, first-more, first-found}
 use Rattle.search.proofs.MeetLaws.{on-one, off-number, off-controller}
-use Rattle.search.proofs.first_on.Statement.{statement}
-use Rattle.search.proofs.first_on.Tie as tie
+use Rattle.search.proofs.input.first_on.Statement.{statement}
+use Rattle.search.proofs.input.first_on.Tie as tie
 
 abbrev Inv-loop : tie.InvT-loop
 Inv-loop controller input n c x i₀ i = (i ≤ n) × (first (λ k. meets (wiredRow c x 0 0 0) (wireOf (wireAt (wires n controller input [] [] []) k))) i ≡ Clear)

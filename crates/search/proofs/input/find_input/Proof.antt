@@ -15,8 +15,8 @@ use Rattle.search.proofs.InputLaws.{input-lowest}
 use Rattle.search.proofs.PoolRowLaws.{bases-hold, bases-fit}
 use Rattle.search.proofs.FoundLaws.{spanAt, wireIn, order-used, found-wires}
 use native.Mathlib.Nat.{mod-one}
-use Rattle.search.proofs.find_input.Statement.{statement}
-use Rattle.search.proofs.find_input.Tie as tie
+use Rattle.search.proofs.input.find_input.Statement.{statement}
+use Rattle.search.proofs.input.find_input.Tie as tie
 
 abbrev Inv-inputs : tie.InvT-inputs
 Inv-inputs pc pi ps pe pn oc ox on controller need i stop c₀ c = (getD ps i 0 ≤ c) × Tried (λ k. wireOf (wireAt (wires on oc ox [] [] []) k)) on (needOf (inputNeed controller)) (getD ps i 0) c

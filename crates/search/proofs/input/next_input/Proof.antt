@@ -7,8 +7,8 @@ use mathlib.Core.List.{[]}
 use Rattle.tables.specs.Views.{wires, wireOf, wireAt}
 use Rattle.search.specs.Asks.{needOf, inputNeed}
 use Rattle.search.proofs.PassLaws.{Passing, pass-start, pass-on, pass-stop, pass-stay, pass-to}
-use Rattle.search.proofs.next_input.Statement.{statement}
-use Rattle.search.proofs.next_input.Tie as tie
+use Rattle.search.proofs.input.next_input.Statement.{statement}
+use Rattle.search.proofs.input.next_input.Tie as tie
 
 abbrev Inv-loop : tie.InvT-loop
 Inv-loop controller input n c x stop b₀ i₀ b i = (i ≤ n) × Passing (λ k. wireOf (wireAt (wires n controller input [] [] []) k)) n (needOf (inputNeed c)) x stop i b
