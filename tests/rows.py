@@ -20,8 +20,10 @@ import pathlib
 import random
 import sys
 
+import sizes
+
 FILES = pathlib.Path(__file__).resolve().parent / "rows"
-ROWS, POOL = 128, 32
+ROWS, POOL = sizes.SIZES["rows of an owner table"], sizes.SIZES["rows of a pool table"]
 W16, W32, W64 = 2**16 - 1, 2**32 - 1, 2**64 - 1
 TOP = {1: W64, 2: W16, 3: W64, 4: W64, 5: W32, 6: W32, 7: W32}
 # how many domain numbers a kind's rows use, and its pools
@@ -421,7 +423,7 @@ def holds(r):
 
 
 def hold_full(r):
-    """128 rows: 9 comes last; the pair call needs a row in both tables."""
+    """A full table: 9 comes last; the pair call needs a row in both tables."""
     for k in (1, 2, 4):
         r.do(0)
         for i in range(ROWS):
@@ -559,13 +561,13 @@ def malformed(r):
     """An unsound table of any kind is 1 for every adding call and for start; owner tables are not judged there."""
     for k in KINDS:
         r.do(0)
-        r.do(4, 2, k, 1, 127, 1)
+        r.do(4, 2, k, 1, ROWS - 1, 1)
         r.do(1, 0, 1, 0, 10)
         r.do(2, 1, 1, 0, 10)
         r.do(2, 1, 8, 0, 0, 9, 10)
         r.do(3)
         r.do(0)
-        r.do(4, 3, k, 1, 127, 1)
+        r.do(4, 3, k, 1, ROWS - 1, 1)
         r.do(1, 0, 1, 0, 10)
         r.do(2, 1, 1, 0, 10)
         r.do(6)

@@ -5,6 +5,10 @@ Reads the answer on standard input and the plan from the file that is named. Eve
 import os
 import sys
 
+# sizes, as the proved code has them: wants of a plan; bytes of a line and of a text
+WANTS = 128
+LONGEST = 200
+TEXT = 32768
 REFUSALS = {
     1: ("Malformed", "the tables handed in are not sound"),
     2: ("BadInput", "a number or a code of the line makes no sense: a size, count or requester of 0, an alignment that is no power of two, an unknown trigger or sharing"),
@@ -16,7 +20,7 @@ REFUSALS = {
     8: ("Conflict", "{detail}; owner {owner} holds {namespace} there"),
     9: ("Full", "the table has no free row"),
     10: ("BadLine", "the line is not of a form that a plan can have"),
-    11: ("Short", "a plan has at most 128 wants"),
+    11: ("Short", f"a plan has at most {WANTS} wants"),
 }
 NAMESPACES = {0: "", 1: "MMIO", 2: "PIO", 3: "wired inputs", 4: "host IRQs", 5: "the ITS", 6: "LPIs"}
 DETAILS = {
@@ -31,8 +35,7 @@ DETAILS = {
 }
 # the words of the lines that can hold numbers of a namespace
 HOLDERS = {1: ["mmio"], 2: ["pio"], 3: ["input"], 4: ["host"], 5: ["device", "event", "msi"], 6: ["lpi", "msi"]}
-LONGEST = 200
-TOO_LONG = "the text is longer than 32,768 bytes"
+TOO_LONG = f"the text is longer than {TEXT:,} bytes"
 OPEN = "the last line has no newline"
 
 

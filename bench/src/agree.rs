@@ -5,8 +5,9 @@ use crate::forms::{self, OfKind};
 use crate::input::{flat, Input};
 use crate::list;
 use crate::stack::on_small;
-use crate::tables::{State, RECORD, ROWS};
+use crate::tables::{State, RECORD};
 use crate::theirs::{spelt, Theirs};
+use oracle::added::PLAN_REQUESTS;
 use oracle::calls::{Answer, Request};
 use oracle::judge::Judge;
 
@@ -48,7 +49,7 @@ pub fn check(input: &Input, requests: &[Request]) {
 pub fn check_plan(input: &Input, requests: &[Request]) {
     let mut judge = judge(input);
     let state = State::of(judge.tables());
-    let granted = judge.plan(requests, RECORD * ROWS);
+    let granted = judge.plan(requests, RECORD * PLAN_REQUESTS);
     assert_eq!(granted.answer, Answer::Accepted, "{}", input.name);
     let mut expected = Lent::of(&State::of(judge.tables()));
     let filled = granted.records.len() * RECORD;

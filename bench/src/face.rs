@@ -1,7 +1,8 @@
 // What ships: the C face, and the doors of the plan over a list of requests.
 
 use crate::list::Request;
-use crate::tables::{State, RECORD, ROWS};
+use crate::tables::{State, RECORD};
+use oracle::added::PLAN_REQUESTS;
 
 /// A request as twelve numbers.
 pub type Flat = [u64; 12];
@@ -51,12 +52,12 @@ const SIZE: u64 = size_of::<State>() as u64;
 #[derive(Clone)]
 pub struct Lent {
     pub state: State,
-    pub results: [u64; RECORD * ROWS],
+    pub results: [u64; RECORD * PLAN_REQUESTS],
 }
 
 impl Lent {
     pub fn of(state: &State) -> Box<Self> {
-        Box::new(Lent { state: *state, results: [0; RECORD * ROWS] })
+        Box::new(Lent { state: *state, results: [0; RECORD * PLAN_REQUESTS] })
     }
 
     /// One request with its record.

@@ -1,10 +1,11 @@
 // What is timed: two sets of tables, light and heavy, and one list of mixed requests for both.
 
 use crate::face::Flat;
+use oracle::added::PLAN_REQUESTS;
 use oracle::calls::{Add, Choice, Hold, Need, PoolRange, Request};
 
 /// The requests of a run, and of a short one.
-pub const RUN: usize = 128;
+pub const RUN: usize = PLAN_REQUESTS;
 pub const SHORT: usize = 8;
 
 pub struct Input {

@@ -1,9 +1,7 @@
 // The proved side's tables as Rust sees them: C's layout, field by field as in crates/tables and crates/calls.
 
+pub use oracle::added::{HELD_ROWS as ROWS, POOL_ROWS, RECORD};
 use oracle::calls::{Kind, Place, Row, Tables};
-
-pub const POOL_ROWS: usize = 32;
-pub const ROWS: usize = 128;
 
 #[repr(C)]
 #[derive(Clone, Copy, PartialEq)]
@@ -93,9 +91,6 @@ pub struct MsiSet {
     pub event: Set<Ranges>,
     pub lpi: Set<Ranges>,
 }
-
-/// Numbers of a record.
-pub const RECORD: usize = 9;
 
 impl State {
     /// The judge's rows as columns.

@@ -23,7 +23,7 @@ int main(void) {
         4, 2, 0, 0, 0, 0, 0, 0, 0, 0, 0, 0,           /* the first till: a host IRQ */
         4, 3, 0, 0, 0, 0, 0, 0, 0, 0, 0, 0,           /* the second till: a host IRQ */
     };
-    uint64_t first[3 * PLANNER_RECORD], second[3 * PLANNER_RECORD], answer[5], row[9];
+    uint64_t first[3 * PLANNER_RECORD], second[3 * PLANNER_RECORD], answer[PLANNER_ANSWER], row[PLANNER_ROW];
 
     if (board() != 0 || planner_run(state, requests, 3, first, answer) != 0) return 1;
     for (size_t i = 0; i < 3; i++) printf("device %" PRIu64 ": %" PRIu64 "\n", first[9 * i + 1], first[9 * i + 3]);

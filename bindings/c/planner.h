@@ -20,8 +20,9 @@
  * It is your memory: PLANNER_STATE_SIZE bytes, aligned to 8, lent to every call. planner_begin makes a fresh one; bytes that were kept
  * elsewhere, or any others, may stand in it too: each call judges them, and refuses with 1 what is not sound. Its last five numbers are
  * the last answer, written by every call but those that read.
- * It holds 28 tables, one of each part and kind. Parts: 1 automatic pools, 2 fixed pools (32 rows a table), 3 reservations, 4 owners
- * (128 rows a table). Kinds: 1 MMIO, 2 PIO, 3 input, 4 host IRQ, 5 device, 6 event, 7 LPI. A row more than a table has is refused with 9.
+ * It holds 28 tables, one of each part and kind. Parts: 1 automatic pools, 2 fixed pools (PLANNER_POOL_ROWS rows a table), 3 reservations,
+ * 4 owners (PLANNER_ROWS rows a table). Kinds: 1 MMIO, 2 PIO, 3 input, 4 host IRQ, 5 device, 6 event, 7 LPI. A row more than a table has
+ * is refused with 9.
  * A start makes the owners copies of the reservations and forgets all grants. After a reservation made since then the owners no longer
  * begin with the reservations: requests and plans are answered with 1 until the planner is started again. Pools may be added at any time.
  *
@@ -56,7 +57,7 @@
  *      5 reserved: overlaps a reservation of `owner`       6 fixed not allowed: no fixed pool of `namespace` holds it, or not aligned
  *      7 exhausted: nothing in `namespace` fits            8 conflict: `owner` is in the way in `namespace`, as `detail` says
  *      9 full: a table needs a row and has none            10 bad line (in a text)
- *     11 short: a list is too short, or a plan longer than 128 requests
+ *     11 short: a list is too short, or a plan longer than PLANNER_MOST requests
  * Where more than one applies the order is 1, 11, 2, 3, 4, then 5, 6 or 7, then 8, then 9.
  * Namespaces: 1 MMIO, 2 PIO, 3 input of a controller, 4 host IRQ, 5 an ITS of a controller (device, event), 6 LPI of a controller.
  * Details: 1 address ranges overlap, 2 trigger differs, 3 not shareable, 4 host IRQ taken, 5 device taken, 6 events overlap, 7 LPIs overlap.
@@ -84,15 +85,27 @@
 extern "C" {
 #endif
 
-#define PLANNER_STATE_SIZE 66312u
-#define PLANNER_STATE_WORDS (PLANNER_STATE_SIZE / 8)
-#define PLANNER_REQUEST 12u /* numbers of a request */
-#define PLANNER_RECORD 9u   /* numbers of a record */
-#define PLANNER_ANSWER 5u   /* numbers of an answer */
+#define PLANNER_POOL_ROWS 32u /* rows of a pool table */
+#define PLANNER_ROWS 128u     /* rows of a reservation table, and of an owner table */
+#define PLANNER_MOST 128u     /* requests of a plan */
+#define PLANNER_REQUEST 12u   /* numbers of a request */
+#define PLANNER_RECORD 9u     /* numbers of a record */
+#define PLANNER_ANSWER 5u     /* numbers of an answer */
+#define PLANNER_ROW 9u        /* numbers of a row: the table's count, controller, ITS, device, start, end, trigger, sharing, owner */
+
+/* The words of a state: twice seven pool tables, twice seven tables of rows that are held (one of inputs among them), the last answer. Each table is
+ * its count and its columns; two 32-bit numbers share a word. */
+#define PLANNER_HALF(n) (((n) + 1) / 2)
+#define PLANNER_POOL_WORDS (1 + 3 * PLANNER_POOL_ROWS)
+#define PLANNER_RANGE_WORDS (1 + PLANNER_HALF(3 * PLANNER_ROWS) + 2 * PLANNER_ROWS + PLANNER_HALF(PLANNER_ROWS))
+#define PLANNER_INPUT_WORDS (1 + PLANNER_HALF(PLANNER_ROWS) + PLANNER_ROWS + PLANNER_HALF(3 * PLANNER_ROWS))
+#define PLANNER_STATE_WORDS (14 * PLANNER_POOL_WORDS + 2 * (6 * PLANNER_RANGE_WORDS + PLANNER_INPUT_WORDS) + PLANNER_ANSWER)
+#define PLANNER_STATE_SIZE (8 * PLANNER_STATE_WORDS)
 #define PLANNER_SAID (PLANNER_STATE_WORDS - PLANNER_ANSWER) /* where the last answer stands in a state */
-#define PLANNER_ROW 9u      /* numbers of a row: the table's count, controller, ITS, device, start, end, trigger, sharing, owner */
-#define PLANNER_MOST 128u   /* requests of a plan */
-#define PLANNER_TEXT_OUTPUT 22553u
+
+/* The bytes of the longest output of a text: for each request the longest `got` line, eight numbers of a tab and twenty digits each beside its
+ * words, and the longest `end` line. */
+#define PLANNER_TEXT_OUTPUT (PLANNER_MOST * (8 + 8 * 21) + 4 + 21)
 
 /* ---- what the library exports; the helpers below are what you mostly want */
 
@@ -116,7 +129,7 @@ uint64_t planner_allocate(uint64_t *state, uint64_t size, const uint64_t *reques
 
 /* A plan: its requests one behind the other, granted in order, all or none. It answers with how many numbers of `results` it filled, nine for
  * each request granted before the first refused one (1 for a state of another size); whether all was granted says the answer in the state.
- * 11: a list that ends within a request, over 128 requests, or a results list shorter than nine numbers a request. No requests are accepted. */
+ * 11: a list that ends within a request, over PLANNER_MOST requests, or a results list shorter than nine numbers a request. No requests are accepted. */
 uint64_t planner_plan(uint64_t *state, uint64_t size, const uint64_t *requests, size_t n, uint64_t *results, size_t m);
 
 /* Writes granted records back into their requests, in order: what was automatic then asks for the number that it was given. Lend it the
@@ -144,14 +157,14 @@ static inline int planner_fits(const void *memory, size_t bytes) {
 }
 
 /* The five numbers of the last answer, which stand last in the state. */
-static inline uint64_t planner_answer(const uint64_t *state, uint64_t answer[5]) {
+static inline uint64_t planner_answer(const uint64_t *state, uint64_t answer[PLANNER_ANSWER]) {
     if (!state || !answer) return 1;
     for (size_t i = 0; i < PLANNER_ANSWER; i++) answer[i] = state[PLANNER_SAID + i];
     return 0;
 }
 
 /* No answer yet, which is 1. */
-static inline void planner_unsay(uint64_t answer[5]) {
+static inline void planner_unsay(uint64_t answer[PLANNER_ANSWER]) {
     for (size_t i = 0; i < PLANNER_ANSWER; i++) answer[i] = i == 0;
 }
 
@@ -176,21 +189,21 @@ static inline uint64_t planner_do(uint64_t *state, const uint64_t *numbers, size
 }
 
 /* One request with its record. */
-static inline uint64_t planner_ask(uint64_t *state, const uint64_t request[12], uint64_t record[9]) {
+static inline uint64_t planner_ask(uint64_t *state, const uint64_t request[PLANNER_REQUEST], uint64_t record[PLANNER_RECORD]) {
     if (!state || !request || !record) return 1;
     planner_unsay(state + PLANNER_SAID);
     return planner_said(state, planner_allocate(state, PLANNER_STATE_SIZE, request, PLANNER_REQUEST, record, PLANNER_RECORD));
 }
 
 /* How many records a plan of `count` requests has filled, by its answer. */
-static inline size_t planner_granted(const uint64_t answer[5], size_t count) {
+static inline size_t planner_granted(const uint64_t answer[PLANNER_ANSWER], size_t count) {
     if (!answer) return 0;
     if (answer[0] == 0) return count;
     return answer[1] < count ? (size_t)answer[1] : 0;
 }
 
-/* A plan of `count` requests, with room for as many records; the answer's five numbers, written whatever comes of it. Over 128 requests are 11. */
-static inline uint64_t planner_run(uint64_t *state, const uint64_t *requests, size_t count, uint64_t *results, uint64_t answer[5]) {
+/* A plan of `count` requests, with room for as many records; the answer's five numbers, written whatever comes of it. Over PLANNER_MOST requests are 11. */
+static inline uint64_t planner_run(uint64_t *state, const uint64_t *requests, size_t count, uint64_t *results, uint64_t answer[PLANNER_ANSWER]) {
     if (!answer) return 1;
     planner_unsay(answer);
     if (!state || !requests || !results) return 1;
@@ -204,7 +217,7 @@ static inline uint64_t planner_run(uint64_t *state, const uint64_t *requests, si
 }
 
 /* Writes the records of a plan of `count` requests back into them: those that planner_run filled, as its answer says, and no others. */
-static inline uint64_t planner_write_back(uint64_t *requests, size_t count, const uint64_t *results, const uint64_t answer[5]) {
+static inline uint64_t planner_write_back(uint64_t *requests, size_t count, const uint64_t *results, const uint64_t answer[PLANNER_ANSWER]) {
     if (!requests || !results || !answer) return 1;
     size_t granted = planner_granted(answer, count);
     if (granted > PLANNER_MOST) return 1;
@@ -213,7 +226,7 @@ static inline uint64_t planner_write_back(uint64_t *requests, size_t count, cons
 }
 
 /* Row i of a table, from 0: PLANNER_ROW says its numbers. */
-static inline uint64_t planner_row(const uint64_t *state, uint64_t part, uint64_t kind, uint64_t i, uint64_t row[9]) {
+static inline uint64_t planner_row(const uint64_t *state, uint64_t part, uint64_t kind, uint64_t i, uint64_t row[PLANNER_ROW]) {
     const uint64_t what[3] = {part, kind, i};
     if (!state || !row) return 1;
     return planner_read(state, PLANNER_STATE_SIZE, what, 3, row, PLANNER_ROW);

@@ -2,12 +2,10 @@
 
 use std::mem::size_of;
 
+use crate::added::{HELD_ROWS as ROWS, POOL_ROWS};
 use crate::calls::{Kind, Place, Row, Tables};
 use crate::compare::face::{Face, Said, LENT};
 use crate::compare::flat::Step;
-
-const POOL_ROWS: usize = 32;
-const ROWS: usize = 128;
 
 /// One call in so many is followed by the calls that read back.
 const LOOK: u64 = 31;

@@ -1,5 +1,6 @@
 // What a text cannot say: plans, starts, mixed MSI choices, the pair call, and the tables after each call.
 
+use oracle::added::{HELD_ROWS, PLAN_REQUESTS, POOL_ROWS};
 use oracle::calls::{no, wired, Add, Answer, Choice, Hold, Kind, Need, Place, PoolRange, Refusal, Request, Row};
 use oracle::judge::Judge;
 
@@ -123,10 +124,14 @@ fn a_plan_tests_its_length_and_its_results_first() {
         let plan = judge.plan(&vec![host(1, Choice::Auto); length], results);
         (plan.answer, plan.index, plan.records.len())
     };
-    assert_eq!(plan(&mut judge, 129, 9 * 129), (Answer::plain(no::SHORT), 0, 0));
+    assert_eq!(plan(&mut judge, PLAN_REQUESTS + 1, 9 * (PLAN_REQUESTS + 1)), (Answer::plain(no::SHORT), 0, 0));
     assert_eq!(plan(&mut judge, 2, 17), (Answer::plain(no::SHORT), 0, 0));
     assert_eq!(plan(&mut judge, 0, 0), (Answer::Accepted, 0, 0));
-    assert_eq!(plan(&mut judge, 128, 9 * 128), (Answer::Accepted, 0, 128));
+    let most = PLAN_REQUESTS.min(HELD_ROWS);
+    assert_eq!(plan(&mut judge, most, 9 * most), (Answer::Accepted, 0, most));
+    for _ in most..HELD_ROWS {
+        assert_eq!(plan(&mut judge, 1, 9), (Answer::Accepted, 0, 1));
+    }
     assert_eq!(plan(&mut judge, 1, 9), (Answer::plain(no::FULL), 0, 0));
     judge.start();
     assert_eq!(plan(&mut judge, 2, 99), (Answer::Accepted, 0, 2));
@@ -180,16 +185,16 @@ fn a_refused_msi_domain_keeps_the_rows_before() {
     assert_eq!(lengths(&judge), [1, 0, 0]);
     assert_eq!(judge.add(&domain(false, 0..1, 0..1, 1..1)), Answer::plain(no::EMPTY_RANGE));
     assert_eq!(lengths(&judge), [1, 1, 0]);
-    for i in 1..32 {
+    for i in 1..POOL_ROWS as u32 {
         accept(&mut judge, &domain(false, 0..1, i..i + 1, 0..1));
     }
-    assert_eq!(lengths(&judge), [1, 32, 1]);
+    assert_eq!(lengths(&judge), [1, POOL_ROWS, 1]);
     assert_eq!(judge.add(&domain(false, 5..6, 99..100, 9..9)), Answer::plain(no::FULL));
-    assert_eq!(lengths(&judge), [2, 32, 1]);
+    assert_eq!(lengths(&judge), [2, POOL_ROWS, 1]);
     assert_eq!(judge.add(&domain(false, 6..7, 7..8, 9..9)), Answer::plain(no::EMPTY_RANGE));
-    assert_eq!(lengths(&judge), [3, 32, 1]);
+    assert_eq!(lengths(&judge), [3, POOL_ROWS, 1]);
     accept(&mut judge, &domain(false, 7..8, 7..8, 9..10));
-    assert_eq!(lengths(&judge), [4, 32, 2]);
+    assert_eq!(lengths(&judge), [4, POOL_ROWS, 2]);
 }
 
 /// A pool row goes before the first row of its own domain with a greater start, else to the end of the whole table.
@@ -235,7 +240,7 @@ fn the_pair_reserves_both_or_neither() {
 fn the_pair_finds_either_table_full() {
     for host_full in [false, true] {
         let mut judge = Judge::fresh();
-        for i in 0..128 {
+        for i in 0..HELD_ROWS as u64 {
             let input = Hold::Input { controller: 9, input: i, trigger: 0, sharing: 0 };
             let what = if host_full { Hold::Host(i..i + 1) } else { input };
             accept(&mut judge, &Add::Hold { owner: 1, what });

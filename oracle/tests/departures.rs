@@ -2,6 +2,7 @@
 
 use std::collections::BTreeMap;
 
+use oracle::added::{HELD_ROWS, POOL_ROWS};
 use oracle::calls::{no, Add, Answer, Call, Choice, Hold, Kind, Need, Place, PoolRange, Refusal, Request};
 use oracle::departures;
 use oracle::gen;
@@ -143,14 +144,15 @@ fn pair_no_range() {
 #[test]
 fn pool_table_full() {
     let (mut bare, mut judge) = (Bare::new(), Judge::fresh());
-    for i in 0..32 {
+    let most = POOL_ROWS as u64;
+    for i in 0..most {
         assert_eq!(bare.add(&mmio_pool(false, i, i + 1)), Answer::Accepted);
         assert_eq!(judge.add(&mmio_pool(false, i, i + 1)), Answer::Accepted);
     }
-    assert_eq!(bare.add(&mmio_pool(false, 32, 33)), Answer::Accepted);
-    assert_eq!(bare.rows(Place::Auto, Kind::Mmio).len(), 33);
-    assert_eq!(judge.add(&mmio_pool(false, 32, 33)), Answer::plain(no::FULL));
-    assert_eq!(judge.tables().of(Place::Auto, Kind::Mmio).len(), 32);
+    assert_eq!(bare.add(&mmio_pool(false, most, most + 1)), Answer::Accepted);
+    assert_eq!(bare.rows(Place::Auto, Kind::Mmio).len(), POOL_ROWS + 1);
+    assert_eq!(judge.add(&mmio_pool(false, most, most + 1)), Answer::plain(no::FULL));
+    assert_eq!(judge.tables().of(Place::Auto, Kind::Mmio).len(), POOL_ROWS);
 }
 
 #[test]
@@ -158,7 +160,8 @@ fn held_table_full() {
     let (mut bare, mut judge) = (Bare::new(), Judge::fresh());
     let hold = |i: u64| Add::Hold { owner: 1, what: Hold::Mmio(i..i + 1) };
     let pool = mmio_pool(false, 0, 999);
-    for i in 0..128 {
+    let most = HELD_ROWS as u64;
+    for i in 0..most {
         assert_eq!(bare.add(&hold(i)), Answer::Accepted);
         assert_eq!(judge.add(&hold(i)), Answer::Accepted);
     }
@@ -167,10 +170,10 @@ fn held_table_full() {
     bare.start();
     judge.start();
     let request = mmio(1, 1, Choice::Auto);
-    assert_eq!(bare.request(&request), Answer::Granted([1, 1, 0, 128, 1, 0, 0, 0, 0]));
+    assert_eq!(bare.request(&request), Answer::Granted([1, 1, 0, most, 1, 0, 0, 0, 0]));
     assert_eq!(judge.request(&request), Answer::plain(no::FULL));
-    assert_eq!(bare.add(&hold(128)), Answer::Accepted);
-    assert_eq!(judge.add(&hold(128)), Answer::plain(no::FULL));
+    assert_eq!(bare.add(&hold(most)), Answer::Accepted);
+    assert_eq!(judge.add(&hold(most)), Answer::plain(no::FULL));
 }
 
 /// The original's allocators borrow the pools, so that no reservation can be made while they are at work.

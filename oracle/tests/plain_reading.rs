@@ -2,6 +2,7 @@
 
 use std::cell::Cell;
 
+use oracle::added::{HELD_ROWS, PLAN_REQUESTS, POOL_ROWS};
 use oracle::calls::{
     no, rows_of_add, Add, Answer, Call, Choice, Hold, Kind, Need, Place, PlanAnswer, Record, Refusal, Request, Row,
     Tables,
@@ -103,7 +104,7 @@ impl Plain {
         if table.contains(&row) {
             return Ok(());
         }
-        if table.len() == 32 {
+        if table.len() == POOL_ROWS {
             return Err(no::FULL);
         }
         let at = table.iter().position(|other| other.domain == row.domain && other.start > row.start);
@@ -129,7 +130,7 @@ impl Plain {
                 return Answer::Refused(Refusal { owner: held.owner, ..Refusal::plain(no::RESERVED) });
             }
         }
-        if rows.iter().any(|(place, kind, _)| self.tables.of(*place, *kind).len() == 128) {
+        if rows.iter().any(|(place, kind, _)| self.tables.of(*place, *kind).len() == HELD_ROWS) {
             return Answer::plain(no::FULL);
         }
         for (place, kind, row) in rows {
@@ -189,7 +190,7 @@ impl Plain {
     fn request(&mut self, request: &Request) -> Answer {
         match self.granted(request) {
             Ok((record, rows)) => {
-                if rows.iter().any(|(kind, _)| self.tables.of(Place::Owner, *kind).len() == 128) {
+                if rows.iter().any(|(kind, _)| self.tables.of(Place::Owner, *kind).len() == HELD_ROWS) {
                     return Answer::plain(no::FULL);
                 }
                 for (kind, row) in rows {
@@ -284,7 +285,7 @@ impl Plain {
         if !self.sound(&Kind::ALL) {
             return refused(Answer::plain(no::MALFORMED), 0, Vec::new());
         }
-        if requests.len() > 128 || results < 9 * requests.len() {
+        if requests.len() > PLAN_REQUESTS || results < 9 * requests.len() {
             return refused(Answer::plain(no::SHORT), 0, Vec::new());
         }
         let before = self.tables.owners.clone();

@@ -7,7 +7,7 @@
 #include <unistd.h>
 
 static uint64_t state[PLANNER_STATE_WORDS + 1];
-static uint64_t requests[129 * PLANNER_REQUEST], results[129 * PLANNER_RECORD], before[129 * PLANNER_RECORD];
+static uint64_t requests[(PLANNER_MOST + 1) * PLANNER_REQUEST], results[(PLANNER_MOST + 1) * PLANNER_RECORD], before[(PLANNER_MOST + 1) * PLANNER_RECORD];
 static uint64_t answer[PLANNER_ANSWER], record[PLANNER_RECORD], row[PLANNER_ROW];
 
 /* One host IRQ may be had: 40. */
@@ -52,6 +52,20 @@ static void sizes(void) {
     EXPECT(!planner_fits((char *)state + 4, PLANNER_STATE_SIZE));
 }
 
+/* What planner.h says of sizes is what the library does: the last row, request and byte there are, and one more. */
+static void last(void) {
+    static uint8_t out[PLANNER_TEXT_OUTPUT];
+    const uint8_t none[1] = {0};
+    board();
+    for (uint64_t part = 1; part < 5; part++) {
+        uint64_t rows = part < 3 ? PLANNER_POOL_ROWS : PLANNER_ROWS;
+        EXPECT(planner_row(state, part, 1, rows - 1, row) == 0 && planner_row(state, part, 1, rows, row) == 2);
+    }
+    asked(PLANNER_MOST + 1);
+    EXPECT(planner_run(state, requests, PLANNER_MOST, results, answer) == 7 && planner_run(state, requests, PLANNER_MOST + 1, results, answer) == 11);
+    EXPECT(planner_text(none, 0, out, PLANNER_TEXT_OUTPUT) == 6 && planner_text(none, 0, out, PLANNER_TEXT_OUTPUT - 1) == 0);
+}
+
 /* Sixteen bytes before a page that nobody may touch: every call is told a size that is not a state's, answers 1 and leaves them. */
 static void short_state(void) {
     const uint64_t sizes[] = {0, 8, 16, PLANNER_STATE_SIZE - 8, PLANNER_STATE_SIZE + 8, UINT64_MAX}, x[13] = {3};
@@ -71,16 +85,16 @@ static void short_state(void) {
     EXPECT(munmap(pages, 2 * page) == 0);
 }
 
-/* 129 requests, and a count so large that twelve times it is no size: 11 at index 0, nothing written; unsound tables come first. */
+/* One request too many, and a count so large that twelve times it is no size: 11 at index 0, nothing written; unsound tables come first. */
 static void too_long(void) {
-    const size_t counts[] = {129, SIZE_MAX / 12 + 2, SIZE_MAX};
+    const size_t counts[] = {PLANNER_MOST + 1, SIZE_MAX / 12 + 2, SIZE_MAX};
     for (size_t i = 0; i < 3; i++) {
         board();
-        asked(129);
+        asked(PLANNER_MOST + 1);
         EXPECT(planner_run(state, requests, counts[i], results, answer) == 11 && answered(11, 0, 0));
         EXPECT(planner_granted(answer, counts[i]) == 0 && memcmp(results, before, sizeof results) == 0);
         EXPECT(planner_write_back(requests, counts[i], results, answer) == 0 && requests[6] == 0);
-        state[0] = 33;
+        state[0] = PLANNER_POOL_ROWS + 1;
         EXPECT(planner_run(state, requests, counts[i], results, answer) == 1 && answered(1, 0, 0));
     }
 }
@@ -98,7 +112,7 @@ static void refused(void) {
     for (size_t i = 1; i < 3; i++) EXPECT(requests[12 * i + 6] == 0 && requests[12 * i + 7] == 0);
     /* unsound tables fill nothing */
     asked(1);
-    state[0] = 33;
+    state[0] = PLANNER_POOL_ROWS + 1;
     EXPECT(planner_run(state, requests, 1, results, answer) == 1 && answered(1, 0, 0));
     EXPECT(planner_write_back(requests, 1, results, answer) == 0 && requests[6] == 0);
 }
@@ -127,6 +141,7 @@ static void texts(void) {
 int main(void) {
     nulls();
     sizes();
+    last();
     short_state();
     too_long();
     refused();

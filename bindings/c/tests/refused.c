@@ -7,7 +7,7 @@ static char out[PLANNER_TEXT_OUTPUT] = "end";
 
 static void plans(void) {
     for (size_t count = 0; count < 3; count++) {
-        uint64_t requests[2 * PLANNER_REQUEST] = {4, 1}, results[2 * PLANNER_RECORD] = {7}, answer[5] = {0};
+        uint64_t requests[2 * PLANNER_REQUEST] = {4, 1}, results[2 * PLANNER_RECORD] = {7}, answer[PLANNER_ANSWER] = {0};
         EXPECT(planner_run(state, requests, count, results, answer) == 1);
         EXPECT(answer[0] == 1 && answer[1] == 0 && planner_granted(answer, count) == 0);
         EXPECT(planner_write_back(requests, count, results, answer) == 0);

@@ -1,6 +1,5 @@
 /* A library that does nothing, as one built for another size: every function answers with ANSWER and touches nothing; SIZE is what it says of its states. */
-#include <stddef.h>
-#include <stdint.h>
+#include "planner.h"
 
 #define LISTS const uint64_t *from, size_t n, uint64_t *to, size_t m
 #define NOTHING (void)state, (void)size, (void)from, (void)n, (void)to, (void)m

@@ -1,18 +1,17 @@
 //! The five numbers of the last answer, which stand last in a state. They are set to 1 (Malformed) before each call: a library that writes none, such as one
 //! that was built for another size, has then refused.
 
-use crate::{Refusal, WORDS};
+use crate::{Refusal, ANSWER, WORDS};
 
-const NUMBERS: usize = 5;
-const UNSAID: [u64; NUMBERS] = [1, 0, 0, 0, 0];
+const UNSAID: [u64; ANSWER] = [1, 0, 0, 0, 0];
 
 pub fn unsay(state: &mut [u64; WORDS]) {
-    state[WORDS - NUMBERS..].copy_from_slice(&UNSAID);
+    state[WORDS - ANSWER..].copy_from_slice(&UNSAID);
 }
 
 /// Number, index, namespace, owner, detail.
-pub fn answer(state: &[u64; WORDS]) -> [u64; NUMBERS] {
-    core::array::from_fn(|i| state[WORDS - NUMBERS + i])
+pub fn answer(state: &[u64; WORDS]) -> [u64; ANSWER] {
+    core::array::from_fn(|i| state[WORDS - ANSWER + i])
 }
 
 /// What a call came to: the number that it answered with must stand in the state too.

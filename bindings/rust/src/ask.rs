@@ -1,5 +1,6 @@
 //! What can be asked: pool ranges, reservations, requests; each as the numbers that the planner reads.
 
+use crate::REQUEST;
 use core::ops::Range;
 
 /// Which pools a range is added to: those that automatic requests search, or those that fixed requests are allowed in.
@@ -285,7 +286,7 @@ impl Request {
     /// let r = Request { requester: 5, slot: 2, want: Want::HostIrq { choice: Choice::Fixed(40) } };
     /// assert_eq!(r.numbers(), [4, 5, 2, 0, 0, 0, 1, 40, 0, 0, 0, 0]);
     /// ```
-    pub fn numbers(&self) -> [u64; 12] {
+    pub fn numbers(&self) -> [u64; REQUEST] {
         let none = [0, 0];
         let (kind, abc, x, y, z): (u64, [u64; 3], [u64; 2], [u64; 2], [u64; 2]) = match &self.want {
             Want::Mmio {

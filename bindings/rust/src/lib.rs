@@ -33,16 +33,14 @@ mod exported;
 mod plan;
 mod raw;
 mod refusal;
+mod sizes;
 
 pub use ask::{Choice, DeviceId, EventId, Hold, Lpi, Pool, Request, Use, Want};
 pub use plan::{Granted, Plan, PlanRefusal};
 pub use refusal::Refusal;
+pub use sizes::{ANSWER, MOST, POOL_ROWS, RECORD, REQUEST, ROWS, STATE_SIZE, TEXT_OUTPUT};
 
-/// The bytes of a state.
-pub const STATE_SIZE: usize = 66312;
-
-/// The bytes of the longest output that a text has.
-pub const TEXT_OUTPUT: usize = 22553;
+use sizes::ROW;
 
 const WORDS: usize = STATE_SIZE / 8;
 
@@ -59,8 +57,8 @@ impl Part {
     /// The rows that a table of this part has.
     pub const fn rows(self) -> usize {
         match self {
-            Part::Automatic | Part::Fixed => 32,
-            Part::Reservations | Part::Owners => 128,
+            Part::Automatic | Part::Fixed => POOL_ROWS,
+            Part::Reservations | Part::Owners => ROWS,
         }
     }
 }
@@ -90,7 +88,7 @@ pub struct Row {
     pub owner: u64,
 }
 
-/// The planner with its tables: 66,312 bytes, on the stack unless it is put elsewhere. Requests, plans, the calls that add or start and reading back run on a stack of 64 KB; the text takes 80 KB, as measured: give a thread that makes it 144 KB.
+/// The planner with its tables: [`STATE_SIZE`] bytes, on the stack unless it is put elsewhere. Requests, plans, the calls that add or start and reading back run on a stack of 64 KB; the text takes 80 KB, as measured: give a thread that makes it 144 KB.
 #[derive(Clone)]
 pub struct Planner {
     state: [u64; WORDS],
@@ -184,7 +182,7 @@ impl Planner {
 
     /// One request. A refused one changes no table.
     pub fn allocate(&mut self, request: &Request) -> Result<Granted, Refusal> {
-        let mut record = [0; 9];
+        let mut record = [0; RECORD];
         answer::unsay(&mut self.state);
         let number = raw::allocate(&mut self.state, &request.numbers(), &mut record);
         answer::said(&self.state, number).map(|()| Granted::of(record))
@@ -209,8 +207,8 @@ impl Planner {
         plan.run(&mut self.state)
     }
 
-    fn seen(&self, part: Part, kind: Kind, row: usize) -> Option<[u64; 9]> {
-        let mut out = [0; 9];
+    fn seen(&self, part: Part, kind: Kind, row: usize) -> Option<[u64; ROW]> {
+        let mut out = [0; ROW];
         let number = raw::read(
             &self.state,
             &[part as u64, kind as u64, row as u64],

@@ -1,21 +1,19 @@
 //! Plans: requests, their results, and the results written back into the requests.
 
-use crate::{answer, raw, Refusal, Request, WORDS};
+use crate::{answer, raw, Refusal, Request, MOST, RECORD, REQUEST, WORDS};
 use core::fmt;
-
-const MOST: usize = 128;
 
 /// What was granted: nine numbers. Kind, requester, slot; then of memory and ports base and size, of an input controller, input, trigger and
 /// sharing, of a host IRQ its number, of an MSI request controller, ITS, device, first event, first LPI and count.
 #[derive(Clone, Copy, Debug, PartialEq, Eq)]
-pub struct Granted([u64; 9]);
+pub struct Granted([u64; RECORD]);
 
 impl Granted {
-    pub(crate) fn of(record: [u64; 9]) -> Self {
+    pub(crate) fn of(record: [u64; RECORD]) -> Self {
         Self(record)
     }
 
-    pub fn numbers(&self) -> [u64; 9] {
+    pub fn numbers(&self) -> [u64; RECORD] {
         self.0
     }
 
@@ -52,7 +50,7 @@ impl fmt::Display for PlanRefusal {
 
 impl core::error::Error for PlanRefusal {}
 
-/// Up to 128 requests, and room for their results.
+/// Up to [`MOST`] requests, and room for their results.
 ///
 /// ```
 /// use thurgoleo::{Choice, Plan, Planner, Pool, Request, Use, Want};
@@ -77,9 +75,9 @@ impl core::error::Error for PlanRefusal {}
 /// ```
 #[derive(Clone)]
 pub struct Plan {
-    requests: [u64; 12 * MOST],
+    requests: [u64; REQUEST * MOST],
     asked: usize,
-    results: [u64; 9 * MOST],
+    results: [u64; RECORD * MOST],
     filled: usize,
 }
 
@@ -92,39 +90,39 @@ impl Default for Plan {
 impl Plan {
     pub const fn new() -> Self {
         Self {
-            requests: [0; 12 * MOST],
+            requests: [0; REQUEST * MOST],
             asked: 0,
-            results: [0; 9 * MOST],
+            results: [0; RECORD * MOST],
             filled: 0,
         }
     }
 
-    /// One request more; a plan has at most 128.
+    /// One request more; a plan has at most [`MOST`].
     pub fn push(&mut self, request: &Request) -> Result<(), Refusal> {
         if self.asked == MOST {
             return Err(Refusal::Short);
         }
-        self.requests[12 * self.asked..][..12].copy_from_slice(&request.numbers());
+        self.requests[REQUEST * self.asked..][..REQUEST].copy_from_slice(&request.numbers());
         self.asked += 1;
         Ok(())
     }
 
     /// The numbers of the requests, twelve each.
     pub fn requests(&self) -> &[u64] {
-        &self.requests[..12 * self.asked]
+        &self.requests[..REQUEST * self.asked]
     }
 
     /// What the last run granted, in the requests' order.
     pub fn granted(&self) -> impl Iterator<Item = Granted> + '_ {
         self.results[..self.filled]
-            .chunks_exact(9)
+            .chunks_exact(RECORD)
             .map(|x| Granted(core::array::from_fn(|i| x[i])))
     }
 
     /// Writes what the last run granted back into the requests: what was automatic is then asked for by its number. Requests that were not granted stay.
     pub fn pin(&mut self) {
         raw::pin(
-            &mut self.requests[..12 * self.asked],
+            &mut self.requests[..REQUEST * self.asked],
             &self.results[..self.filled],
         );
     }
@@ -135,21 +133,21 @@ impl Plan {
         self.filled = 0;
         let filled = raw::plan(
             state,
-            &self.requests[..12 * self.asked],
-            &mut self.results[..9 * self.asked],
+            &self.requests[..REQUEST * self.asked],
+            &mut self.results[..RECORD * self.asked],
         );
         let answer = answer::answer(state);
         let granted = match answer[0] {
             0 => self.asked,
             _ => answer[1].min(self.asked as u64) as usize,
         };
-        if filled != 9 * granted as u64 {
+        if filled != (RECORD * granted) as u64 {
             return Err(PlanRefusal {
                 index: 0,
                 refusal: Refusal::Malformed,
             });
         }
-        self.filled = 9 * granted;
+        self.filled = RECORD * granted;
         Refusal::of(&answer).map_err(|refusal| PlanRefusal {
             index: granted,
             refusal,

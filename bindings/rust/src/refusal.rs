@@ -1,5 +1,6 @@
 //! The refusals, with words.
 
+use crate::ANSWER;
 use core::fmt;
 
 /// Why a call was refused. Namespaces: 1 MMIO, 2 PIO, 3 input of a controller, 4 host IRQ, 5 an ITS of a controller, 6 LPI of a controller.
@@ -32,7 +33,7 @@ pub enum Refusal {
 
 impl Refusal {
     /// The refusal that an answer's five numbers (number, index, namespace, owner, detail) say. A number that 01 does not know is no answer: Malformed.
-    pub(crate) fn of(answer: &[u64; 5]) -> Result<(), Refusal> {
+    pub(crate) fn of(answer: &[u64; ANSWER]) -> Result<(), Refusal> {
         let [_, _, namespace, owner, detail] = answer.map(|n| n as u32);
         Err(match answer[0] {
             0 => return Ok(()),

@@ -1,9 +1,11 @@
-//! Plans of 128 requests of all kinds: accepted, pinned, run again in part and in any order; too long, too short, refused in the middle. Each test has a stack of 1 MiB.
+//! Plans of the most requests, of all kinds: accepted, pinned, run again in part and in any order; too long, too short, refused in the middle. Each test has a stack of 1 MiB.
 
 mod common;
 
 use common::{mixed, numbers, planner_plan, small_stack, stand, Rng};
-use thurgoleo::{Choice, Kind, Part, Plan, Planner, Refusal, Want, STATE_SIZE};
+use thurgoleo::{
+    Choice, Kind, Part, Plan, Planner, Refusal, Want, MOST, POOL_ROWS, ROWS, STATE_SIZE,
+};
 
 const KINDS: [Kind; 7] = [
     Kind::Mmio,
@@ -39,16 +41,18 @@ fn the_same_again_in_any_choice_and_order() {
     small_stack(|| {
         let mut first = stand();
         let mut plan = Box::new(Plan::new());
-        mixed(128).iter().for_each(|r| plan.push(r).unwrap());
+        mixed(MOST).iter().for_each(|r| plan.push(r).unwrap());
         first.plan(&mut plan).unwrap();
         let granted: Vec<_> = plan.granted().map(|g| g.numbers()).collect();
         plan.pin();
         let pinned = plan.requests().to_vec();
         let mut rng = Rng(7);
         for turn in 0..200 {
-            let mut order: Vec<usize> = (0..128).collect();
-            (1..128).rev().for_each(|i| order.swap(i, rng.below(i + 1)));
-            order.truncate(if turn < 20 { 128 } else { rng.below(129) });
+            let mut order: Vec<usize> = (0..MOST).collect();
+            (1..MOST)
+                .rev()
+                .for_each(|i| order.swap(i, rng.below(i + 1)));
+            order.truncate(if turn < 20 { MOST } else { rng.below(MOST + 1) });
             let lines: Vec<u64> = order
                 .iter()
                 .flat_map(|i| pinned[12 * i..12 * i + 12].to_vec())
@@ -74,7 +78,12 @@ fn the_same_again_in_any_choice_and_order() {
 fn too_many_and_too_short() {
     small_stack(|| {
         let before = stand().as_words().to_vec();
-        for (requests, room) in [(129, 9 * 129), (128, 9 * 128 - 1), (1, 8), (1, 0)] {
+        for (requests, room) in [
+            (MOST + 1, 9 * (MOST + 1)),
+            (MOST, 9 * MOST - 1),
+            (1, 8),
+            (1, 0),
+        ] {
             let mut words = before.clone();
             let mut results = vec![5; room];
             assert_eq!(run(&mut words, &numbers(&mixed(requests)), &mut results), 0);
@@ -107,12 +116,12 @@ fn too_many_and_too_short() {
 fn a_refusal_in_the_middle_puts_everything_back() {
     small_stack(|| {
         let before = stand().as_words().to_vec();
-        let mut requests = mixed(128);
+        let mut requests = mixed(MOST);
         requests[77].want = Want::HostIrq {
             choice: Choice::Fixed(33),
         };
         let mut words = before.clone();
-        let mut results = vec![5; 9 * 128];
+        let mut results = vec![5; 9 * MOST];
         assert_eq!(run(&mut words, &numbers(&requests), &mut results), 9 * 77);
         assert_eq!(answer(&words), [8, 77, 4, 9, 4]);
         assert_eq!(words[..words.len() - 5], before[..before.len() - 5]);
@@ -128,14 +137,18 @@ fn a_refusal_in_the_middle_puts_everything_back() {
 fn a_count_too_large_in_any_table_is_malformed() {
     small_stack(|| {
         let before = stand().as_words().to_vec();
-        // the counts stand first in each table: 14 pool tables of 97 words, then twice six range tables of 513 and one of inputs of 385
+        // the counts stand first in each table: 14 pool tables, then twice six range tables and one of inputs; two numbers of 32 bits share a word
         let mut at = 0;
-        let sizes: Vec<usize> = [97; 14]
+        let half = |rows: usize| rows.div_ceil(2);
+        let pool = 1 + POOL_ROWS + 2 * POOL_ROWS;
+        let range = 1 + half(3 * ROWS) + 2 * ROWS + half(ROWS);
+        let input = 1 + half(ROWS) + ROWS + half(3 * ROWS);
+        let sizes: Vec<usize> = [pool; 14]
             .into_iter()
-            .chain([513, 513, 385, 513, 513, 513, 513].repeat(2))
+            .chain([range, range, input, range, range, range, range].repeat(2))
             .collect();
         for size in sizes {
-            for count in [129, u64::MAX] {
+            for count in [POOL_ROWS.max(ROWS) as u64 + 1, u64::MAX] {
                 let mut words = before.clone();
                 words[at] = count;
                 let kept = words.clone();

@@ -2,10 +2,12 @@
 
 mod common;
 
-use common::{planner_call, planner_fresh, planner_plan, planner_read, planner_state_size};
+use common::{
+    planner_call, planner_fresh, planner_plan, planner_read, planner_state_size, planner_text,
+};
 use thurgoleo::{
-    Choice, DeviceId, Hold, Kind, Part, Plan, Planner, Pool, Refusal, Request, Use, Want,
-    STATE_SIZE,
+    Choice, DeviceId, Hold, Kind, Part, Plan, Planner, Pool, Refusal, Request, Use, Want, MOST,
+    POOL_ROWS, ROWS, STATE_SIZE, TEXT_OUTPUT,
 };
 
 fn call(state: &mut [u64], numbers: &[u64]) -> [u64; 5] {
@@ -28,9 +30,27 @@ fn state() -> Vec<u64> {
     Planner::new().unwrap().as_words().to_vec()
 }
 
+/// What the crate says of sizes is what the library does; of plans tests/again.rs says so.
 #[test]
-fn size() {
+fn sizes() {
     assert_eq!(unsafe { planner_state_size() }, STATE_SIZE as u64);
+    let p = Planner::new().unwrap();
+    for part in [
+        Part::Automatic,
+        Part::Fixed,
+        Part::Reservations,
+        Part::Owners,
+    ] {
+        for kind in [Kind::Mmio, Kind::Input] {
+            assert!(p.row(part, kind, part.rows() - 1).is_some());
+            assert!(p.row(part, kind, part.rows()).is_none());
+        }
+    }
+    let mut out = vec![0; TEXT_OUTPUT];
+    for (room, bytes) in [(TEXT_OUTPUT, 6), (TEXT_OUTPUT - 1, 0)] {
+        let n = unsafe { planner_text([0u8; 0].as_ptr(), 0, out.as_mut_ptr(), room) };
+        assert_eq!(n, bytes);
+    }
 }
 
 #[test]
@@ -127,11 +147,11 @@ fn what_cannot_be_read() {
 #[test]
 fn an_unsound_state_is_1_before_all_else() {
     let mut s = state();
-    s[0] = 33;
+    s[0] = POOL_ROWS as u64 + 1;
     for numbers in [&[][..], &[9], &[1, 0, 1], &[3], &[4]] {
         assert_eq!(call(&mut s, numbers)[0], 1);
     }
-    assert_eq!(s[0], 33);
+    assert_eq!(s[0], POOL_ROWS as u64 + 1);
 }
 
 #[test]
@@ -195,8 +215,8 @@ fn rows_come_back() {
     let row = p.row(Part::Reservations, Kind::Event, 0).unwrap();
     assert_eq!((row.device, row.start, row.end, row.owner), (3, 10, 20, 9));
     assert_eq!(p.used(Part::Owners, Kind::Input), 0);
-    assert!(p.row(Part::Fixed, Kind::Event, 32).is_none());
-    assert!(p.row(Part::Owners, Kind::Lpi, 127).is_some());
+    assert!(p.row(Part::Fixed, Kind::Event, POOL_ROWS).is_none());
+    assert!(p.row(Part::Owners, Kind::Lpi, ROWS - 1).is_some());
     let s = p.as_words();
     let mut out = [5; 9];
     for (what, room, number) in [
@@ -206,7 +226,7 @@ fn rows_come_back() {
         (&[5, 1, 0], 9, 2),
         (&[1, 0, 0], 9, 2),
         (&[1, 8, 0], 9, 2),
-        (&[1, 1, 32], 9, 2),
+        (&[1, 1, POOL_ROWS as u64], 9, 2),
         (&[0], 4, 11),
     ] {
         let got = unsafe {
@@ -259,11 +279,16 @@ fn a_full_plan() {
             choice: Choice::Auto,
         },
     };
-    for _ in 0..128 {
+    for _ in 0..MOST {
         plan.push(&irq).unwrap();
     }
     assert_eq!(plan.push(&irq), Err(Refusal::Short));
+    // as many as one table has rows; those that no plan reaches, one by one
+    let most = MOST.min(ROWS);
+    plan = Plan::new();
+    (0..most).for_each(|_| plan.push(&irq).unwrap());
     p.plan(&mut plan).unwrap();
-    assert!(plan.granted().map(|g| g.number()).eq(0..128));
+    assert!(plan.granted().map(|g| g.number()).eq(0..most as u64));
+    (most..ROWS).for_each(|_| assert!(p.allocate(&irq).is_ok()));
     assert_eq!(p.allocate(&irq), Err(Refusal::Full));
 }

@@ -3,7 +3,7 @@
 mod common;
 
 use common::{mixed, numbers, planner_pin, planner_plan, stand};
-use thurgoleo::STATE_SIZE;
+use thurgoleo::{MOST, STATE_SIZE};
 
 fn pin(requests: &mut [u64], results: &[u64]) {
     unsafe {
@@ -34,9 +34,9 @@ fn plan(requests: &[u64], results: &mut [u64]) -> usize {
 
 #[test]
 fn an_accepted_plan_is_pinned_whole() {
-    let mut requests = numbers(&mixed(128));
-    let mut results = vec![0; 9 * 128];
-    assert_eq!(plan(&requests, &mut results), 9 * 128);
+    let mut requests = numbers(&mixed(MOST));
+    let mut results = vec![0; 9 * MOST];
+    assert_eq!(plan(&requests, &mut results), 9 * MOST);
     pin(&mut requests, &results);
     assert!(requests.chunks_exact(12).all(|r| r[6] == 1));
     assert!(requests

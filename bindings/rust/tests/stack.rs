@@ -7,7 +7,7 @@ use common::{
     mixed, numbers, on_stack, planner_allocate, planner_call, planner_pin, planner_plan,
     planner_read, planner_text, stand,
 };
-use thurgoleo::{Plan, STATE_SIZE, TEXT_OUTPUT};
+use thurgoleo::{Plan, MOST, RECORD, REQUEST, STATE_SIZE, TEXT_OUTPUT};
 
 const SMALL: usize = 64 << 10;
 const LARGE: usize = 1 << 20;
@@ -66,9 +66,10 @@ fn one_request_of_each_kind() {
 #[test]
 fn plans_of_every_end() {
     let state = stand().as_words().to_vec();
-    let requests = numbers(&mixed(128));
-    let (filled, _, mut results) = same(planner_plan, &state, &requests, 1152);
-    assert_eq!(filled, 1152);
+    let requests = numbers(&mixed(MOST));
+    let room = RECORD * MOST;
+    let (filled, _, mut results) = same(planner_plan, &state, &requests, room);
+    assert_eq!(filled, room as u64);
     // pinned, and its last line asks for what its first was given: every row goes in and is taken out again
     let mut pinned = requests.clone();
     on_stack(SMALL, {
@@ -77,16 +78,16 @@ fn plans_of_every_end() {
         move || unsafe { planner_pin(to as *mut u64, n, from as *const u64, m) }
     });
     let first = pinned[..12].to_vec();
-    pinned[127 * 12..].copy_from_slice(&first);
-    let (filled, after, _) = same(planner_plan, &state, &pinned, 1152);
-    assert_eq!(filled, 9 * 127);
+    pinned[(MOST - 1) * REQUEST..].copy_from_slice(&first);
+    let (filled, after, _) = same(planner_plan, &state, &pinned, room);
+    assert_eq!(filled as usize, room - RECORD);
     let tables = state.len() - 5;
     assert_eq!(after[..tables], state[..tables]);
     // too long, cut within a request, no room
     for (numbers, room) in [
-        (&numbers(&mixed(129))[..], 1161),
-        (&requests[..1535], 1152),
-        (&requests[..], 1151),
+        (&numbers(&mixed(MOST + 1))[..], room + RECORD),
+        (&requests[..requests.len() - 1], room),
+        (&requests[..], room - 1),
     ] {
         assert_eq!(same(planner_plan, &state, numbers, room).0, 0);
     }
@@ -191,12 +192,13 @@ fn the_answer_and_every_table_read_back() {
 #[test]
 fn a_text_beside_its_state() {
     let text = "pool\tauto\tmmio\t0\t1000000\npool\tfixed\tpio\t0\t65535\npool\tauto\tmsi\t0\t0\t0\t64\t0\t64\t8192\t9000\nhold\t7\tmmio\t4096\t8192\n".to_string()
-        + &"want\t3\t1\tmmio\t256\t256\tauto\nwant\t4\t0\tmsi\t0\t0\t2\tauto\n".repeat(64);
+        + &"want\t3\t1\tmmio\t256\t256\tauto\nwant\t4\t0\tmsi\t0\t0\t2\tauto\n".repeat(MOST / 2);
     let text = text.into_bytes();
     on_stack(STATE_SIZE + SMALL, move || {
         let mut out = vec![0; TEXT_OUTPUT];
         let n = unsafe { planner_text(text.as_ptr(), text.len(), out.as_mut_ptr(), out.len()) };
         let said = String::from_utf8(out[..n as usize].to_vec()).unwrap();
-        assert!(said.ends_with("end\t128\n"), "{said}");
+        let end = format!("end\t{}\n", MOST / 2 * 2);
+        assert!(said.ends_with(&end), "{said}");
     });
 }

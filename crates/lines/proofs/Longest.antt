@@ -1,4 +1,4 @@
--- How long an output can be: at most 128 wants are answered, and each line has its limit. Assumes nothing.
+-- How long an output can be: no more wants are answered than a plan has, and each line has its limit. Assumes nothing.
 use mathlib.Core.Path.{_≡_, refl}
 use mathlib.Core.Bool.{Bool, true, false}
 use mathlib.Core.List.{List, [], _∷_, _++_, map}
@@ -132,7 +132,7 @@ closed-few : (t : Sofar) (l : List ℕ) → Few t → Few (closedBy t l)
 closed-few t [] f = f
 closed-few t (b ∷ bs) f = unfinished-few t f
 
--- at most 128 wants are answered
+-- no more wants are answered than a plan has
 pub wants-few : (text : List ℕ) → close (feed step beginning text) .wants ≤ planLimit
 unfolding close feed
 wants-few text =
@@ -156,7 +156,3 @@ pub output-length : (text : List ℕ) → length (output text) ≤ outputLimit
 unfolding output
 output-length text =
     either Fits _ _ (leb (length text) textLimit) (answer-length (close (feed step beginning text)) (wants-few text)) (no-length 0 (tell 0 badLine))
-
--- in bytes
-pub limit-is : outputLimit ≡ 22553
-limit-is = refl

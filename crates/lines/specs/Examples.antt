@@ -3,7 +3,7 @@ use mathlib.Core.Path.{_≡_, refl}
 use mathlib.Core.Bool.{Bool, true, false}
 use mathlib.Core.List.{List, [], _∷_, map}
 use mathlib.Core.Option.{Option, none, some}
-use Prim.Native.Nat.{ℕ}
+use Prim.Native.Nat.{ℕ, suc}
 use Prim.Native.String.{String}
 use lib.ListN.{replicate}
 use Rattle.definition.specs.Base.{anyOf, allOf, pairsOf, firstOf, lower, leastOf, require}
@@ -12,7 +12,7 @@ use Rattle.definition.specs.Pools.{insert, unlessThere, addRange, rowsOf, room,
 use Rattle.definition.specs.Request.{goodChoice, oneBit, goodWant, goodRequest, rowAt, aligned, holds, free, alignUp, candidates, lowest, allowed, unjoined, obstacle, detail, found, unopposed, place, claims, resolve}
 use Rattle.definition.specs.Calls.{Call, givenAt, soundAt, given, sound, pushAll, addAll, serve}
 use Rattle.definition.specs.Plan.{recordOf, allocateInto}
-use Rattle.lines.specs.Base.{bytes, same, grow, split, when, _andThen_, _orElse_}
+use Rattle.lines.specs.Base.{textLimit, bytes, same, grow, split, when, _andThen_, _orElse_}
 use Rattle.lines.specs.Numbers.{valueFrom, plain, number, digitsUpTo, digits}
 use Rattle.lines.specs.Line.{behind, lineOf, entry, numbers, form, poolOf, poolLine, holdIts, holdOf, holdLine, wantAtOf, wantAt, wantOf, wantLine, useOf, behindPool, behindHold, behindWant, byWord, byFields, readLine, _gives_}
 use Rattle.lines.specs.Output.{carriedBy, gotLine, gotLines, endLine, noLine}
@@ -64,10 +64,10 @@ cases =
     ∷ case "pool\tfixed\tmmio\t0\t32768\nhold\t9\tmmio\t12288\t16384\nwant\t1\t1\tmmio\t8192\t4096\t8192\n" "no\t3\t8\t1\t9\t1\n"
     -- the largest number of 64 bits is a number
     ∷ case "hold\t4294967295\tmmio\t18446744073709551614\t18446744073709551615\nwant\t1\t1\thost\tauto\n" "no\t2\t7\t4\t0\t0\n"
-    -- 32,768 bytes are read, and end in an unfinished line
-    ∷ blanks 32768 "no\t1\t10\t0\t0\t0\n"
+    -- the longest text is read, and ends in an unfinished line
+    ∷ blanks textLimit "no\t1\t10\t0\t0\t0\n"
     -- one more is too many, before all else
-    ∷ blanks 32769 "no\t0\t10\t0\t0\t0\n"
+    ∷ blanks (suc textLimit) "no\t0\t10\t0\t0\t0\n"
     ∷ []
 
 outputs : map (λ c. output (c .text)) cases ≡ map (λ c. c .written) cases

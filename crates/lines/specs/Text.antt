@@ -66,7 +66,7 @@ answered t r =
       | false ↦ next t (naming (t .wants) (r .state))
     ]
 
--- a 129th `want` is 11
+-- one `want` more than a plan has is 11
 unfoldable pub ask : Sofar → Request → Sofar
 ask t r =
     elim (ltb (t .wants) planLimit) [

@@ -14,6 +14,9 @@ ghost use Rattle.lines.specs.Base.{tab, split};
 ghost use Rattle.lines.specs.Line.{behindPool, behindHold, behindWant, byWord, readLine};
 ghost use Rattle.request.specs.Calls.{callOf};
 
+// The longest line, its newline left out.
+const LINE: usize = 200;
+
 // Behind `pool`: auto or fixed, and the rest.
 pub fn read_pools(word: &[u8], kind: &[u8], rest: &[u8]) -> Call
     ensures { λ r. ⌜ callOf r ≡ behindPool (now (word .entry)) (now (kind .entry)) (split tab (now (rest .entry))) ⌝ }
@@ -79,7 +82,7 @@ pub fn read_line(line: &[u8]) -> Call
     ensures { λ r. ⌜ callOf r ≡ readLine (now (line .entry)) ⌝ }
 {
     let n = line.len();
-    if 200 < n {
+    if LINE < n {
         return Call::Bad;
     }
     let a = find(line, 0, 9);

@@ -9,6 +9,7 @@ use mir.Syntax.{Body as Code}
 use mir.Val.{Vals}
 use types.Kit.{Step}
 use types.Run.{Walks}
+use Rattle.definition.specs.Tables.{rowLimit}
 use Rattle.store.proofs.Item.{item, known, map-set, Column, column-length}
 
 -- t.COLUMN[at] = put.row.COLUMN: column k of the table, of numbers of the width w, field j of the row; the locals a and p hold the column's place and the element's
@@ -23,10 +24,10 @@ abbrev pub storesAll : Ty → ℕ → List Width → Code → Code
 storesAll τ k [] rest = rest
 storesAll τ k (w ∷ ws) rest = stores τ w (suc k) k (6 + 2 * k) (7 + 2 * k) (storesAll τ (suc k) ws rest)
 
--- columns of 128 rows, and a row
+-- columns of an owner table, and a row
 abbrev pub columnTys : List Width → Tys
 columnTys [] = tnil
-columnTys (w ∷ ws) = tcons (tyArray (tyInt w) 128) (columnTys ws)
+columnTys (w ∷ ws) = tcons (tyArray (tyInt w) rowLimit) (columnTys ws)
 
 abbrev pub numberTys : List Width → Tys
 numberTys [] = tnil
@@ -94,7 +95,7 @@ size-fits w32 = tt
 size-fits w64 = tt
 size-fits w128 = tt
 
-far-fits : (w : Width) (n : ℕ) → n < 128 → n * bytes w < 2 ^ 64
+far-fits : (w : Width) (n : ℕ) → n < rowLimit → n * bytes w < 2 ^ 64
 far-fits w8 n l = omega (arith, l)
 far-fits w16 n l = omega (arith, l)
 far-fits w32 n l = omega (arith, l)
@@ -177,8 +178,8 @@ module _ {M : Type 1} (𝓤 : URA M) (H : Heap 𝓤) (A : Atoms 𝓤) (z : Setti
 
 module _ {M : Type 1} {𝓤 : URA M} {H : Heap 𝓤} {A : Atoms 𝓤} {K : Type 0} {W : Given 𝓤 H A} (z : Setting) (l : Six) where
   pub column : K → {F : Env 𝓤 H} {C : Calls 𝓤 H} {Λ : Loops 𝓤 H} {Q : Ends 𝓤 H} {G : Goal 𝓤 H} {Γ : List (Item 𝓤)} {w : Width} {k j a p x y : ℕ} {ptrs : Item 𝓤} {rest : Code} {us us₂ : Vals} {d e : ℕ} {vs : List Val} (xs : List ℕ) (v : ℕ)
-      → z .n < 128 → Column w 128 xs vs → v < 2 ^ bits w
-      → fieldAt zero (tcons (tyInt w64) (columnTys (z .ws))) (suc k) ≡ some (tyArray (tyInt w) 128, d) → fieldAt zero (tcons (tyInt w64) (raws (columnTys (z .ws)))) (suc k) ≡ some (tyArray (tyInt w) 128, d) → getV us k ≡ arrayVal (map (vint w) xs)
+      → z .n < rowLimit → Column w rowLimit xs vs → v < 2 ^ bits w
+      → fieldAt zero (tcons (tyInt w64) (columnTys (z .ws))) (suc k) ≡ some (tyArray (tyInt w) rowLimit, d) → fieldAt zero (tcons (tyInt w64) (raws (columnTys (z .ws)))) (suc k) ≡ some (tyArray (tyInt w) rowLimit, d) → getV us k ≡ arrayVal (map (vint w) xs)
       → fieldAt zero (numberTys (z .ws)) j ≡ some (tyInt w, e) → getV (numberVals (z .ws) (z .row)) j ≡ vint w v
       → spotOf 𝓤 H (En 𝓤 H A z l F) a ≡ (tyPtr, x, 0) → spotOf 𝓤 H (En 𝓤 H A z l F) p ≡ (tyPtr, y, 0)
       → Step K W (Storing 𝓤 H A z l us₂ ptrs (pair 𝓤 H A x y ∷ Γ)) G (Storing 𝓤 H A z l (setV us k (arrayVal (map (vint w) (set xs (z .n) v)))) ptrs (pair 𝓤 H A x y ∷ Γ)) (runs C Λ (En 𝓤 H A z l F) rest Q)
@@ -196,7 +197,7 @@ module _ {M : Type 1} {𝓤 : URA M} {H : Heap 𝓤} {A : Atoms 𝓤} {K : Type 
       -- [the pair 0; the others' 1; the cell 2; _5 3; at 4; put 5; t 6]
       move t (2 ∷ 3 ∷ 4 ∷ 5 ∷ 6 ∷ 1 ∷ 0 ∷ []) $ others $ move t (6 ∷ 5 ∷ []) $ join t $ move t (1 ∷ 2 ∷ 3 ∷ 4 ∷ 5 ∷ 0 ∷ []) $ s)
     where
-      len′ : length (map (vint w) xs) ≡ 128
+      len′ : length (map (vint w) xs) ≡ rowLimit
       len′ = length-map xs (vint w) ∙ column-length w xs is
 
 module _ {M : Type 1} (𝓤 : URA M) (H : Heap 𝓤) (A : Atoms 𝓤) (W : Given 𝓤 H A) (z : Setting) (D : Type 0) (wr : Written) (rc : List (Written × List Ty)) (own : D → List Val → Fml) (ex : Kept → Exit D) (cd : Coded D) (count : D → ℕ) (cols : D → Vals) where
@@ -227,7 +228,7 @@ module _ {M : Type 1} (𝓤 : URA M) (H : Heap 𝓤) (A : Atoms 𝓤) (W : Given
         returns ! (look ! 14 refl) $ forget ! 6 refl $ forget ! 10 refl $ forget ! 12 refl $ forget ! 14 refl $
         move ! (14 ∷ 15 ∷ []) $ free1 ! $ move ! (12 ∷ 13 ∷ []) $ free1 ! $ move ! (10 ∷ 11 ∷ []) $ free1 ! $ move ! (8 ∷ 9 ∷ []) $ free1 ! $ move ! (6 ∷ 7 ∷ []) $ free1 ! $ move ! (4 ∷ 5 ∷ []) $ free1 ! $ move ! (3 ∷ []) $ free-all 𝓤 H A ! m bs $ by ! exits
 
-    pub put-walk : (Holds (z .go) → z .n < 128)
+    pub put-walk : (Holds (z .go) → z .n < rowLimit)
         → (Holds (z .go) → Is R h (val h ∷ []) → (l : Six) (bs : Blocks m) (rest : Code) (Q : Ends 𝓤 H) (Γ : List (Item 𝓤))
         → Step (Go {0}) W (Storing 𝓤 H A z l us (held 𝓤 H A m bs) Γ) (runs C Λ (E l bs) rest Q) (Storing 𝓤 H A z l (cols h) (held 𝓤 H A m bs) Γ) (runs C Λ (E l bs) (storesAll (tableTy z) 0 (z .ws) rest) Q))
         → (Holds (z .go) → Is R h (val h ∷ []) → Is R h′ (vstruct (vcons (vint w64 (z .n + 1)) us) ∷ []))

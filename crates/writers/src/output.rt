@@ -12,6 +12,15 @@ ghost use Rattle.lines.specs.Base.{tab};
 ghost use Rattle.lines.specs.Output.{carriedBy, gotLine, endLine, noLine};
 ghost use Rattle.writers.specs.Put.{Put};
 
+// A number behind its tab: at most the twenty digits of 64 bits.
+const FIELD: usize = 21;
+
+// The longest `got` line, which is MSI's: `got`, requester and slot, the word behind its tab, six numbers, the newline.
+pub const GOT: usize = 3 + 2 * FIELD + 4 + 6 * FIELD + 1;
+
+// The longest `end` line.
+pub const END: usize = 3 + FIELD + 1;
+
 // How many numbers a record of kind k carries.
 pub fn carried(k: u64) -> usize
     ensures { λ r. ⌜ r ≡ carriedBy k .count ⌝ }

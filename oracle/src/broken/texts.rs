@@ -13,7 +13,7 @@ pub const ALL: [Broken; 8] = [
     Broken { name: "counts lines from 0", way: Way::Text, face: face::<LinesFromZero> },
     Broken { name: "cuts a text that is too long", way: Way::Text, face: face::<CutsText> },
     Broken { name: "takes a pool behind a want", way: Way::Text, face: face::<LatePool> },
-    Broken { name: "a 129th want is Full", way: Way::Text, face: face::<FullWant> },
+    Broken { name: "one want too many is Full", way: Way::Text, face: face::<FullWant> },
 ];
 
 fn lines(text: &[u8]) -> Vec<&[u8]> {

@@ -225,7 +225,7 @@ fn unfinished() -> Vec<Case> {
     ]
 }
 
-/// Lines of 200 and 201 bytes. No good line is that long, so both are bad; a good one follows to show which decides.
+/// Lines of the most bytes, and of one more. No good line is that long, so both are bad; a good one follows to show which decides.
 fn long_lines() -> Vec<Case> {
     let line = |bytes: usize| {
         let mut text = b"want\t1\t1\thost\t".to_vec();
@@ -233,7 +233,7 @@ fn long_lines() -> Vec<Case> {
         text.extend_from_slice(b"\npool\tauto\thost\t0\t9\n");
         text
     };
-    vec![bad("line-200", line(LINE)), bad("line-201", line(LINE + 1)), bad("line-30000", line(30_000))]
+    vec![bad("line-longest", line(LINE)), bad("line-over", line(LINE + 1)), bad("line-30000", line(30_000))]
 }
 
 /// Texts of the largest total and one byte more.
@@ -241,9 +241,9 @@ fn long_texts() -> Vec<Case> {
     let mut refused_first = b"hold\t0\tmmio\t0\t1\n".to_vec();
     refused_first.extend(repeated_pools(TEXT + 1 - refused_first.len()));
     vec![
-        case("text-32768", repeated_pools(TEXT), lines("end 0")),
-        case("text-32769", repeated_pools(TEXT + 1), refused(0, 10)),
-        case("text-32769-refused-first", refused_first, refused(0, 10)),
+        case("text-longest", repeated_pools(TEXT), lines("end 0")),
+        case("text-over", repeated_pools(TEXT + 1), refused(0, 10)),
+        case("text-over-refused-first", refused_first, refused(0, 10)),
     ]
 }
 

@@ -1,6 +1,7 @@
 // Tables filled to their last row: what still gets in, what is refused before Full, and the limit of wants.
 
 use super::{case, lines, refused, Case};
+use crate::added::{HELD_ROWS, PLAN_REQUESTS, POOL_ROWS};
 
 const KINDS: [&str; 7] = ["mmio", "pio", "input", "host", "device", "event", "lpi"];
 
@@ -47,30 +48,34 @@ fn joined(lines: impl Iterator<Item = String>) -> String {
 }
 
 fn full_pool(mode: &str, kind: &str) -> Vec<Case> {
-    let full = joined((0..32).map(|i| pool(mode, kind, i)));
+    let full = joined((0..POOL_ROWS).map(|i| pool(mode, kind, i)));
+    let more = POOL_ROWS + 1;
     let name = |what: &str| format!("full-pool-{mode}-{kind}-{what}");
-    let empty = pool(mode, kind, 33).replace("66 68", "66 66");
+    let empty =
+        pool(mode, kind, more).replace(&format!("{} {}", 2 * more, 2 * more + 2), &format!("{0} {0}", 2 * more));
     vec![
-        case(&name("33rd"), lines(&format!("{full}/{}", pool(mode, kind, 32))), refused(33, 9)),
+        case(&name("one-more"), lines(&format!("{full}/{}", pool(mode, kind, POOL_ROWS))), refused(more, 9)),
         case(&name("duplicate"), lines(&format!("{full}/{}", pool(mode, kind, 7))), lines("end 0")),
-        case(&name("empty"), lines(&format!("{full}/{empty}")), refused(33, 4)),
+        case(&name("empty"), lines(&format!("{full}/{empty}")), refused(more, 4)),
     ]
 }
 
 fn full_holds(kind: &str) -> Vec<Case> {
-    let full = joined((0..128).map(|i| hold(4, kind, i)));
+    let full = joined((0..HELD_ROWS).map(|i| hold(4, kind, i)));
+    let more = HELD_ROWS + 1;
     let name = |what: &str| format!("full-hold-{kind}-{what}");
+    let reserved = lines(&format!("no {more} 5 0 4 0"));
     vec![
-        case(&name("129th"), lines(&format!("{full}/{}", hold(5, kind, 128))), refused(129, 9)),
-        case(&name("reserved"), lines(&format!("{full}/{}", hold(5, kind, 127))), lines("no 129 5 0 4 0")),
-        case(&name("owner-0"), lines(&format!("{full}/{}", hold(0, kind, 128))), refused(129, 3)),
+        case(&name("one-more"), lines(&format!("{full}/{}", hold(5, kind, HELD_ROWS))), refused(more, 9)),
+        case(&name("reserved"), lines(&format!("{full}/{}", hold(5, kind, HELD_ROWS - 1))), reserved),
+        case(&name("owner-0"), lines(&format!("{full}/{}", hold(0, kind, HELD_ROWS))), refused(more, 3)),
     ]
 }
 
 /// The want that meets a full owner table of the kind: pools, an automatic want and what it would be refused with
 /// first if nothing were free.
 fn full_owners(kind: &str) -> Vec<Case> {
-    let full = joined((0..128).map(|i| hold(4, kind, i)));
+    let full = joined((0..HELD_ROWS).map(|i| hold(4, kind, i)));
     let name = |what: &str| format!("full-owner-{kind}-{what}");
     let (pools, auto, fixed, taken) = match kind {
         "mmio" => ("pool M mmio 0 999", "mmio 1 1 auto", "mmio 1 1 998", ("mmio 1 1 255", "1 4 1")),
@@ -86,42 +91,51 @@ fn full_owners(kind: &str) -> Vec<Case> {
         _ => ("pool M msi 0 0 0 999 0 999 0 999", "msi 0 0 1 auto", "msi 0 0 1 0 0 998", ("msi 0 0 1 0 0 9", "6 4 7")),
     };
     let front = format!("{full}/{}/{}", pools.replace('M', "auto"), pools.replace('M', "fixed"));
+    let line = HELD_ROWS + 3;
     let mut cases = vec![
-        case(&name("auto"), lines(&format!("{front}/want 1 1 {auto}")), refused(131, 9)),
-        case(&name("fixed"), lines(&format!("{front}/want 1 1 {fixed}")), refused(131, 9)),
+        case(&name("auto"), lines(&format!("{front}/want 1 1 {auto}")), refused(line, 9)),
+        case(&name("fixed"), lines(&format!("{front}/want 1 1 {fixed}")), refused(line, 9)),
         case(
             &name("conflict"),
             lines(&format!("{front}/want 1 1 {}", taken.0)),
-            lines(&format!("no 131 8 {}", taken.1)),
+            lines(&format!("no {line} 8 {}", taken.1)),
         ),
     ];
     if kind == "input" {
         let shared = format!("{front}/want 1 1 input 0 1 1 3");
-        cases.push(case(&name("shared"), lines(&shared), refused(131, 9)));
+        cases.push(case(&name("shared"), lines(&shared), refused(line, 9)));
     }
     cases
 }
 
 /// Rows of several domains share a table; holds and grants share the owner table; a refusal comes before Full.
 fn mixed() -> Vec<Case> {
-    let controllers = joined((0..128).map(|i| format!("hold 1 input {i} 7 0 0")));
+    let controllers = joined((0..HELD_ROWS).map(|i| format!("hold 1 input {i} 7 0 0")));
     let half = joined((0..100).map(|i| hold(4, "host", i)));
-    let wants = joined((0..28).map(|_| "want 1 1 host auto".to_string()));
-    let full = joined((0..128).map(|i| hold(4, "host", i)));
+    let wants = joined((100..HELD_ROWS).map(|_| "want 1 1 host auto".to_string()));
+    let full = joined((0..HELD_ROWS).map(|i| hold(4, "host", i)));
     vec![
-        case("full-hold-all-domains", lines(&format!("{controllers}/hold 1 input 200 7 0 0")), refused(129, 9)),
+        case(
+            "full-hold-all-domains",
+            lines(&format!("{controllers}/hold 1 input 200 7 0 0")),
+            refused(HELD_ROWS + 1, 9),
+        ),
         case(
             "full-owner-holds-and-grants",
             lines(&format!("{half}/pool auto host 0 999/{wants}/want 1 1 host auto")),
-            refused(130, 9),
+            refused(HELD_ROWS + 2, 9),
         ),
         case(
             "full-owner-exhausted",
-            lines(&format!("{full}/pool auto host 0 256/want 1 1 host auto")),
-            lines("no 130 7 4 0 0"),
+            lines(&format!("{full}/pool auto host 0 {}/want 1 1 host auto", 2 * HELD_ROWS)),
+            lines(&format!("no {} 7 4 0 0", HELD_ROWS + 2)),
         ),
-        case("full-owner-not-allowed", lines(&format!("{full}/want 1 1 host 3")), lines("no 129 6 4 0 0")),
-        case("full-owner-bad-input", lines(&format!("{full}/want 0 1 host auto")), refused(129, 2)),
+        case(
+            "full-owner-not-allowed",
+            lines(&format!("{full}/want 1 1 host 3")),
+            lines(&format!("no {} 6 4 0 0", HELD_ROWS + 1)),
+        ),
+        case("full-owner-bad-input", lines(&format!("{full}/want 0 1 host auto")), refused(HELD_ROWS + 1, 2)),
         case(
             "full-owner-of-another-kind",
             lines(&format!("{full}/pool auto input 0 0 9/want 1 1 input 0 0 0 auto")),
@@ -130,16 +144,27 @@ fn mixed() -> Vec<Case> {
     ]
 }
 
-/// The 128th want is the last one; a 129th is 10 if it is bad, else 11, whatever else could be said against it.
+/// As many wants as a plan has; one more is 10 if it is bad, else 11, whatever else could be said against it. Host IRQs as far as their table goes.
 fn many_wants() -> Vec<Case> {
-    let wants = joined((0..128).map(|i| format!("want 1 {i} host auto")));
+    let host = |i: usize| i < HELD_ROWS;
+    let wants =
+        joined((0..PLAN_REQUESTS).map(|i| format!("want 1 {i} {} auto", if host(i) { "host" } else { "mmio 1 1" })));
     let text = format!("pool auto host 5 999/pool auto mmio 0 9/{wants}");
-    let got: String = (0..128).map(|i| format!("got 1 {i} host {}/", i + 5)).collect();
+    let got: String = (0..PLAN_REQUESTS)
+        .map(|i| {
+            if host(i) {
+                format!("got 1 {i} host {}/", i + 5)
+            } else {
+                format!("got 1 {i} mmio {} 1/", i - HELD_ROWS)
+            }
+        })
+        .collect();
     let kinds = joined(
-        (0..128).map(|i| format!("want 1 {i} {}", ["mmio 1 1", "pio 1 1", "host", "input 0 0 0"][i % 4]) + " auto"),
+        (0..PLAN_REQUESTS)
+            .map(|i| format!("want 1 {i} {}", ["mmio 1 1", "pio 1 1", "host", "input 0 0 0"][i % 4]) + " auto"),
     );
     let pools = "pool auto mmio 0 99/pool auto pio 0 99/pool auto host 0 99/pool auto input 0 0 99";
-    let got_kinds: String = (0..128)
+    let got_kinds: String = (0..PLAN_REQUESTS)
         .map(|i| match i % 4 {
             0 => format!("got 1 {i} mmio {} 1/", i / 4),
             1 => format!("got 1 {i} pio {} 1/", i / 4),
@@ -147,15 +172,17 @@ fn many_wants() -> Vec<Case> {
             _ => format!("got 1 {i} input 0 {} 0 0/", i / 4),
         })
         .collect();
+    let line = PLAN_REQUESTS + 3;
+    let end = format!("end {PLAN_REQUESTS}");
     vec![
-        case("wants-128", lines(&text), lines(&format!("{got}end 128"))),
-        case("wants-128-mixed", lines(&format!("{pools}/{kinds}")), lines(&format!("{got_kinds}end 128"))),
-        case("wants-129", lines(&format!("{text}/want 1 1 mmio 1 1 auto")), refused(131, 11)),
-        case("wants-129-full-too", lines(&format!("{text}/want 1 1 host auto")), refused(131, 11)),
-        case("wants-129-bad-input", lines(&format!("{text}/want 0 1 mmio 0 3 auto")), refused(131, 11)),
-        case("wants-129-bad-line", lines(&format!("{text}/want 1 1 mmio 1 1")), refused(131, 10)),
-        case("wants-129-pool", lines(&format!("{text}/pool auto mmio 0 9")), refused(131, 10)),
-        case("wants-129-bad-after", lines(&format!("{text}/want 1 1 host auto/nonsense")), refused(131, 11)),
-        case("wants-128-empty-line", lines(&format!("{text}/")), refused(131, 10)),
+        case("wants-most", lines(&text), lines(&format!("{got}{end}"))),
+        case("wants-most-mixed", lines(&format!("{pools}/{kinds}")), lines(&format!("{got_kinds}{end}"))),
+        case("wants-over", lines(&format!("{text}/want 1 1 mmio 1 1 auto")), refused(line, 11)),
+        case("wants-over-full-too", lines(&format!("{text}/want 1 1 host auto")), refused(line, 11)),
+        case("wants-over-bad-input", lines(&format!("{text}/want 0 1 mmio 0 3 auto")), refused(line, 11)),
+        case("wants-over-bad-line", lines(&format!("{text}/want 1 1 mmio 1 1")), refused(line, 10)),
+        case("wants-over-pool", lines(&format!("{text}/pool auto mmio 0 9")), refused(line, 10)),
+        case("wants-over-bad-after", lines(&format!("{text}/want 1 1 host auto/nonsense")), refused(line, 11)),
+        case("wants-most-empty-line", lines(&format!("{text}/")), refused(line, 10)),
     ]
 }

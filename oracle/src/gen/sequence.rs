@@ -2,7 +2,7 @@
 
 use super::rng::Rng;
 use super::scene::{trigger, Scene};
-use crate::added::RECORD;
+use crate::added::{HELD_ROWS, PLAN_REQUESTS, POOL_ROWS, RECORD};
 use crate::calls::{Add, Call, Kind, Request};
 
 pub fn calls(rng: &mut Rng) -> Vec<Call> {
@@ -78,7 +78,7 @@ fn any_request(rng: &mut Rng, scene: &Scene) -> Request {
 
 fn plan(rng: &mut Rng, scene: &Scene) -> Call {
     let length = match rng.below(30) {
-        0 => rng.between(127, 130),
+        0 => rng.between(PLAN_REQUESTS as u64 - 1, PLAN_REQUESTS as u64 + 2),
         _ => rng.below(6),
     };
     let requests: Vec<Request> = (0..length).map(|_| any_request(rng, scene)).collect();
@@ -94,10 +94,10 @@ fn plan(rng: &mut Rng, scene: &Scene) -> Call {
 fn fill(rng: &mut Rng, scene: &Scene, calls: &mut Vec<Call>) {
     let kind = scene.kind(rng);
     let adds = if rng.chance(50) {
-        let (fixed, rows) = (rng.chance(50), rng.between(30, 34));
+        let (fixed, rows) = (rng.chance(50), rng.between(POOL_ROWS as u64 - 2, POOL_ROWS as u64 + 2));
         scene.many_pools(rng, kind, fixed, rows)
     } else {
-        let rows = rng.between(125, 130);
+        let rows = rng.between(HELD_ROWS as u64 - 3, HELD_ROWS as u64 + 2);
         scene.many_holds(rng, kind, rows)
     };
     calls.extend(adds.into_iter().map(Call::Add));

@@ -3,6 +3,7 @@
 use super::lines::{line_of_add, line_of_request};
 use super::rng::Rng;
 use super::scene::Scene;
+use crate::added::{HELD_ROWS, POOL_ROWS};
 use crate::calls::{Add, Kind};
 use crate::text::Reader;
 
@@ -60,10 +61,10 @@ impl Draft {
     fn fill(&mut self, rng: &mut Rng, scene: &Scene) {
         let kind = rng.pick(&Kind::ALL);
         let adds: Vec<Add> = if rng.chance(50) {
-            let (fixed, rows) = (rng.chance(50), rng.between(30, 34));
+            let (fixed, rows) = (rng.chance(50), rng.between(POOL_ROWS as u64 - 2, POOL_ROWS as u64 + 2));
             scene.many_pools(rng, kind, fixed, rows)
         } else {
-            let rows = rng.between(125, 130);
+            let rows = rng.between(HELD_ROWS as u64 - 3, HELD_ROWS as u64 + 2);
             scene.many_holds(rng, kind, rows)
         };
         for line in adds.iter().filter_map(line_of_add) {

@@ -6,7 +6,7 @@ mod exported;
 
 pub use exported::*;
 
-use thurgoleo::{Choice, Hold, Plan, Planner, Pool, Request, Use, Want};
+use thurgoleo::{Choice, Hold, Plan, Planner, Pool, Request, Use, Want, MOST};
 
 pub fn small_stack(run: impl FnOnce() + Send + 'static) {
     on_stack(1 << 20, run);
@@ -102,8 +102,8 @@ pub fn stand() -> Box<Planner> {
 }
 
 /// So many automatic requests, the kinds in turn.
-pub fn mixed(n: u32) -> Vec<Request> {
-    (0..n)
+pub fn mixed(n: usize) -> Vec<Request> {
+    (0..n as u32)
         .map(|i| {
             let want = match i % 5 {
                 0 => Want::Mmio {
@@ -147,7 +147,7 @@ pub fn mixed(n: u32) -> Vec<Request> {
 pub fn numbers(requests: &[Request]) -> Vec<u64> {
     let mut plan = Box::new(Plan::new());
     let mut all = Vec::new();
-    for part in requests.chunks(128) {
+    for part in requests.chunks(MOST) {
         *plan = Plan::new();
         part.iter().for_each(|r| plan.push(r).unwrap());
         all.extend_from_slice(plan.requests());

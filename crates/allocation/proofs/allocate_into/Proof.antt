@@ -3,6 +3,7 @@ use native.Mathlib.Omega.{arith}
 use mathlib.Core.Path.{sym, ap, _∙_}
 use Prim.Native.Nat.{_≤_, _<_}
 use lib.ListN.{length}
+use Rattle.definition.specs.Tables.{recordSize}
 use Rattle.definition.specs.BaseLaws.{true-T}
 use Rattle.definition.specs.Plan.{lent}
 use Rattle.allocation.specs.Records.{listOf, recordIn}
@@ -28,13 +29,13 @@ same-length : tie.Need-same-length
 same-length c = search needs
 
 returns : tie.Need-returns
-returns c = let l : 9 ≤ length (c .before .before .before .before .before .before .before .before .before .before .before .before .before .args .out .now) = omega arith in
+returns c = let l : recordSize ≤ length (c .before .before .before .before .before .before .before .before .before .before .before .before .before .args .out .now) = omega arith in
     let a = c .before .before .before .before .before .before .before .before .resolve .ensures in
     into-written _ _ _ _ _ _ (sym (c .before .before .before .before .before .before .before .before .before .before .before .sound .ensures) ∙ c .before .before .before .before .before .before .before .before .before .before .if1 .taken) l (a .state) (a .bases) _ _ (c .before .before .before .before .before .if3 .taken)
     (λ cs e. ap listOf (c .before .before .before .before .record-of .ensures ∙ ap (recordIn (c .before .before .before .before .before .before .before .before .before .before .before .before .before .args .r)) e) ∙ record-granted (c .before .before .before .before .before .before .before .before .before .before .before .before .before .args .r) cs) (c .before .before .write-record .ensures)
 
 returns-2 : tie.Need-returns-2
-returns-2 c = let l : 9 ≤ length (c .before .before .before .before .before .before .before .before .args .out .now) = omega arith in
+returns-2 c = let l : recordSize ≤ length (c .before .before .before .before .before .before .before .before .args .out .now) = omega arith in
     let a = c .before .before .before .resolve .ensures in
     into-kept _ _ _ _ _ _ (sym (c .before .before .before .before .before .before .sound .ensures) ∙ c .before .before .before .before .before .if1 .taken) l (a .state) (a .bases) (c .if3 .left)
 
@@ -42,7 +43,7 @@ refuse-requires : tie.Need-refuse-requires
 refuse-requires c κs = search needs
 
 returns-3 : tie.Need-returns-3
-returns-3 c = let l : length (c .before .before .before .before .before .args .out .now) < 9 = omega arith in
+returns-3 c = let l : length (c .before .before .before .before .before .args .out .now) < recordSize = omega arith in
     ap (λ x. lent x (c .before .before .before .before .before .args .out .now)) (c .refuse .ensures) ∙ into-short _ _ _ _ (sym (c .before .before .before .sound .ensures) ∙ c .before .before .if1 .taken) l
 
 refuse-requires-2 : tie.Need-refuse-requires-2

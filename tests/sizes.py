@@ -1,0 +1,75 @@
+#!/usr/bin/env python3
+"""Sizes: each stands once in the definition and once in the proved code, which the checker ties to one another. Whatever else states one is held to them here."""
+import pathlib
+import re
+import sys
+
+ROOT = pathlib.Path(__file__).resolve().parent.parent
+
+# where the definition and the proved code state a size
+STATED = {
+    "rows of a pool table": ("crates/definition/specs/Tables.antt poolLimit", "crates/tables/src/lib.rt POOL_ROWS"),
+    "rows of an owner table": ("crates/definition/specs/Tables.antt rowLimit", "crates/tables/src/lib.rt ROWS"),
+    "requests of a plan": ("crates/definition/specs/Tables.antt planLimit", "crates/tables/src/lib.rt PLAN"),
+    "numbers of a record": ("crates/definition/specs/Tables.antt recordSize", "crates/tables/src/lib.rt RECORD"),
+    "numbers of a request": ("crates/flat/specs/Flat.antt requestSize", "crates/flat/src/lib.rt REQUEST"),
+    "bytes of a text": ("crates/lines/specs/Base.antt textLimit", "crates/text/src/lib.rt TEXT"),
+    "bytes of a line": ("crates/lines/specs/Base.antt lineLimit", "crates/reader/src/read.rt LINE"),
+}
+# where it is stated again: for other languages, and for the judge, which reads no file of ours
+AGAIN = {
+    "rows of a pool table": ("bindings/c/planner.h PLANNER_POOL_ROWS", "bindings/rust/src/sizes.rs POOL_ROWS", "oracle/src/added.rs POOL_ROWS"),
+    "rows of an owner table": ("bindings/c/planner.h PLANNER_ROWS", "bindings/rust/src/sizes.rs ROWS", "oracle/src/added.rs HELD_ROWS"),
+    "requests of a plan": ("bindings/c/planner.h PLANNER_MOST", "bindings/rust/src/sizes.rs MOST", "oracle/src/added.rs PLAN_REQUESTS", "tools/explain.py WANTS"),
+    "numbers of a record": ("bindings/c/planner.h PLANNER_RECORD", "bindings/rust/src/sizes.rs RECORD", "oracle/src/added.rs RECORD"),
+    "numbers of a request": ("bindings/c/planner.h PLANNER_REQUEST", "bindings/rust/src/sizes.rs REQUEST"),
+    "bytes of a text": ("oracle/src/text.rs TEXT", "tools/explain.py TEXT"),
+    "bytes of a line": ("oracle/src/text.rs LINE", "tools/explain.py LONGEST"),
+}
+
+
+def number(place):
+    """What a file says of a name, in whatever language: it says it once, as a plain number."""
+    path, name = place.split()
+    said = re.findall(rf"^(?:.*\s)?{name}(?:: usize)?(?: =)? ([0-9_]+)u?(?![0-9A-Za-z_]| [*+])", (ROOT / path).read_text(), re.MULTILINE)
+    if len(said) != 1:
+        sys.exit(f"tests/sizes.py: {path} says {name} {len(said)} times")
+    return int(said[0])
+
+
+SIZES = {size: number(code) for size, (_, code) in STATED.items()}
+
+
+def half(n):
+    return (n + 1) // 2
+
+
+def state(pool, rows):
+    """The bytes of a state: two 32-bit numbers share a word."""
+    ranges = 1 + half(3 * rows) + 2 * rows + half(rows)
+    inputs = 1 + half(rows) + rows + half(3 * rows)
+    return 8 * (14 * (1 + 3 * pool) + 2 * (6 * ranges + inputs) + 5)
+
+
+def words():
+    """What documents say of sizes, with the numbers as they are."""
+    size = state(SIZES["rows of a pool table"], SIZES["rows of an owner table"])
+    output = SIZES["requests of a plan"] * (8 + 8 * 21) + 4 + 21
+    yield "bindings/rust/README.md", f"A state is {size:,} bytes"
+    yield "docs/DECISIONS.md", f"The size is {size:,} bytes"
+    yield "docs/DECISIONS.md", f"An output buffer shorter than {output:,} bytes is 11"
+
+
+def main():
+    for size, places in STATED.items():
+        for place in (*places, *AGAIN[size]):
+            if number(place) != SIZES[size]:
+                sys.exit(f"tests/sizes.py: {size}: {number(place)} in {place}, {SIZES[size]} in {places[1]}")
+    for path, said in words():
+        if said not in (ROOT / path).read_text():
+            sys.exit(f"tests/sizes.py: {path} does not say: {said}")
+    print(f"{len(STATED)} sizes, stated alike wherever they are")
+
+
+if __name__ == "__main__":
+    main()
