@@ -18,7 +18,7 @@ use Rattle.request.specs.declared.call.Hold.{Hold}
 use Rattle.request.specs.declared.call.Hold.the-variants as H
 use Rattle.request.specs.declared.call.Call.{Call}
 use Rattle.request.specs.declared.call.Call.the-variants as C
-use Rattle.adding.specs.Whole.{wireRow}
+use Rattle.admit.specs.Rows.{poolRow, heldRow, wireRow, noPoolRow, noRow, noWire}
 use Rattle.admit.specs.declared.Adds.{Adds}
 use Rattle.admit.specs.declared.Ask.{Ask}
 use Rattle.admit.specs.declared.WireAsk.{WireAsk}
@@ -27,23 +27,6 @@ use Rattle.admit.specs.declared.WireAsk.{WireAsk}
 abbrev pub pick : {A : Type 0} → Bool → A → A → A
 pick true a b = a
 pick false a b = b
-
--- ---- rows
-
-abbrev pub poolRow : ℕ → ℕ → ℕ → ℕ → PoolRow
-poolRow c i s e = record { controller = c; its = i; start = s; end = e }
-
-abbrev pub heldRow : ℕ → ℕ → ℕ → ℕ → ℕ → ℕ → RangeRow
-heldRow c i d s e o = record { controller = c; its = i; device = d; start = s; end = e; owner = o }
-
-abbrev pub noPoolRow : PoolRow
-noPoolRow = poolRow 0 0 0 0
-
-abbrev pub noRow : RangeRow
-noRow = heldRow 0 0 0 0 0 0
-
-abbrev pub noWire : WireRow
-noWire = wireRow 0 0 0 0 0
 
 -- ---- calls
 

@@ -1,3 +1,4 @@
+pub mod Rows
 pub mod Adds
 pub mod Judged
 pub mod Looks

@@ -1,20 +1,13 @@
 // A call that adds, over the tables of seven kinds: what those of each kind are asked, what comes of their answers, and the rows that are then stored. All over plain values, but for `answer`, which reads tables.
-use adding::insert;
-use adding::reserve;
-use adding::reserve::past;
+use holds::of_hold;
+use pools::no_pool_row;
+use pools::of_pool;
+use pools::ranges;
+use pools::use_number;
 use range::Reply;
-use range::wide;
-use range::wide16;
 use request::call::Call;
-use request::call::Devices;
-use request::call::Events;
-use request::call::Hold;
-use request::call::Lpis;
-use request::call::PoolRange;
-use request::call::Use;
 use store::Put;
 use store::WirePut;
-use tables::DeviceId;
 use tables::Pool;
 use tables::PoolRow;
 use tables::RangeRow;
@@ -23,25 +16,24 @@ ghost use mathlib.Core.Path.{_≡_};
 ghost use lib.Dec.{T};
 ghost use Rattle.definition.specs.Tables.{poolLimit, sameSpan, blankSpan, tidy};
 ghost use Rattle.tables.specs.Views.{poolView};
-ghost use Rattle.adding.specs.Whole.{wireRow};
-ghost use Rattle.request.specs.declared.call.PoolRange.the-variants.{Msi as msiRange};
-ghost use Rattle.request.specs.declared.call.Hold.the-variants.{Devices as devicesHeld, Events as eventsHeld, Lpis as lpisHeld, Pair as pairHeld};
-ghost use Rattle.admit.specs.Adds.{noPoolRow, noRow, noWire, nothing, ranged, held, useNumber, goesTo, turnOf, rangeFor, askOf, wireAskOf, passesOf, startsOf, PoolAsked, HoldAsked, Asked};
+ghost use Rattle.admit.specs.Adds.{nothing, goesTo, turnOf, rangeFor, askOf, wireAskOf, passesOf, startsOf, Asked};
 ghost use Rattle.admit.specs.Judged.{idleOf, oneOf, wholly, inTurn, verdictOf, staysOf, poolPutOf, heldPutOf, wirePutOf, enteredView};
 
 pub mod answer;
+pub mod holds;
+pub mod pools;
 
 // Where a call's rows go: to the automatic pools, the fixed pools, the reservations. 0 is nowhere.
-const AUTOMATIC: u64 = 1;
+pub const AUTOMATIC: u64 = 1;
 
-const FIXED: u64 = 2;
+pub const FIXED: u64 = 2;
 
-const HELD: u64 = 3;
+pub const HELD: u64 = 3;
 
 // The tables, as kinds: MMIO 1, ports 2, inputs 3, host IRQs 4, devices 5, events 6, LPIs 7. An MSI domain is for 5, 6 and 7, a pair for 3 and 4.
-const DOMAIN: u64 = 8;
+pub const DOMAIN: u64 = 8;
 
-const PAIR: u64 = 9;
+pub const PAIR: u64 = 9;
 
 // What a call adds: the kind, and the rows for its tables. Of `first`, `second` and `third` a kind other than an MSI domain has the first alone.
 pub struct Adds {
@@ -82,205 +74,6 @@ pub struct PoolPut {
 }
 
 // ---- what a call adds
-
-fn no_pool_row() -> PoolRow
-    ensures { λ r. ⌜ r ≡ noPoolRow ⌝ }
-{
-    PoolRow {
-        controller: 0,
-        its: 0,
-        start: 0,
-        end: 0,
-    }
-}
-
-fn no_row() -> RangeRow
-    ensures { λ r. ⌜ r ≡ noRow ⌝ }
-{
-    RangeRow {
-        controller: 0,
-        its: 0,
-        device: 0,
-        start: 0,
-        end: 0,
-        owner: 0,
-    }
-}
-
-// A row of an input.
-fn wire(controller: u32, input: u64, trigger: u32, sharing: u32, owner: u32) -> WireRow
-    ensures { λ r. ⌜ r ≡ wireRow controller input trigger sharing owner ⌝ }
-{
-    WireRow {
-        controller: controller,
-        input: input,
-        trigger: trigger,
-        sharing: sharing,
-        owner: owner,
-    }
-}
-
-// Ranges for the pools: one of a kind, or the three of an MSI domain.
-fn ranges(to: u64, kind: u64, first: PoolRow, second: PoolRow, third: PoolRow) -> Adds
-    ensures { λ q. ⌜ q ≡ ranged to kind first second third ⌝ }
-{
-    let row = no_row();
-    let none = wire(0, 0, 0, 0, 0);
-    Adds {
-        to,
-        kind,
-        first,
-        second,
-        third,
-        row,
-        wire: none,
-    }
-}
-
-// Rows for the reservations: a range, an input, or one of each.
-fn rows(kind: u64, row: RangeRow, input: WireRow) -> Adds
-    ensures { λ q. ⌜ q ≡ held kind row input ⌝ }
-{
-    let none = no_pool_row();
-    Adds {
-        to: HELD,
-        kind,
-        first: none,
-        second: none,
-        third: none,
-        row,
-        wire: input,
-    }
-}
-
-// The number of a use.
-fn use_number(u: Use) -> u64
-    ensures { λ n. ⌜ n ≡ useNumber u ⌝ }
-{
-    match u {
-        Use::Automatic => AUTOMATIC,
-        Use::Fixed => FIXED,
-    }
-}
-
-// An MSI domain: devices, events, LPIs.
-fn of_domain(
-    to: u64,
-    controller: u32,
-    its: u32,
-    devices: Devices,
-    events: Events,
-    lpis: Lpis,
-) -> Adds
-    ensures { λ q. ⌜ PoolAsked to (msiRange controller its devices events lpis) q ⌝ }
-{
-    let first = insert::row(controller, its, wide(devices.start.0), wide(devices.end.0));
-    let second = insert::row(controller, its, wide(events.start.0), wide(events.end.0));
-    let third = insert::row(controller, 0, wide(lpis.start.0), wide(lpis.end.0));
-    ranges(to, DOMAIN, first, second, third)
-}
-
-// A range for the pools of a use.
-fn of_pool(to: u64, p: PoolRange) -> Adds
-    ensures { λ q. ⌜ PoolAsked to p q ⌝ }
-{
-    match p {
-        PoolRange::Mmio(start, end) => {
-            let r = insert::row(0, 0, start, end);
-            ranges(to, 1, r, r, r)
-        }
-        PoolRange::Pio(start, end) => {
-            let r = insert::row(0, 0, wide16(start), wide16(end));
-            ranges(to, 2, r, r, r)
-        }
-        PoolRange::Host(start, end) => {
-            let r = insert::row(0, 0, start, end);
-            ranges(to, 4, r, r, r)
-        }
-        PoolRange::Input(controller, start, end) => {
-            let r = insert::row(controller, 0, start, end);
-            ranges(to, 3, r, r, r)
-        }
-        PoolRange::Msi(controller, its, devices, events, lpis) => of_domain(
-            to,
-            controller,
-            its,
-            devices,
-            events,
-            lpis,
-        ),
-    }
-}
-
-// A range of DeviceIDs of one ITS.
-fn of_devices(owner: u32, controller: u32, its: u32, ids: Devices) -> Adds
-    ensures { λ q. ⌜ HoldAsked owner (devicesHeld controller its ids) q ⌝ }
-{
-    let r = reserve::row(
-        controller,
-        its,
-        0,
-        wide(ids.start.0),
-        wide(ids.end.0),
-        owner,
-    );
-    rows(5, r, wire(0, 0, 0, 0, 0))
-}
-
-// A range of EventIDs of one DeviceID.
-fn of_events(owner: u32, controller: u32, its: u32, id: DeviceId, ids: Events) -> Adds
-    ensures { λ q. ⌜ HoldAsked owner (eventsHeld controller its id ids) q ⌝ }
-{
-    let r = reserve::row(
-        controller,
-        its,
-        id.0,
-        wide(ids.start.0),
-        wide(ids.end.0),
-        owner,
-    );
-    rows(6, r, wire(0, 0, 0, 0, 0))
-}
-
-// A range of LPIs of one controller.
-fn of_lpis(owner: u32, controller: u32, ids: Lpis) -> Adds
-    ensures { λ q. ⌜ HoldAsked owner (lpisHeld controller ids) q ⌝ }
-{
-    let r = reserve::row(controller, 0, 0, wide(ids.start.0), wide(ids.end.0), owner);
-    rows(7, r, wire(0, 0, 0, 0, 0))
-}
-
-// An input, Exclusive, with a host IRQ.
-fn of_pair(owner: u32, controller: u32, input: u64, trigger: u32, irq: u64) -> Adds
-    ensures { λ q. ⌜ HoldAsked owner (pairHeld controller input trigger irq) q ⌝ }
-{
-    let r = reserve::row(0, 0, 0, irq, past(irq), owner);
-    rows(PAIR, r, wire(controller, input, trigger, 0, owner))
-}
-
-// Something held by an owner.
-fn of_hold(owner: u32, h: Hold) -> Adds
-    ensures { λ q. ⌜ HoldAsked owner h q ⌝ }
-{
-    match h {
-        Hold::Mmio(a, b) => rows(1, reserve::row(0, 0, 0, a, b, owner), wire(0, 0, 0, 0, 0)),
-        Hold::Pio(a, b) => rows(
-            2,
-            reserve::row(0, 0, 0, wide16(a), wide16(b), owner),
-            wire(0, 0, 0, 0, 0),
-        ),
-        Hold::Host(a, b) => rows(4, reserve::row(0, 0, 0, a, b, owner), wire(0, 0, 0, 0, 0)),
-        Hold::Input(c, n, trigger, sharing) => rows(
-            3,
-            no_row(),
-            wire(c, n, trigger, sharing, owner),
-        ),
-        Hold::Devices(c, its, ids) => of_devices(owner, c, its, ids),
-        Hold::Events(c, its, id, ids) => of_events(owner, c, its, id, ids),
-        Hold::Lpis(c, ids) => of_lpis(owner, c, ids),
-        Hold::Pair(c, n, trigger, irq) => of_pair(owner, c, n, trigger, irq),
-    }
-}
 
 // No row for any table.
 fn nothing() -> Adds
@@ -484,7 +277,7 @@ pub fn judge(
         return in_turn(q, device, event, lpi);
     }
     if q.kind == PAIR {
-        return whole(q, answers::earlier(input, host));
+        return whole(q, range::earlier(input, host));
     }
     whole(q, one(q.kind, mmio, pio, input, host, device, event, lpi))
 }

@@ -11,9 +11,9 @@ use Rattle.definition.specs.Calls.{State, given, starting, addAll, pool, hold, 
 use Rattle.request.specs.Calls.{callOf}
 use Rattle.request.specs.declared.call.Call.{Call}
 use Rattle.request.specs.declared.call.Call.the-variants as C
-use Rattle.adding.specs.Whole.{heldAfter}
 use Rattle.admit.specs.Adds.{passesOf, startsOf}
 use Rattle.applied.specs.Applied.{applyOf}
+use Rattle.applied.proofs.HeldLaws.{heldAfter}
 
 module _ (s : State) (g : T (given kinds s)) where
   pub serve-pool : (u : Use) (p : Pool) → serve kinds (pool u p) s ≡ addAll u (spans p) s

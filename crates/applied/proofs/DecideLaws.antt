@@ -27,16 +27,17 @@ use Rattle.request.specs.declared.call.Hold.{Hold}
 use Rattle.request.specs.declared.call.Hold.the-variants as H
 use Rattle.request.specs.declared.call.Call.{Call}
 use Rattle.request.specs.declared.call.Call.the-variants as C
-use Rattle.adding.specs.Whole.{heldAfter, putPair, Keeping}
-use Rattle.adding.specs.declared.reserve.RangeKind.the-variants as R
-use Rattle.adding.proofs.PutLaws.{every}
-use Rattle.admit.specs.Adds.{pick, noRow, noWire, ranged, once, held, nothing, addsOf, Asked, FitCall}
+use Rattle.admit.specs.Rows.{noRow, noWire}
+use Rattle.admit.specs.Adds.{pick, ranged, once, held, nothing, addsOf, Asked, FitCall}
 use Rattle.admit.specs.Judged.{judged, wholly, verdictOf}
 use Rattle.admit.specs.Looks.{Adding}
 use Rattle.admit.specs.declared.Adds.{Adds}
 use Rattle.admit.specs.declared.Verdict.{Verdict}
 use Rattle.applied.specs.Applied.{applyOf}
 use Rattle.applied.specs.Kept.{heldWith, HeldFree, Kept, AllSee, Decides}
+use Rattle.applied.proofs.KindLaws.{every}
+use Rattle.applied.proofs.HeldLaws.{heldAfter, Keeping}
+use Rattle.applied.proofs.PairLaws.{putPair}
 use Rattle.applied.proofs.GivenLaws.{given-auto, given-fixed}
 use Rattle.applied.proofs.ApplyLaws.{serve-pool, serve-hold}
 use Rattle.applied.proofs.FillLaws.{said-plain, one-fills, devices-refused, events-refused, lpis-told, automatic-after, fixed-after}
@@ -203,32 +204,39 @@ module _ (s : State) where
   )
 
   mmio-held : (row : RangeRow) (r : Reply) → SizedRanges (s .held .mmio) → T (fits mmio (rangeOf row)) → heard r ≡ telling (reserveAny (rangeOf row) (used (rangesView (s .held .mmio)))) → (r .number ≡ 0 → s .held .mmio .n < rowLimit) → (b : Bool) → eqb (r .number) 0 ≡ b → Keeps (at-kind mmio (rangeOf row) ∷ []) (judged (held 1 row noWire) (pick b 3 0) r)
-  mmio-held row r z ok told room true e = (record { mmio = λ x. room (eqb-true (r .number) 0 e); pio = never; input = never; host = never; device = never; event = never; lpi = never }, λ t k. k .is ∙ hold-after s (k .a) (k .f) (heldWith (judged (held 1 row noWire) (pick true 3 0) r) (s .held)) r (at-kind mmio (rangeOf row) ∷ []) (k .automatic) (k .fixed) (keeps-range (s .held) R.Mmio row r z ok told room true e))
-  mmio-held row r z ok told room false e = (record { mmio = never; pio = never; input = never; host = never; device = never; event = never; lpi = never }, λ t k. k .is ∙ hold-after s (k .a) (k .f) (heldWith (judged (held 1 row noWire) (pick false 3 0) r) (s .held)) r (at-kind mmio (rangeOf row) ∷ []) (k .automatic) (k .fixed) (keeps-range (s .held) R.Mmio row r z ok told room false e))
+  unfolding sameKind
+  mmio-held row r z ok told room true e = (record { mmio = λ x. room (eqb-true (r .number) 0 e); pio = never; input = never; host = never; device = never; event = never; lpi = never }, λ t k. k .is ∙ hold-after s (k .a) (k .f) (heldWith (judged (held 1 row noWire) (pick true 3 0) r) (s .held)) r (at-kind mmio (rangeOf row) ∷ []) (k .automatic) (k .fixed) (keeps-range (s .held) _ mmio (s .held .mmio) row r refl z ok told room true e (every _ refl refl refl refl refl refl refl)))
+  mmio-held row r z ok told room false e = (record { mmio = never; pio = never; input = never; host = never; device = never; event = never; lpi = never }, λ t k. k .is ∙ hold-after s (k .a) (k .f) (heldWith (judged (held 1 row noWire) (pick false 3 0) r) (s .held)) r (at-kind mmio (rangeOf row) ∷ []) (k .automatic) (k .fixed) (keeps-range (s .held) _ mmio (s .held .mmio) row r refl z ok told room false e (every _ refl refl refl refl refl refl refl)))
 
   pio-held : (row : RangeRow) (r : Reply) → SizedRanges (s .held .pio) → T (fits pio (rangeOf row)) → heard r ≡ telling (reserveAny (rangeOf row) (used (rangesView (s .held .pio)))) → (r .number ≡ 0 → s .held .pio .n < rowLimit) → (b : Bool) → eqb (r .number) 0 ≡ b → Keeps (at-kind pio (rangeOf row) ∷ []) (judged (held 2 row noWire) (pick b 3 0) r)
-  pio-held row r z ok told room true e = (record { mmio = never; pio = λ x. room (eqb-true (r .number) 0 e); input = never; host = never; device = never; event = never; lpi = never }, λ t k. k .is ∙ hold-after s (k .a) (k .f) (heldWith (judged (held 2 row noWire) (pick true 3 0) r) (s .held)) r (at-kind pio (rangeOf row) ∷ []) (k .automatic) (k .fixed) (keeps-range (s .held) R.Pio row r z ok told room true e))
-  pio-held row r z ok told room false e = (record { mmio = never; pio = never; input = never; host = never; device = never; event = never; lpi = never }, λ t k. k .is ∙ hold-after s (k .a) (k .f) (heldWith (judged (held 2 row noWire) (pick false 3 0) r) (s .held)) r (at-kind pio (rangeOf row) ∷ []) (k .automatic) (k .fixed) (keeps-range (s .held) R.Pio row r z ok told room false e))
+  unfolding sameKind
+  pio-held row r z ok told room true e = (record { mmio = never; pio = λ x. room (eqb-true (r .number) 0 e); input = never; host = never; device = never; event = never; lpi = never }, λ t k. k .is ∙ hold-after s (k .a) (k .f) (heldWith (judged (held 2 row noWire) (pick true 3 0) r) (s .held)) r (at-kind pio (rangeOf row) ∷ []) (k .automatic) (k .fixed) (keeps-range (s .held) _ pio (s .held .pio) row r refl z ok told room true e (every _ refl refl refl refl refl refl refl)))
+  pio-held row r z ok told room false e = (record { mmio = never; pio = never; input = never; host = never; device = never; event = never; lpi = never }, λ t k. k .is ∙ hold-after s (k .a) (k .f) (heldWith (judged (held 2 row noWire) (pick false 3 0) r) (s .held)) r (at-kind pio (rangeOf row) ∷ []) (k .automatic) (k .fixed) (keeps-range (s .held) _ pio (s .held .pio) row r refl z ok told room false e (every _ refl refl refl refl refl refl refl)))
 
   host-held : (row : RangeRow) (r : Reply) → SizedRanges (s .held .host) → T (fits host (rangeOf row)) → heard r ≡ telling (reserveAny (rangeOf row) (used (rangesView (s .held .host)))) → (r .number ≡ 0 → s .held .host .n < rowLimit) → (b : Bool) → eqb (r .number) 0 ≡ b → Keeps (at-kind host (rangeOf row) ∷ []) (judged (held 4 row noWire) (pick b 3 0) r)
-  host-held row r z ok told room true e = (record { mmio = never; pio = never; input = never; host = λ x. room (eqb-true (r .number) 0 e); device = never; event = never; lpi = never }, λ t k. k .is ∙ hold-after s (k .a) (k .f) (heldWith (judged (held 4 row noWire) (pick true 3 0) r) (s .held)) r (at-kind host (rangeOf row) ∷ []) (k .automatic) (k .fixed) (keeps-range (s .held) R.Host row r z ok told room true e))
-  host-held row r z ok told room false e = (record { mmio = never; pio = never; input = never; host = never; device = never; event = never; lpi = never }, λ t k. k .is ∙ hold-after s (k .a) (k .f) (heldWith (judged (held 4 row noWire) (pick false 3 0) r) (s .held)) r (at-kind host (rangeOf row) ∷ []) (k .automatic) (k .fixed) (keeps-range (s .held) R.Host row r z ok told room false e))
+  unfolding sameKind
+  host-held row r z ok told room true e = (record { mmio = never; pio = never; input = never; host = λ x. room (eqb-true (r .number) 0 e); device = never; event = never; lpi = never }, λ t k. k .is ∙ hold-after s (k .a) (k .f) (heldWith (judged (held 4 row noWire) (pick true 3 0) r) (s .held)) r (at-kind host (rangeOf row) ∷ []) (k .automatic) (k .fixed) (keeps-range (s .held) _ host (s .held .host) row r refl z ok told room true e (every _ refl refl refl refl refl refl refl)))
+  host-held row r z ok told room false e = (record { mmio = never; pio = never; input = never; host = never; device = never; event = never; lpi = never }, λ t k. k .is ∙ hold-after s (k .a) (k .f) (heldWith (judged (held 4 row noWire) (pick false 3 0) r) (s .held)) r (at-kind host (rangeOf row) ∷ []) (k .automatic) (k .fixed) (keeps-range (s .held) _ host (s .held .host) row r refl z ok told room false e (every _ refl refl refl refl refl refl refl)))
 
   device-held : (row : RangeRow) (r : Reply) → SizedRanges (s .held .device) → T (fits device (rangeOf row)) → heard r ≡ telling (reserveAny (rangeOf row) (used (rangesView (s .held .device)))) → (r .number ≡ 0 → s .held .device .n < rowLimit) → (b : Bool) → eqb (r .number) 0 ≡ b → Keeps (at-kind device (rangeOf row) ∷ []) (judged (held 5 row noWire) (pick b 3 0) r)
-  device-held row r z ok told room true e = (record { mmio = never; pio = never; input = never; host = never; device = λ x. room (eqb-true (r .number) 0 e); event = never; lpi = never }, λ t k. k .is ∙ hold-after s (k .a) (k .f) (heldWith (judged (held 5 row noWire) (pick true 3 0) r) (s .held)) r (at-kind device (rangeOf row) ∷ []) (k .automatic) (k .fixed) (keeps-range (s .held) R.Device row r z ok told room true e))
-  device-held row r z ok told room false e = (record { mmio = never; pio = never; input = never; host = never; device = never; event = never; lpi = never }, λ t k. k .is ∙ hold-after s (k .a) (k .f) (heldWith (judged (held 5 row noWire) (pick false 3 0) r) (s .held)) r (at-kind device (rangeOf row) ∷ []) (k .automatic) (k .fixed) (keeps-range (s .held) R.Device row r z ok told room false e))
+  unfolding sameKind
+  device-held row r z ok told room true e = (record { mmio = never; pio = never; input = never; host = never; device = λ x. room (eqb-true (r .number) 0 e); event = never; lpi = never }, λ t k. k .is ∙ hold-after s (k .a) (k .f) (heldWith (judged (held 5 row noWire) (pick true 3 0) r) (s .held)) r (at-kind device (rangeOf row) ∷ []) (k .automatic) (k .fixed) (keeps-range (s .held) _ device (s .held .device) row r refl z ok told room true e (every _ refl refl refl refl refl refl refl)))
+  device-held row r z ok told room false e = (record { mmio = never; pio = never; input = never; host = never; device = never; event = never; lpi = never }, λ t k. k .is ∙ hold-after s (k .a) (k .f) (heldWith (judged (held 5 row noWire) (pick false 3 0) r) (s .held)) r (at-kind device (rangeOf row) ∷ []) (k .automatic) (k .fixed) (keeps-range (s .held) _ device (s .held .device) row r refl z ok told room false e (every _ refl refl refl refl refl refl refl)))
 
   event-held : (row : RangeRow) (r : Reply) → SizedRanges (s .held .event) → T (fits event (rangeOf row)) → heard r ≡ telling (reserveAny (rangeOf row) (used (rangesView (s .held .event)))) → (r .number ≡ 0 → s .held .event .n < rowLimit) → (b : Bool) → eqb (r .number) 0 ≡ b → Keeps (at-kind event (rangeOf row) ∷ []) (judged (held 6 row noWire) (pick b 3 0) r)
-  event-held row r z ok told room true e = (record { mmio = never; pio = never; input = never; host = never; device = never; event = λ x. room (eqb-true (r .number) 0 e); lpi = never }, λ t k. k .is ∙ hold-after s (k .a) (k .f) (heldWith (judged (held 6 row noWire) (pick true 3 0) r) (s .held)) r (at-kind event (rangeOf row) ∷ []) (k .automatic) (k .fixed) (keeps-range (s .held) R.Event row r z ok told room true e))
-  event-held row r z ok told room false e = (record { mmio = never; pio = never; input = never; host = never; device = never; event = never; lpi = never }, λ t k. k .is ∙ hold-after s (k .a) (k .f) (heldWith (judged (held 6 row noWire) (pick false 3 0) r) (s .held)) r (at-kind event (rangeOf row) ∷ []) (k .automatic) (k .fixed) (keeps-range (s .held) R.Event row r z ok told room false e))
+  unfolding sameKind
+  event-held row r z ok told room true e = (record { mmio = never; pio = never; input = never; host = never; device = never; event = λ x. room (eqb-true (r .number) 0 e); lpi = never }, λ t k. k .is ∙ hold-after s (k .a) (k .f) (heldWith (judged (held 6 row noWire) (pick true 3 0) r) (s .held)) r (at-kind event (rangeOf row) ∷ []) (k .automatic) (k .fixed) (keeps-range (s .held) _ event (s .held .event) row r refl z ok told room true e (every _ refl refl refl refl refl refl refl)))
+  event-held row r z ok told room false e = (record { mmio = never; pio = never; input = never; host = never; device = never; event = never; lpi = never }, λ t k. k .is ∙ hold-after s (k .a) (k .f) (heldWith (judged (held 6 row noWire) (pick false 3 0) r) (s .held)) r (at-kind event (rangeOf row) ∷ []) (k .automatic) (k .fixed) (keeps-range (s .held) _ event (s .held .event) row r refl z ok told room false e (every _ refl refl refl refl refl refl refl)))
 
   lpi-held : (row : RangeRow) (r : Reply) → SizedRanges (s .held .lpi) → T (fits lpi (rangeOf row)) → heard r ≡ telling (reserveAny (rangeOf row) (used (rangesView (s .held .lpi)))) → (r .number ≡ 0 → s .held .lpi .n < rowLimit) → (b : Bool) → eqb (r .number) 0 ≡ b → Keeps (at-kind lpi (rangeOf row) ∷ []) (judged (held 7 row noWire) (pick b 3 0) r)
-  lpi-held row r z ok told room true e = (record { mmio = never; pio = never; input = never; host = never; device = never; event = never; lpi = λ x. room (eqb-true (r .number) 0 e) }, λ t k. k .is ∙ hold-after s (k .a) (k .f) (heldWith (judged (held 7 row noWire) (pick true 3 0) r) (s .held)) r (at-kind lpi (rangeOf row) ∷ []) (k .automatic) (k .fixed) (keeps-range (s .held) R.Lpi row r z ok told room true e))
-  lpi-held row r z ok told room false e = (record { mmio = never; pio = never; input = never; host = never; device = never; event = never; lpi = never }, λ t k. k .is ∙ hold-after s (k .a) (k .f) (heldWith (judged (held 7 row noWire) (pick false 3 0) r) (s .held)) r (at-kind lpi (rangeOf row) ∷ []) (k .automatic) (k .fixed) (keeps-range (s .held) R.Lpi row r z ok told room false e))
+  unfolding sameKind
+  lpi-held row r z ok told room true e = (record { mmio = never; pio = never; input = never; host = never; device = never; event = never; lpi = λ x. room (eqb-true (r .number) 0 e) }, λ t k. k .is ∙ hold-after s (k .a) (k .f) (heldWith (judged (held 7 row noWire) (pick true 3 0) r) (s .held)) r (at-kind lpi (rangeOf row) ∷ []) (k .automatic) (k .fixed) (keeps-range (s .held) _ lpi (s .held .lpi) row r refl z ok told room true e (every _ refl refl refl refl refl refl refl)))
+  lpi-held row r z ok told room false e = (record { mmio = never; pio = never; input = never; host = never; device = never; event = never; lpi = never }, λ t k. k .is ∙ hold-after s (k .a) (k .f) (heldWith (judged (held 7 row noWire) (pick false 3 0) r) (s .held)) r (at-kind lpi (rangeOf row) ∷ []) (k .automatic) (k .fixed) (keeps-range (s .held) _ lpi (s .held .lpi) row r refl z ok told room false e (every _ refl refl refl refl refl refl refl)))
 
   input-held : (row : WireRow) (r : Reply) → SizedWires (s .held .input) → Told input (wireOf row) (wiresView (s .held .input)) r → (r .number ≡ 0 → s .held .input .n < rowLimit) → (b : Bool) → eqb (r .number) 0 ≡ b → Keeps (at-kind input (wireOf row) ∷ []) (judged (held 3 noRow row) (pick b 3 0) r)
-  input-held row r z told room true e = (record { mmio = never; pio = never; input = λ x. room (eqb-true (r .number) 0 e); host = never; device = never; event = never; lpi = never }, λ t k. k .is ∙ hold-after s (k .a) (k .f) (heldWith (judged (held 3 noRow row) (pick true 3 0) r) (s .held)) r (at-kind input (wireOf row) ∷ []) (k .automatic) (k .fixed) (keeps-input (s .held) row r z told room true e))
-  input-held row r z told room false e = (record { mmio = never; pio = never; input = never; host = never; device = never; event = never; lpi = never }, λ t k. k .is ∙ hold-after s (k .a) (k .f) (heldWith (judged (held 3 noRow row) (pick false 3 0) r) (s .held)) r (at-kind input (wireOf row) ∷ []) (k .automatic) (k .fixed) (keeps-input (s .held) row r z told room false e))
+  unfolding sameKind
+  input-held row r z told room true e = (record { mmio = never; pio = never; input = λ x. room (eqb-true (r .number) 0 e); host = never; device = never; event = never; lpi = never }, λ t k. k .is ∙ hold-after s (k .a) (k .f) (heldWith (judged (held 3 noRow row) (pick true 3 0) r) (s .held)) r (at-kind input (wireOf row) ∷ []) (k .automatic) (k .fixed) (keeps-input (s .held) _ row r z told room true e (every _ refl refl refl refl refl refl refl)))
+  input-held row r z told room false e = (record { mmio = never; pio = never; input = never; host = never; device = never; event = never; lpi = never }, λ t k. k .is ∙ hold-after s (k .a) (k .f) (heldWith (judged (held 3 noRow row) (pick false 3 0) r) (s .held)) r (at-kind input (wireOf row) ∷ []) (k .automatic) (k .fixed) (keeps-input (s .held) _ row r z told room false e (every _ refl refl refl refl refl refl refl)))
 
   pair-held : (w : WireRow) (row : RangeRow) (i h : Reply) → SizedWires (s .held .input) → SizedRanges (s .held .host) → T (fits host (rangeOf row)) → Told input (wireOf w) (wiresView (s .held .input)) i → heard h ≡ telling (reserveAny (rangeOf row) (used (rangesView (s .held .host)))) → (i .number ≡ 0 → s .held .input .n < rowLimit) → (h .number ≡ 0 → s .held .host .n < rowLimit)
       → (b : Bool) → eqb (earlierOf i h .number) 0 ≡ b → Keeps (at-kind input (wireOf w) ∷ at-kind host (rangeOf row) ∷ []) (judged (held 9 row w) (pick b 3 0) (earlierOf i h))

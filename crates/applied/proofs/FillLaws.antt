@@ -14,18 +14,18 @@ use Rattle.definition.specs.Pools.{In, at-kind, insert, unlessThere, addRange}
 use Rattle.definition.specs.Request.{Use, automatic, fixed}
 use Rattle.definition.specs.Calls.{State as Given, state, addAll, saying}
 use Rattle.tables.specs.Views.{spanOf, poolOf, poolView, poolsView, holdersView, stateView}
+use Rattle.tables.specs.declared.Pool.{Pool}
 use Rattle.tables.specs.declared.Pools.{Pools}
 use Rattle.tables.specs.declared.PoolRow.{PoolRow}
 use Rattle.tables.specs.declared.State.{State}
 use Rattle.range.specs.Answers.{telling, heard, storedOr, addAny}
 use Rattle.range.specs.declared.Reply.{Reply}
-use Rattle.adding.specs.Whole.{putPool, Added, side, Filling}
-use Rattle.adding.proofs.AddLaws.{added-fills}
-use Rattle.adding.proofs.TurnLaws.{turn-on, turn-stop}
-use Rattle.adding.proofs.PutLaws.{every}
 use Rattle.admit.specs.Adds.{pick}
 use Rattle.admit.specs.Judged.{enteredView}
 use Rattle.admit.specs.Looks.{Adding}
+use Rattle.applied.proofs.KindLaws.{every}
+use Rattle.applied.proofs.AddLaws.{Added, side, Filling, added-fills}
+use Rattle.applied.proofs.TurnLaws.{turn-on, turn-stop}
 
 -- ---- one table
 
@@ -99,14 +99,17 @@ module _ (x y z : PoolRow) (d e l : Reply) (p q : Pools) (ok₁ : T (fitsSpan de
   abbrev others : List (In Span)
   others = at-kind event (spanOf y) ∷ at-kind lpi (spanOf z) ∷ []
 
+  abbrev messages : Pool → Pool → Pool → Pools
+  messages d e l = record { mmio = p .mmio; pio = p .pio; input = p .input; host = p .host; device = d; event = e; lpi = l }
+
   abbrev q₁ : Pools
-  q₁ = putPool p device (q .device)
+  q₁ = messages (q .device) (p .event) (p .lpi)
 
   abbrev q₂ : Pools
-  q₂ = putPool q₁ event (q .event)
+  q₂ = messages (q .device) (q .event) (p .lpi)
 
   abbrev q₃ : Pools
-  q₃ = putPool q₂ lpi (q .lpi)
+  q₃ = messages (q .device) (q .event) (q .lpi)
 
   step₁ : (b : Bool) → eqb (d .number) 0 ≡ b → poolView (q .device) ≡ enteredView (record { go = b; row = x }) (poolView (p .device)) → Filling p q₁ (first ∷ []) (d .number)
   unfolding sameKind

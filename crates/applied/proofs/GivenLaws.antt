@@ -9,8 +9,8 @@ use Rattle.definition.specs.TableLaws.{says-tidy}
 use Rattle.definition.specs.StateLaws.{given-for}
 use Rattle.tables.specs.Views.{holdersView, stateView}
 use Rattle.tables.specs.declared.State.{State}
-use Rattle.adding.specs.Whole.{TidyPools}
 use Rattle.admit.specs.Looks.{Fit}
+use Rattle.applied.specs.Kept.{TidyPools}
 
 module _ (s : State) (g : T (given kinds (stateView s))) where
   tidied : (u : Use) (k : Kind) → T (tidy poolLimit (sameSpan blankSpan) (stateView s .pools u k))

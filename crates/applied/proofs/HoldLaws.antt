@@ -1,11 +1,11 @@
 -- Rows for the reservations: what the tables answered, and what is then stored, is the definition's `reserve`. Assumes nothing.
-use mathlib.Core.Path.{_≡_, refl, sym, _∙_, ap}
+use mathlib.Core.Path.{_≡_, refl, sym, _∙_, ap, subst}
 use mathlib.Core.Bool.{Bool, true, false}
 use mathlib.Core.List.{List, [], _∷_}
 use Prim.Native.Nat.{_<_}
 use lib.Dec.{T, eqb}
 use borrow.Author.Tests.{eqb-true, eqb-false}
-use Rattle.definition.specs.Tables.{rowLimit, Kind, input, host, used, fits}
+use Rattle.definition.specs.Tables.{rowLimit, Kind, input, host, sameKind, Row, Table, used, fits}
 use Rattle.definition.specs.Pools.{at-kind, Claim}
 use Rattle.definition.specs.Request.{Use, automatic, fixed}
 use Rattle.definition.specs.Calls.{State as Given, state, saying}
@@ -23,12 +23,9 @@ use Rattle.tables.proofs.PushLaws.{push-range-view, push-wire-view}
 use Rattle.range.specs.Answers.{telling, heard, reserveAny, Told, Held, earlierOf}
 use Rattle.range.specs.declared.Reply.{Reply}
 use Rattle.range.proofs.HoldLaws.{told-as, held-refused, held-accepted}
-use Rattle.adding.specs.Kinds.{rangeKind}
-use Rattle.adding.specs.Whole.{rangesOf, putRanges, putWires, putPair, heldAfter, Keeping}
-use Rattle.adding.specs.declared.reserve.RangeKind.{RangeKind}
-use Rattle.adding.proofs.HeldLaws.{range-held, input-held}
-use Rattle.adding.proofs.PairLaws.{pair-neither, pair-both}
 use Rattle.admit.specs.Adds.{pick}
+use Rattle.applied.proofs.HeldLaws.{heldAfter, Keeping, one-keeps}
+use Rattle.applied.proofs.PairLaws.{putPair, pair-neither, pair-both}
 
 -- ---- one table: the row pushed where it is accepted
 
@@ -52,12 +49,13 @@ module _ (t : Wires) (r : WireRow) (a : Reply) (z : SizedWires t) (told : Told i
 
 -- ---- all tables
 
-pub keeps-range : (h : Holders) (k : RangeKind) (r : RangeRow) (a : Reply) → SizedRanges (rangesOf h k) → T (fits (rangeKind k) (rangeOf r)) → heard a ≡ telling (reserveAny (rangeOf r) (used (rangesView (rangesOf h k)))) → (a .number ≡ 0 → rangesOf h k .n < rowLimit)
-    → (b : Bool) → eqb (a .number) 0 ≡ b → Keeping h (putRanges h k (rangeIf b (rangesOf h k) r)) (at-kind (rangeKind k) (rangeOf r) ∷ []) a
-keeps-range h k r a z ok told room b e = range-held h a k (rangeOf r) (rangeIf b (rangesOf h k) r) (range-kept (rangeKind k) (rangesOf h k) r a z ok told room b e)
+module _ (h q : Holders) (k : Kind) (t : Ranges) (r : RangeRow) (a : Reply) (e : holdersView h k ≡ rangesView t) (z : SizedRanges t) (ok : T (fits k (rangeOf r))) (told : heard a ≡ telling (reserveAny (rangeOf r) (used (rangesView t)))) (room : a .number ≡ 0 → t .n < rowLimit) where
+  pub keeps-range : (b : Bool) → eqb (a .number) 0 ≡ b → ((j : Kind) → holdersView q j ≡ elim (sameKind j k) [ true ↦ rangesView (rangeIf b t r) | false ↦ holdersView h j ]) → Keeping h q (at-kind k (rangeOf r) ∷ []) a
+  keeps-range b n put = one-keeps h q k (rangeOf r) (rangesView (rangeIf b t r)) a put (subst (λ (u : Table Row). Held k (rangeOf r) u (rangesView (rangeIf b t r)) a) (sym e) (range-kept k t r a z ok told room b n))
 
-pub keeps-input : (h : Holders) (r : WireRow) (a : Reply) → SizedWires (h .input) → Told input (wireOf r) (wiresView (h .input)) a → (a .number ≡ 0 → h .input .n < rowLimit) → (b : Bool) → eqb (a .number) 0 ≡ b → Keeping h (putWires h (wireIf b (h .input) r)) (at-kind input (wireOf r) ∷ []) a
-keeps-input h r a z told room b e = input-held h a (wireOf r) (wireIf b (h .input) r) (wire-kept (h .input) r a z told room b e)
+module _ (h q : Holders) (r : WireRow) (a : Reply) (z : SizedWires (h .input)) (told : Told input (wireOf r) (wiresView (h .input)) a) (room : a .number ≡ 0 → h .input .n < rowLimit) where
+  pub keeps-input : (b : Bool) → eqb (a .number) 0 ≡ b → ((j : Kind) → holdersView q j ≡ elim (sameKind j input) [ true ↦ wiresView (wireIf b (h .input) r) | false ↦ holdersView h j ]) → Keeping h q (at-kind input (wireOf r) ∷ []) a
+  keeps-input b n put = one-keeps h q input (wireOf r) (wiresView (wireIf b (h .input) r)) a put (wire-kept (h .input) r a z told room b n)
 
 module _ (h : Holders) (w : WireRow) (r : RangeRow) (a b : Reply) (p : Held input (wireOf w) (wiresView (h .input)) (wiresView (wireIf (eqb (a .number) 0) (h .input) w)) a) (q : Held host (rangeOf r) (rangesView (h .host)) (rangesView (rangeIf (eqb (b .number) 0) (h .host) r)) b) where
   pub keeps-neither : eqb (earlierOf a b .number) 0 ≡ false → Keeping h h (at-kind input (wireOf w) ∷ at-kind host (rangeOf r) ∷ []) (earlierOf a b)

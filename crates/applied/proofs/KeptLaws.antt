@@ -18,8 +18,7 @@ use Rattle.range.specs.declared.Reply.{Reply}
 use Rattle.decide.specs.Kept.{kept}
 use Rattle.decide.specs.declared.Granted.{Granted}
 use Rattle.plan.proofs.OpenLaws.{kept-none}
-use Rattle.applied.specs.Kept.{numberOf, PoolsKept, heldWith, state, withAuto, withFixed, withHeld, withOwners, AutoKept, FixedKept, Tells, Kept, Ready, HeldFree}
-use Rattle.adding.specs.Whole.{TidyPools}
+use Rattle.applied.specs.Kept.{TidyPools, numberOf, PoolsKept, heldWith, state, withAuto, withFixed, withHeld, withOwners, AutoKept, FixedKept, Tells, Kept, Ready, HeldFree}
 
 idle-stays : (v : Verdict) (to k : ℕ) → T (idleOf v to) → staysOf v to k ≡ false
 idle-stays v to k t = go _ (eqb (v .adds .to) to) t

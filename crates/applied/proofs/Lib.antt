@@ -4,9 +4,14 @@ pub mod CopyWalk
 pub mod PoolsWalk
 pub mod HeldWalk
 pub mod Asking
+pub mod KindLaws
 pub mod KeptLaws
 pub mod GivenLaws
+pub mod AddLaws
+pub mod TurnLaws
 pub mod FillLaws
+pub mod HeldLaws
+pub mod PairLaws
 pub mod HoldLaws
 pub mod DecideLaws
 pub mod ApplyLaws

@@ -4,7 +4,7 @@ use mathlib.Core.Bool.{true, not}
 use lib.Dec.{T}
 use Prim.Native.Nat.{ℕ, _<_}
 use Rattle.definition.specs.Base.{Said}
-use Rattle.definition.specs.Tables.{Kind, mmio, pio, input, host, device, event, lpi}
+use Rattle.definition.specs.Tables.{poolLimit, Kind, mmio, pio, input, host, device, event, lpi, sameSpan, blankSpan, tidy}
 use Rattle.definition.specs.Calls.{saying}
 use Rattle.tables.specs.Views.{poolOf, poolView, stateView}
 use Rattle.tables.specs.Whole.{holders}
@@ -19,13 +19,16 @@ use Rattle.store.specs.Store.{Free, putRange, putWire}
 use Rattle.decide.specs.declared.Rows.the-variants.{Nothing}
 use Rattle.decide.specs.declared.Granted.{Granted}
 use Rattle.request.specs.Asked.{saidOf}
-use Rattle.adding.specs.Whole.{TidyPools}
 use Rattle.admit.specs.Judged.{poolPutOf, heldPutOf, wirePutOf, enteredView}
 use Rattle.admit.specs.Adds.{askOf, wireAskOf, passesOf, startsOf}
 use Rattle.admit.specs.Looks.{Sees, SeesWire}
 use Rattle.admit.specs.declared.Adds.{Adds}
 use Rattle.admit.specs.declared.Verdict.{Verdict}
 use Rattle.applied.specs.Applied.{applyOf}
+
+-- the count of each table is within its size, and unused rows are zero
+unfoldable pub TidyPools : Pools → Type 0
+TidyPools p = (k : Kind) → T (tidy poolLimit (sameSpan blankSpan) (poolView (poolOf p k)))
 
 -- the number of a kind's tables
 abbrev pub numberOf : Kind → ℕ

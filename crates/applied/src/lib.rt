@@ -13,8 +13,7 @@ ghost use Rattle.definition.specs.Calls.{given, saying, starting};
 ghost use Rattle.tables.specs.Views.{stateView};
 ghost use Rattle.range.specs.Answers.{heard};
 ghost use Rattle.request.specs.Calls.{callOf};
-ghost use Rattle.adding.specs.Whole.{TidyPools};
-ghost use Rattle.applied.specs.Kept.{heldWith, HeldFree, withHeld, withOwners, AutoKept, FixedKept, Tells, Kept, Ready, Decides};
+ghost use Rattle.applied.specs.Kept.{TidyPools, heldWith, HeldFree, withHeld, withOwners, AutoKept, FixedKept, Tells, Kept, Ready, Decides};
 ghost use Rattle.applied.specs.Applied.{applyOf};
 
 // ---- what is stored

@@ -15,7 +15,6 @@ use Rattle.applied.specs.Applied.{applyOf}
 use Rattle.door.specs.Served.{wantsOf, wantedOf, stopOf, serveOf}
 
 pub served-want : (c : Call) (s t : State) → T (wantsOf c) → t ≡ serve kinds (want (requestOf (wantedOf c))) s → t ≡ serveOf (callOf c) s
-unfolding serveOf
 served-want (C.Pool u p) s t k e = absurd k
 served-want (C.Hold o h) s t k e = absurd k
 served-want C.Start s t k e = absurd k
@@ -28,7 +27,6 @@ goes-on c s true e t = true-T (given kinds s) (sym e)
 goes-on c s false e t = absurd t
 
 pub served-adds : (c : Call) (s t : State) (y : Bool) → y ≡ given kinds s → T (eqb (stopOf y c .number) 0) → T (not (wantsOf c)) → t ≡ applyOf (callOf c) s → t ≡ serveOf (callOf c) s
-unfolding serveOf
 served-adds c s t false g k n e = absurd k
 served-adds (C.Pool u p) s t true g k n e = e
 served-adds (C.Hold o h) s t true g k n e = e
@@ -37,7 +35,7 @@ served-adds (C.Want r) s t true g k n e = absurd n
 served-adds C.Bad s t true g k n e = absurd k
 
 pub served-stop : (c : Call) (s t : State) (y : Bool) → y ≡ given kinds s → T (not (eqb (stopOf y c .number) 0)) → T (not (wantsOf c)) → t ≡ saying (heard (stopOf y c)) s → t ≡ serveOf (callOf c) s
-unfolding serveOf serve require
+unfolding serve require
 served-stop (C.Pool u p) s t true g k n e = absurd k
 served-stop (C.Pool u p) s t false g k n e = rw (sym g) e
 served-stop (C.Hold o h) s t true g k n e = absurd k

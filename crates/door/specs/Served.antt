@@ -12,7 +12,7 @@ use Rattle.request.specs.declared.Want.the-variants.{HostIrq}
 use Rattle.request.specs.declared.call.Call.{Call}
 use Rattle.request.specs.declared.call.Call.the-variants as C
 
-unfoldable pub serveOf : Option DCall → State → State
+abbrev pub serveOf : Option DCall → State → State
 serveOf (some c) s = serve kinds c s
 serveOf none s = settle s (require (given kinds s) malformed (refused badInput))
 

@@ -22,7 +22,7 @@ use Rattle.tables.specs.Below.{first}
 use Rattle.tables.specs.declared.Hit.the-variants.{At, Clear}
 use Rattle.tables.proofs.ListedLaws.{listed-length}
 use Rattle.tables.proofs.TableLaws.{table}
-use Rattle.range.specs.Answers.{telling, heard, pushedAny, pushedOr, reserveOne, reserveAny, HeldAny, Told, Held}
+use Rattle.range.specs.Answers.{telling, heard, pushedOr, reserveOne, reserveAny, Told, Held}
 use Rattle.range.specs.declared.Reply.{Reply}
 use Rattle.range.proofs.FirstLaws.{used-hit, used-clear}
 
@@ -82,23 +82,6 @@ module _ (r : Row) (f : ℕ → Row) (n : ℕ) (few : n ≤ rowLimit) where
         pub tell-taken : n < rowLimit → Tells (record { number = 0; owner = 0 })
         tell-taken l = ap telling (sym (any-taken r (used (table rowLimit f n)) owner-above long (used-clear (meets r) rowLimit f n few free) (omega (arith, count))))
 
--- .. and the table afterwards
-
-module _ (r : Row) (t : Table Row) (a : Reply) (h : heard a ≡ telling (reserveAny r (used t))) where
-  pub any-refused : (a .number ≡ 0 → ⊥) → HeldAny r t t a
-  any-refused n = record { rows = go (reserveAny r (used t)) h; said = h }
-    where
-      go : (x : Answer (Unit {0})) → heard a ≡ telling x → t ≡ pushedAny r t x
-      go (accepted u) e = absurd (n (ap (λ s. s .number) e))
-      go (refused x) e = refl
-
-  pub any-accepted : (u : Table Row) → a .number ≡ 0 → u ≡ pushAll t (r ∷ []) → HeldAny r t u a
-  any-accepted u n e = record { rows = e ∙ go (reserveAny r (used t)) h; said = h }
-    where
-      go : (x : Answer (Unit {0})) → heard a ≡ telling x → pushAll t (r ∷ []) ≡ pushedAny r t x
-      go (accepted v) s = refl
-      go (refused x) s = absurd (tell-number 0 x (sym (ap (λ w. w .number) s) ∙ n))
-
 -- ---- a row that fits its kind is answered so
 
 rows-one : (k : Kind) (r : Row) → rowsOf k (at-kind k r ∷ []) ≡ r ∷ []
@@ -129,13 +112,6 @@ module _ (k : Kind) (r : Row) where
       where
         go : (x : Answer (Unit {0})) → telling x ≡ telling (claimed k r x)
         go (accepted u) = refl
-        go (refused x) = refl
-
-    pub held-as : (u : Table Row) (a : Reply) → HeldAny r t u a → Held k r t u a
-    held-as u a h = record { rows = h .rows ∙ go (reserveAny r (used t)) ∙ ap (pushedOr k t) (sym one-any); said = told-as a (h .said) .said }
-      where
-        go : (x : Answer (Unit {0})) → pushedAny r t x ≡ pushedOr k t (claimed k r x)
-        go (accepted v) = ap (pushAll t) (sym (rows-one k r))
         go (refused x) = refl
 
 -- ---- inputs

@@ -26,12 +26,7 @@ abbrev pub storedOr : Table Span → Answer (List Span) → Table Span
 storedOr t (accepted ps) = stored ps
 storedOr t (refused r) = t
 
--- a reservation table after an answer: the row pushed, or none
-abbrev pub pushedAny : Row → Table Row → Answer (Unit {0}) → Table Row
-pushedAny r t (accepted a) = pushAll t (r ∷ [])
-pushedAny r t (refused x) = t
-
--- .. the rows of claims pushed
+-- a reservation table after an answer: the rows of claims pushed, or none
 abbrev pub pushedOr : Kind → Table Row → Answer (List Claim) → Table Row
 pushedOr k t (accepted cs) = pushAll t (rowsOf k cs)
 pushedOr k t (refused r) = t
@@ -57,11 +52,6 @@ reserveAny r rows =
     (unreserved (firstOf (meets r) rows)
     (require (ltb (length rows) rowLimit) full
     (accepted tt))))
-
--- .. and the table afterwards
-pub record HeldAny (r : Row) (t u : Table Row) (a : Reply) : Type 0 where
-  pub rows : u ≡ pushedAny r t (reserveAny r (used t))
-  pub said : heard a ≡ telling (reserveAny r (used t))
 
 -- .. and what is told of a row of kind k
 pub record Told (k : Kind) (r : Row) (t : Table Row) (a : Reply) : Type 0 where

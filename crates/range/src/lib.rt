@@ -5,18 +5,19 @@ use tables::Pool;
 use tables::PoolRow;
 use tables::ROWS;
 use tables::RangeRow;
-use tables::Ranges;
 ghost use mathlib.Core.Path.{_≡_};
 ghost use mathlib.Core.Bool.{true, false};
-ghost use Prim.Native.Nat.{_+_, _≤_, _<_};
+ghost use Prim.Native.Nat.{suc, min, _+_, _≤_, _<_};
 ghost use lib.Dec.{T};
 ghost use Rattle.definition.specs.Tables.{poolLimit, rowLimit, top, sameSpan, blankSpan, used, tidy};
 ghost use Rattle.tables.specs.Below.{first};
 ghost use Rattle.tables.specs.Views.{pool, ranges, spanOf, rangeOf, poolAt, poolView, rangesView};
 ghost use Rattle.range.specs.Places.{stops, placeOf, Opened};
-ghost use Rattle.range.specs.Answers.{telling, heard, addAny, Entered, reserveAny, HeldAny};
+ghost use Rattle.range.specs.Answers.{telling, heard, addAny, Entered, reserveAny, earlierOf};
 
 pub mod wired;
+
+const TOP_64: u64 = 18446744073709551615;
 
 // The answer of a call on one table: 01's number, and the owner that a 5 names. Both are 0 where it is accepted.
 pub struct Reply {
@@ -30,12 +31,6 @@ pub struct Inserted {
     pub number: u64,
 }
 
-// A reservation table afterwards, and its answer.
-pub struct Reserved {
-    pub table: Ranges,
-    pub reply: Reply,
-}
-
 // A narrower number as a wide one, which keeps to its width.
 pub fn wide(x: u32) -> u64
     ensures { λ r. ⌜ (r ≡ x) × (x ≤ top 32) ⌝ }
@@ -47,6 +42,32 @@ pub fn wide16(x: u16) -> u64
     ensures { λ r. ⌜ (r ≡ x) × (x ≤ top 16) ⌝ }
 {
     x as u64
+}
+
+// The end of the range of one number. The largest number has none: its range is empty.
+pub fn past(x: u64) -> u64
+    ensures { λ r. ⌜ r ≡ min (suc x) (top 64) ⌝ }
+{
+    if x < TOP_64 {
+        return x + 1;
+    }
+    x
+}
+
+// Of two answers the one whose turn comes first. Turns come in the order of their numbers, and `a`'s comes first where both have one number.
+pub fn earlier(a: Reply, b: Reply) -> Reply
+    ensures { λ r. ⌜ r ≡ earlierOf a b ⌝ }
+{
+    if a.number == 0 {
+        return b;
+    }
+    if b.number == 0 {
+        return a;
+    }
+    if b.number < a.number {
+        return b;
+    }
+    a
 }
 
 // ---- pool ranges
@@ -237,34 +258,5 @@ pub fn refuse_range<'a>(
     Reply {
         number: 0,
         owner: 0,
-    }
-}
-
-// One reservation more, at the end of the table. A refused one changes no row.
-pub fn reserve_range(t: Ranges, r: RangeRow) -> Reserved
-    requires { ⌜ t .n ≤ rowLimit ⌝ }
-    ensures { λ x. ⌜ HeldAny (rangeOf r) (rangesView t) (rangesView (x .table)) (x .reply) ⌝ }
-{
-    let n = t.n;
-    let reply = refuse_range(
-        n,
-        &t.controller,
-        &t.its,
-        &t.device,
-        &t.start,
-        &t.end,
-        &t.owner,
-        r,
-    );
-    if reply.number != 0 {
-        return Reserved {
-            table: t,
-            reply: reply,
-        };
-    }
-    let next = tables::push_range(t, r);
-    Reserved {
-        table: next,
-        reply: reply,
     }
 }

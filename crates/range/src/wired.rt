@@ -4,23 +4,16 @@ use super::wide;
 use tables::Hit;
 use tables::ROWS;
 use tables::WireRow;
-use tables::Wires;
 ghost use mathlib.Core.Path.{_≡_};
 ghost use Prim.Native.Nat.{_≤_, _<_};
 ghost use Rattle.definition.specs.Tables.{rowLimit, input as wired, meets};
 ghost use Rattle.tables.specs.Below.{first};
 ghost use Rattle.tables.specs.Views.{wires, wireOf, wireAt, wiresView};
-ghost use Rattle.range.specs.Answers.{Told, Held};
+ghost use Rattle.range.specs.Answers.{Told};
 
 const LAST_TRIGGER: u32 = 3;
 
 const SHARED: u32 = 1;
-
-// A reservation table of inputs afterwards, and its answer.
-pub struct ReservedInput {
-    pub table: Wires,
-    pub reply: Reply,
-}
 
 // Whether two rows are of one input.
 pub fn same_input(a: WireRow, b: WireRow) -> bool
@@ -107,33 +100,5 @@ pub fn refuse_input<'a>(
     Reply {
         number: 0,
         owner: 0,
-    }
-}
-
-// One input more, at the end of the table. A refused one changes no row.
-pub fn reserve_controller_input(t: Wires, r: WireRow) -> ReservedInput
-    requires { ⌜ t .n ≤ rowLimit ⌝ }
-    ensures { λ x. ⌜ Held wired (wireOf r) (wiresView t) (wiresView (x .table)) (x .reply) ⌝ }
-{
-    let n = t.n;
-    let reply = refuse_input(
-        n,
-        &t.controller,
-        &t.input,
-        &t.trigger,
-        &t.sharing,
-        &t.owner,
-        r,
-    );
-    if reply.number != 0 {
-        return ReservedInput {
-            table: t,
-            reply: reply,
-        };
-    }
-    let next = tables::push_wire(t, r);
-    ReservedInput {
-        table: next,
-        reply: reply,
     }
 }

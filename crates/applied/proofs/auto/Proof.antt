@@ -13,9 +13,8 @@ use Rattle.tables.proofs.State.Laws as T′
 use Rattle.walks.proofs.Columns.{offset}
 use Rattle.inplace.proofs.LendPart.{Makes}
 use Rattle.inplace.proofs.Callees.{made}
-use Rattle.adding.specs.Whole.{TidyPools}
-use Rattle.adding.proofs.AddLaws.{tidy-at}
-use Rattle.adding.proofs.PutLaws.{every}
+use Rattle.applied.proofs.KindLaws.{every}
+use Rattle.applied.proofs.AddLaws.{tidy-at}
 use Rattle.admit.specs.Looks.{Tidy}
 use Rattle.admit.specs.Judged.{idleOf, poolPutOf, enteredView}
 use Rattle.admit.specs.declared.Verdict.{Verdict}
@@ -30,7 +29,7 @@ use Rattle.admit.proofs.entered as e
 use Rattle.lent.proofs.Acts.{Acts, told-by}
 use Rattle.lent.proofs.Plain.{Plain, plainOf, Good}
 use Rattle.plan.proofs.Beside.{Stands}
-use Rattle.applied.specs.Kept.{withAuto, PoolsKept, AutoKept}
+use Rattle.applied.specs.Kept.{TidyPools, withAuto, PoolsKept, AutoKept}
 use Rattle.applied.proofs.Asking.{one-asks}
 use Rattle.applied.proofs.KeptLaws.{idle-pools}
 use Rattle.applied.proofs.Pieces.{with-auto-mmio, see-auto-mmio, set-auto-mmio, with-auto-pio, see-auto-pio, set-auto-pio, with-auto-input, see-auto-input, set-auto-input, with-auto-host, see-auto-host, set-auto-host, with-auto-device, see-auto-device, set-auto-device, with-auto-event, see-auto-event, set-auto-event, with-auto-lpi, see-auto-lpi, set-auto-lpi}

@@ -13,9 +13,8 @@ use Rattle.tables.proofs.State.Laws as T′
 use Rattle.walks.proofs.Columns.{offset}
 use Rattle.inplace.proofs.LendPart.{Makes}
 use Rattle.inplace.proofs.Callees.{made}
-use Rattle.adding.specs.Whole.{TidyPools}
-use Rattle.adding.proofs.AddLaws.{tidy-at}
-use Rattle.adding.proofs.PutLaws.{every}
+use Rattle.applied.proofs.KindLaws.{every}
+use Rattle.applied.proofs.AddLaws.{tidy-at}
 use Rattle.admit.specs.Looks.{Tidy}
 use Rattle.admit.specs.Judged.{idleOf, poolPutOf, enteredView}
 use Rattle.admit.specs.declared.Verdict.{Verdict}
@@ -30,7 +29,7 @@ use Rattle.admit.proofs.entered as e
 use Rattle.lent.proofs.Acts.{Acts, told-by}
 use Rattle.lent.proofs.Plain.{Plain, plainOf, Good}
 use Rattle.plan.proofs.Beside.{Stands}
-use Rattle.applied.specs.Kept.{withFixed, PoolsKept, FixedKept}
+use Rattle.applied.specs.Kept.{TidyPools, withFixed, PoolsKept, FixedKept}
 use Rattle.applied.proofs.Asking.{one-asks}
 use Rattle.applied.proofs.KeptLaws.{idle-pools}
 use Rattle.applied.proofs.Pieces.{with-fixed-mmio, see-fixed-mmio, set-fixed-mmio, with-fixed-pio, see-fixed-pio, set-fixed-pio, with-fixed-input, see-fixed-input, set-fixed-input, with-fixed-host, see-fixed-host, set-fixed-host, with-fixed-device, see-fixed-device, set-fixed-device, with-fixed-event, see-fixed-event, set-fixed-event, with-fixed-lpi, see-fixed-lpi, set-fixed-lpi}

@@ -1,0 +1,30 @@
+-- A row whose numbers keep to their widths by their types. Assumes nothing.
+use borrow.Author.Needs.{needs}
+use Rattle.admit.proofs.FitLaws.{span-fits, range-fits}
+use mathlib.Core.Path.{refl}
+use Rattle.definition.specs.Tables.{mmio, pio, input, host, device, event, lpi}
+use Rattle.admit.proofs.holds.of_events.Statement.{statement}
+use Rattle.admit.proofs.holds.of_events.Tie as tie
+
+wide-requires : tie.Need-wide-requires
+wide-requires c κs = search needs
+
+wide-requires-2 : tie.Need-wide-requires-2
+wide-requires-2 c κs = search needs
+
+row-requires : tie.Need-row-requires
+row-requires c κs = search needs
+
+wire-requires : tie.Need-wire-requires
+wire-requires c κs = search needs
+
+rows-requires : tie.Need-rows-requires
+rows-requires c κs = search needs
+
+returns : tie.Need-returns
+returns c = record { is = rw (c .rows .ensures, c .before .wire .ensures, c .before .before .row .ensures .is, c .before .before .before .before .wide .ensures .0, c .before .before .before .wide2 .ensures .0); fit = ((λ e. range-fits event _ _ (c .before .before .row .ensures .controller) (c .before .before .row .ensures .its) _ _ (c .before .before .before .before .wide .ensures .1) (c .before .before .before .wide2 .ensures .1) refl _ (c .before .before .row .ensures .device) _ (c .before .before .row .ensures .owner)), tt) }
+
+pub of-events-spec : {M : Type 1} → statement M
+of-events-spec =
+    tie.close
+    (tie.spec wide-requires wide-requires-2 row-requires wire-requires rows-requires returns)

@@ -1,0 +1,31 @@
+-- A row whose numbers keep to their widths by their types. Assumes nothing.
+use borrow.Author.Needs.{needs}
+use Rattle.admit.proofs.FitLaws.{span-fits, range-fits}
+use mathlib.Core.Path.{refl}
+use Rattle.definition.specs.Tables.{mmio, pio, input, host, device, event, lpi}
+use native.Mathlib.Omega.{arith}
+use Rattle.admit.proofs.holds.of_lpis.Statement.{statement}
+use Rattle.admit.proofs.holds.of_lpis.Tie as tie
+
+wide-requires : tie.Need-wide-requires
+wide-requires c κs = search needs
+
+wide-requires-2 : tie.Need-wide-requires-2
+wide-requires-2 c κs = search needs
+
+row-requires : tie.Need-row-requires
+row-requires c κs = search needs
+
+wire-requires : tie.Need-wire-requires
+wire-requires c κs = search needs
+
+rows-requires : tie.Need-rows-requires
+rows-requires c κs = search needs
+
+returns : tie.Need-returns
+returns c = record { is = rw (c .rows .ensures, c .before .wire .ensures, c .before .before .row .ensures .is, c .before .before .before .before .wide .ensures .0, c .before .before .before .wide2 .ensures .0); fit = ((λ e. range-fits lpi _ _ (c .before .before .row .ensures .controller) (omega arith) _ _ (c .before .before .before .before .wide .ensures .1) (c .before .before .before .wide2 .ensures .1) refl 0 (omega arith) _ (c .before .before .row .ensures .owner)), tt) }
+
+pub of-lpis-spec : {M : Type 1} → statement M
+of-lpis-spec =
+    tie.close
+    (tie.spec wide-requires wide-requires-2 row-requires wire-requires rows-requires returns)
