@@ -1,6 +1,4 @@
 // What a query asks of each table: of its own what it needs, of any other nothing.
-use super::Query;
-use super::needing;
 use choose::Choice;
 use choose::ids;
 use choose::wired::Wire;
@@ -10,7 +8,9 @@ use look::WireAsk;
 use msi::DeviceChosen;
 use msi::EventChosen;
 use msi::Msi;
-use search::Kind;
+use super::Query;
+use super::needing;
+use tables::Kind;
 ghost use mathlib.Core.Path.{_≡_};
 ghost use Rattle.decide.specs.Query.{idle, idleWire, asked, deviceAsk, eventAsk, lpiAsk};
 

@@ -1,7 +1,4 @@
 // What comes of the tables' answers: the rows to store, the first numbers of them, and what is said.
-use super::Bases;
-use super::Granted;
-use super::Rows;
 use choose::Chosen;
 use choose::Refusal;
 use choose::wired::Wire;
@@ -9,10 +6,13 @@ use look::Seen;
 use msi::Msi;
 use msi::MsiChosen;
 use request::Said;
-use search::Kind;
 use search::Need;
+use super::Bases;
+use super::Granted;
+use super::Rows;
 use tables::DeviceId;
 use tables::EventId;
+use tables::Kind;
 use tables::Lpi;
 use tables::ROWS;
 use tables::RangeRow;
@@ -146,6 +146,7 @@ pub fn place(kind: Kind, row: RangeRow) -> Rows
     match kind {
         Kind::Mmio => Rows::Mmio(row),
         Kind::Pio => Rows::Pio(row),
+        Kind::Input => Rows::Nothing,
         Kind::Host => Rows::Host(row),
         Kind::Device => Rows::Nothing,
         Kind::Event => Rows::Nothing,

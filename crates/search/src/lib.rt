@@ -2,6 +2,7 @@
 use bases::align_up;
 use bases::bases_below;
 use tables::Hit;
+use tables::Kind;
 use tables::POOL_ROWS;
 use tables::ROWS;
 ghost use mathlib.Core.Path.{_≡_};
@@ -11,20 +12,10 @@ ghost use Rattle.definition.specs.Base.{anyOf};
 ghost use Rattle.definition.specs.Tables.{used, poolLimit, rowLimit, nature, dom, sameDom, rangeRow, wiredRow, meets};
 ghost use Rattle.definition.specs.Request.{oneBit, holds, allowed};
 ghost use Rattle.tables.specs.Below.{first};
-ghost use Rattle.tables.specs.Views.{pool, ranges, wires, spanOf, poolAt, rangeOf, rangeAt, wireOf, wireAt, poolView};
-ghost use Rattle.search.specs.Asks.{kindOf, needOf, inputNeed};
+ghost use Rattle.tables.specs.Views.{kindOf, pool, ranges, wires, spanOf, poolAt, rangeOf, rangeAt, wireOf, wireAt, poolView};
+ghost use Rattle.search.specs.Asks.{needOf, inputNeed};
 ghost use Rattle.search.specs.Steps.{Bases, Passes, Steps};
 ghost use Rattle.search.specs.Finds.{InOrder, Finds, FindsInput};
-
-// The kinds whose rows hold ranges: every kind but inputs.
-pub enum Kind {
-    Mmio,
-    Pio,
-    Host,
-    Device,
-    Event,
-    Lpi,
-}
 
 // What a request needs of one table. A domain number that the kind does not use is 0.
 pub struct Need {
@@ -108,12 +99,12 @@ pub fn first_overlap<'a>(
     Hit::Clear
 }
 
-// One input of a controller, as a need: inputs have the width of host IRQs, and no search reads the kind or who asks.
+// One input of a controller, as a need: no search reads who asks.
 pub fn one_input(controller: u32) -> Need
     ensures { λ r. ⌜ r ≡ inputNeed controller ⌝ }
 {
     Need {
-        kind: Kind::Host,
+        kind: Kind::Input,
         controller,
         its: 0,
         device: 0,
@@ -367,6 +358,7 @@ pub fn limit(kind: Kind) -> u64
     match kind {
         Kind::Mmio => 18446744073709551615,
         Kind::Pio => 65535,
+        Kind::Input => 18446744073709551615,
         Kind::Host => 18446744073709551615,
         Kind::Device => 4294967295,
         Kind::Event => 4294967295,
