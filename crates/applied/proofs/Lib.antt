@@ -1,10 +1,13 @@
 pub mod Parts
+pub mod Lending
 pub mod Pieces
+pub mod ToldLaws
 pub mod CopyWalk
+pub mod EnterWalk
 pub mod PoolsWalk
 pub mod HeldWalk
-pub mod Asking
 pub mod KeptLaws
+pub mod Filling
 pub mod GivenLaws
 pub mod FillLaws
 pub mod HoldLaws
