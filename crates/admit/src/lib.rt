@@ -13,6 +13,7 @@ use tables::PoolRow;
 use tables::RangeRow;
 use tables::WireRow;
 ghost use mathlib.Core.Path.{_≡_};
+ghost use mathlib.Core.Bool.{not};
 ghost use lib.Dec.{T};
 ghost use Rattle.definition.specs.Tables.{poolLimit, sameSpan, blankSpan, tidy};
 ghost use Rattle.tables.specs.Views.{poolView};
@@ -337,6 +338,13 @@ pub fn idle(v: Verdict, to: u64) -> bool
         return false;
     }
     true
+}
+
+// Whether a pool table has no range coming.
+pub fn rests(put: PoolPut) -> bool
+    ensures { λ b. ⌜ b ≡ not (put .go) ⌝ }
+{
+    !put.go
 }
 
 // The pool table with the range, or as it was.

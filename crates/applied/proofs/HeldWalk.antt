@@ -6,10 +6,10 @@ use Rattle.walks.proofs.Prelude.{_≡_, refl, sym, subst, ℕ, _^_, [], _∷_, 
 use mathlib.Core.Option.{some as present}
 use mir.Syntax.{Body}
 use Rattle.walks.proofs.Straight.{Store, val, set, tyAt, Has, leads, Evals, nil, arg, num, first, others}
-use Rattle.inplace.proofs.LendPart.{Piece, Makes, Leaves}
+use Rattle.inplace.proofs.LendPart.{Piece, Makes}
 use Rattle.lent.proofs.Acts.{plainly}
 use Rattle.lent.proofs.Steps.{Does, points, sets, acted, gives, entering}
-use Rattle.applied.proofs.Parts.{Stands, lends}
+use Rattle.applied.proofs.Parts.{Stands, Leaves, comes-so, lends}
 
 abbrev stored : Ty → ℕ → ℕ → ℕ → Name → List Operand → Name → Body → Body
 stored τ j r p g xs f rest = seq (assign (place r []) (addrOf (place 1 (deref τ ∷ field 2 ∷ field j ∷ [])))) (seq (call g xs (place p [])) (seq (call f (copy (place r []) ∷ copy (place p []) ∷ []) (place 3 [])) rest))
@@ -44,7 +44,7 @@ module _ {M : Type 1} (𝓤 : URA M) (H : Heap 𝓤) (A : Atoms 𝓤) (W : Given
     pub good : Type 0
     pub typed : good → Holds (hasTy τp row) × WT row
     pub makes : Makes 𝓤 H A W C g vs row good
-    pub leaves : good → Leaves 𝓤 H A W C f (named 0) F was is b spot row
+    pub leaves : good → Leaves W b C f F was (λ d. d ≡ is) spot (row ∷ [])
     pub piece : Piece 𝓤 H A W F (partAt T fullShare h b o) (partAt T fullShare h′ b o) was is b spot
 
   abbrev Held : T .Denot → Item 𝓤
@@ -58,7 +58,7 @@ module _ {M : Type 1} (𝓤 : URA M) (H : Heap 𝓤) (A : Atoms 𝓤) (W : Given
     step F τp f g xs vs j r p h h′ s e os er ep h₁ h₃ hr hp tr tp t₃ k =
         points W C Λ ls l e (s .lies) h₁ hr tr
         (acted W C Λ ls l fm (Unit {0}) (λ u. Held h) (λ u. s .row) (λ u. s .good) os (plainly 𝓤 H A W C fm (Held h) g vs (s .row) (s .good) (s .makes)) hp (λ u y. subst (λ (α : Ty). Holds (hasTy α (s .row)) × WT (s .row)) (sym tp) (s .typed y)) (λ u y.
-        acted W C Λ ls l fm (Unit {0}) (λ z. Held h′) (λ z. vunit) (λ z. Unit {0}) (arg er hr (arg ep hp nil)) (lends W T κ q b o γ C fm F (s .spot) h h′ (s .was) (s .is) (s .piece) f (s .row) (s .leaves y)) h₃ (λ z y. t₃) (λ z y. k)))
+        acted W C Λ ls l fm (Unit {0}) (λ z. Held h′) (λ z. vunit) (λ z. Unit {0}) (arg er hr (arg ep hp nil)) (lends W T κ q b o γ C fm F (s .spot) h h′ (s .was) (s .is) (s .piece) f (s .row ∷ []) (λ d. d ≡ s .is) (Unit {0}) (comes-so W b F (s .spot) (s .is)) (s .leaves y)) h₃ (λ z y. t₃) (λ z y. k)))
 
   pub held-walk : (Λ : Loops 𝓤 H) (#put #wire #range #store : Name) (π ρ ω σ p w : Ty) → Holds (hasTy σ vv) × WT vv → (Ra Wi : RattleType) (h₀ h₁ h₂ h₃ h₄ h₅ h₆ h₇ : T .Denot) (s₀ : Stage Ra p #range #put (vv ∷ vint w64 1 ∷ []) 0 h₀ h₁) (s₁ : Stage Ra p #range #put (vv ∷ vint w64 2 ∷ []) 1 h₁ h₂) (s₂ : Stage Wi w #store #wire (vv ∷ []) 2 h₂ h₃)
       (s₃ : Stage Ra p #range #put (vv ∷ vint w64 4 ∷ []) 3 h₃ h₄) (s₄ : Stage Ra p #range #put (vv ∷ vint w64 5 ∷ []) 4 h₄ h₅) (s₅ : Stage Ra p #range #put (vv ∷ vint w64 6 ∷ []) 5 h₅ h₆) (s₆ : Stage Ra p #range #put (vv ∷ vint w64 7 ∷ []) 6 h₆ h₇)

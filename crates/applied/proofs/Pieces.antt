@@ -1,7 +1,7 @@
 -- The tables of a state as parts of it in memory: each can be taken out and put back, as it was or another one. Assumes `Given`.
---     auto-at, …       where a group of tables begins in a state.        pool-at, holder-at     where a table begins in its group
---     withPool, …      the group with another table;        with-auto-mmio, …     the state with it
---     see-held-mmio, … the table as it lies there;        set-auto-mmio, …      .. and another one for it
+--     with-mmio, …     a group of pools with another table;        with-held-mmio, …     a state with another table
+--     set-mmio, …      another table for the one that lies in a group of pools;        out-auto, out-fixed     another group for the one in a state
+--     see-held-mmio, … a reservation table as it lies in a state;        set-held-mmio, …     .. and another one for it
 use Rattle.walks.proofs.Prelude.{refl, ℕ, _+_, [], _∷_, URA, fullShare, ent, sep, wand, apply∗, Fml, Heap, Atoms, sem, Given, ‵, raw, _⊛_, _$_, _∵_, !, qed, use1, use2, split, frame, assume, done, partAt, look-at, put-at, cut-record}
 use Rattle.tables.specs.Whole.{holders}
 use Rattle.tables.specs.declared.Pool.{Pool}
@@ -23,50 +23,29 @@ use Rattle.walks.proofs.Columns.{offset}
 use Rattle.inplace.proofs.LendPart.{Piece}
 use Rattle.applied.specs.Kept.{withAuto, withFixed, withHeld, withOwners}
 
-abbrev pools : Pool → Pool → Pool → Pool → Pool → Pool → Pool → Pools
+abbrev pub pools : Pool → Pool → Pool → Pool → Pool → Pool → Pool → Pools
 pools m p i h d e l = record { mmio = m; pio = p; input = i; host = h; device = d; event = e; lpi = l }
 
-abbrev pub with-auto-mmio : Pool → State → State
-with-auto-mmio x s = withAuto (pools x (s .auto .pio) (s .auto .input) (s .auto .host) (s .auto .device) (s .auto .event) (s .auto .lpi)) s
+abbrev pub with-mmio : Pool → Pools → Pools
+with-mmio x p = pools x (p .pio) (p .input) (p .host) (p .device) (p .event) (p .lpi)
 
-abbrev pub with-auto-pio : Pool → State → State
-with-auto-pio x s = withAuto (pools (s .auto .mmio) x (s .auto .input) (s .auto .host) (s .auto .device) (s .auto .event) (s .auto .lpi)) s
+abbrev pub with-pio : Pool → Pools → Pools
+with-pio x p = pools (p .mmio) x (p .input) (p .host) (p .device) (p .event) (p .lpi)
 
-abbrev pub with-auto-input : Pool → State → State
-with-auto-input x s = withAuto (pools (s .auto .mmio) (s .auto .pio) x (s .auto .host) (s .auto .device) (s .auto .event) (s .auto .lpi)) s
+abbrev pub with-input : Pool → Pools → Pools
+with-input x p = pools (p .mmio) (p .pio) x (p .host) (p .device) (p .event) (p .lpi)
 
-abbrev pub with-auto-host : Pool → State → State
-with-auto-host x s = withAuto (pools (s .auto .mmio) (s .auto .pio) (s .auto .input) x (s .auto .device) (s .auto .event) (s .auto .lpi)) s
+abbrev pub with-host : Pool → Pools → Pools
+with-host x p = pools (p .mmio) (p .pio) (p .input) x (p .device) (p .event) (p .lpi)
 
-abbrev pub with-auto-device : Pool → State → State
-with-auto-device x s = withAuto (pools (s .auto .mmio) (s .auto .pio) (s .auto .input) (s .auto .host) x (s .auto .event) (s .auto .lpi)) s
+abbrev pub with-device : Pool → Pools → Pools
+with-device x p = pools (p .mmio) (p .pio) (p .input) (p .host) x (p .event) (p .lpi)
 
-abbrev pub with-auto-event : Pool → State → State
-with-auto-event x s = withAuto (pools (s .auto .mmio) (s .auto .pio) (s .auto .input) (s .auto .host) (s .auto .device) x (s .auto .lpi)) s
+abbrev pub with-event : Pool → Pools → Pools
+with-event x p = pools (p .mmio) (p .pio) (p .input) (p .host) (p .device) x (p .lpi)
 
-abbrev pub with-auto-lpi : Pool → State → State
-with-auto-lpi x s = withAuto (pools (s .auto .mmio) (s .auto .pio) (s .auto .input) (s .auto .host) (s .auto .device) (s .auto .event) x) s
-
-abbrev pub with-fixed-mmio : Pool → State → State
-with-fixed-mmio x s = withFixed (pools x (s .fixed .pio) (s .fixed .input) (s .fixed .host) (s .fixed .device) (s .fixed .event) (s .fixed .lpi)) s
-
-abbrev pub with-fixed-pio : Pool → State → State
-with-fixed-pio x s = withFixed (pools (s .fixed .mmio) x (s .fixed .input) (s .fixed .host) (s .fixed .device) (s .fixed .event) (s .fixed .lpi)) s
-
-abbrev pub with-fixed-input : Pool → State → State
-with-fixed-input x s = withFixed (pools (s .fixed .mmio) (s .fixed .pio) x (s .fixed .host) (s .fixed .device) (s .fixed .event) (s .fixed .lpi)) s
-
-abbrev pub with-fixed-host : Pool → State → State
-with-fixed-host x s = withFixed (pools (s .fixed .mmio) (s .fixed .pio) (s .fixed .input) x (s .fixed .device) (s .fixed .event) (s .fixed .lpi)) s
-
-abbrev pub with-fixed-device : Pool → State → State
-with-fixed-device x s = withFixed (pools (s .fixed .mmio) (s .fixed .pio) (s .fixed .input) (s .fixed .host) x (s .fixed .event) (s .fixed .lpi)) s
-
-abbrev pub with-fixed-event : Pool → State → State
-with-fixed-event x s = withFixed (pools (s .fixed .mmio) (s .fixed .pio) (s .fixed .input) (s .fixed .host) (s .fixed .device) x (s .fixed .lpi)) s
-
-abbrev pub with-fixed-lpi : Pool → State → State
-with-fixed-lpi x s = withFixed (pools (s .fixed .mmio) (s .fixed .pio) (s .fixed .input) (s .fixed .host) (s .fixed .device) (s .fixed .event) x) s
+abbrev pub with-lpi : Pool → Pools → Pools
+with-lpi x p = pools (p .mmio) (p .pio) (p .input) (p .host) (p .device) (p .event) x
 
 abbrev pub with-held-mmio : Ranges → State → State
 with-held-mmio x s = withHeld (holders x (s .held .pio) (s .held .input) (s .held .host) (s .held .device) (s .held .event) (s .held .lpi)) s
@@ -122,129 +101,35 @@ module _ {M : Type 1} (𝓤 : URA M) (H : Heap 𝓤) (A : Atoms 𝓤) (W : Given
     abbrev pub State-at : State → Fml
     State-at s = partAt T.the-row fullShare s b o
 
-    out-auto : (s : State) (x : Pools) → Piece 𝓤 H A W Ps.the-row (State-at s) (State-at (withAuto x s)) (s .auto) x b (o + offset T′.mir 0)
+    abbrev pub Pools-at : Pools → Fml
+    Pools-at p = partAt Ps.the-row fullShare p b o
+
+    pub set-mmio : (p : Pools) (x : Pool) → Piece 𝓤 H A W Po.the-row (Pools-at p) (Pools-at (with-mmio x p)) (p .mmio) x b (o + offset Ps′.mir 0)
+    set-mmio p x = cut-record 𝓤 H A fullShare Ps.the-row Po.the-type (offset Ps′.mir 0) p (with-mmio x p) (p .mmio) x (b, o) (put-at 𝓤 H A W fullShare Ps.the-type Ps′.the-laws 0 (offset Ps′.mir 0) refl refl (b, o) p (with-mmio x p) (Ps.struct .as-values p) x refl refl)
+
+    pub set-pio : (p : Pools) (x : Pool) → Piece 𝓤 H A W Po.the-row (Pools-at p) (Pools-at (with-pio x p)) (p .pio) x b (o + offset Ps′.mir 1)
+    set-pio p x = cut-record 𝓤 H A fullShare Ps.the-row Po.the-type (offset Ps′.mir 1) p (with-pio x p) (p .pio) x (b, o) (put-at 𝓤 H A W fullShare Ps.the-type Ps′.the-laws 1 (offset Ps′.mir 1) refl refl (b, o) p (with-pio x p) (Ps.struct .as-values p) x refl refl)
+
+    pub set-input : (p : Pools) (x : Pool) → Piece 𝓤 H A W Po.the-row (Pools-at p) (Pools-at (with-input x p)) (p .input) x b (o + offset Ps′.mir 2)
+    set-input p x = cut-record 𝓤 H A fullShare Ps.the-row Po.the-type (offset Ps′.mir 2) p (with-input x p) (p .input) x (b, o) (put-at 𝓤 H A W fullShare Ps.the-type Ps′.the-laws 2 (offset Ps′.mir 2) refl refl (b, o) p (with-input x p) (Ps.struct .as-values p) x refl refl)
+
+    pub set-host : (p : Pools) (x : Pool) → Piece 𝓤 H A W Po.the-row (Pools-at p) (Pools-at (with-host x p)) (p .host) x b (o + offset Ps′.mir 3)
+    set-host p x = cut-record 𝓤 H A fullShare Ps.the-row Po.the-type (offset Ps′.mir 3) p (with-host x p) (p .host) x (b, o) (put-at 𝓤 H A W fullShare Ps.the-type Ps′.the-laws 3 (offset Ps′.mir 3) refl refl (b, o) p (with-host x p) (Ps.struct .as-values p) x refl refl)
+
+    pub set-device : (p : Pools) (x : Pool) → Piece 𝓤 H A W Po.the-row (Pools-at p) (Pools-at (with-device x p)) (p .device) x b (o + offset Ps′.mir 4)
+    set-device p x = cut-record 𝓤 H A fullShare Ps.the-row Po.the-type (offset Ps′.mir 4) p (with-device x p) (p .device) x (b, o) (put-at 𝓤 H A W fullShare Ps.the-type Ps′.the-laws 4 (offset Ps′.mir 4) refl refl (b, o) p (with-device x p) (Ps.struct .as-values p) x refl refl)
+
+    pub set-event : (p : Pools) (x : Pool) → Piece 𝓤 H A W Po.the-row (Pools-at p) (Pools-at (with-event x p)) (p .event) x b (o + offset Ps′.mir 5)
+    set-event p x = cut-record 𝓤 H A fullShare Ps.the-row Po.the-type (offset Ps′.mir 5) p (with-event x p) (p .event) x (b, o) (put-at 𝓤 H A W fullShare Ps.the-type Ps′.the-laws 5 (offset Ps′.mir 5) refl refl (b, o) p (with-event x p) (Ps.struct .as-values p) x refl refl)
+
+    pub set-lpi : (p : Pools) (x : Pool) → Piece 𝓤 H A W Po.the-row (Pools-at p) (Pools-at (with-lpi x p)) (p .lpi) x b (o + offset Ps′.mir 6)
+    set-lpi p x = cut-record 𝓤 H A fullShare Ps.the-row Po.the-type (offset Ps′.mir 6) p (with-lpi x p) (p .lpi) x (b, o) (put-at 𝓤 H A W fullShare Ps.the-type Ps′.the-laws 6 (offset Ps′.mir 6) refl refl (b, o) p (with-lpi x p) (Ps.struct .as-values p) x refl refl)
+
+    pub out-auto : (s : State) (x : Pools) → Piece 𝓤 H A W Ps.the-row (State-at s) (State-at (withAuto x s)) (s .auto) x b (o + offset T′.mir 0)
     out-auto s x = cut-record 𝓤 H A fullShare T.the-row Ps.the-type (offset T′.mir 0) s (withAuto x s) (s .auto) x (b, o) (put-at 𝓤 H A W fullShare T.the-type T′.the-laws 0 (offset T′.mir 0) refl refl (b, o) s (withAuto x s) (T.struct .as-values s) x refl refl)
 
-    in-auto : (s : State) → Piece 𝓤 H A W Ps.the-row (State-at s) (State-at s) (s .auto) (s .auto) b (o + offset T′.mir 0)
-    in-auto s = cut-record 𝓤 H A fullShare T.the-row Ps.the-type (offset T′.mir 0) s s (s .auto) (s .auto) (b, o) (look-at 𝓤 H A W fullShare T.the-type T′.the-laws 0 (offset T′.mir 0) refl refl (b, o) s (T.struct .as-values s) refl)
-
-    pub set-auto-mmio : (s : State) (x : Pool) → Piece 𝓤 H A W Po.the-row (State-at s) (State-at (with-auto-mmio x s)) (s .auto .mmio) x b ((o + offset T′.mir 0) + offset Ps′.mir 0)
-    set-auto-mmio s x = nested (State-at s) (State-at (with-auto-mmio x s)) (partAt Ps.the-row fullShare (s .auto) b (o + offset T′.mir 0)) (partAt Ps.the-row fullShare (with-auto-mmio x s .auto) b (o + offset T′.mir 0)) (partAt Po.the-row fullShare (s .auto .mmio) b ((o + offset T′.mir 0) + offset Ps′.mir 0)) (partAt Po.the-row fullShare (x) b ((o + offset T′.mir 0) + offset Ps′.mir 0)) (out-auto s (with-auto-mmio x s .auto))
-        (cut-record 𝓤 H A fullShare Ps.the-row Po.the-type (offset Ps′.mir 0) (s .auto) (with-auto-mmio x s .auto) (s .auto .mmio) x (b, o + offset T′.mir 0) (put-at 𝓤 H A W fullShare Ps.the-type Ps′.the-laws 0 (offset Ps′.mir 0) refl refl (b, o + offset T′.mir 0) (s .auto) (with-auto-mmio x s .auto) (Ps.struct .as-values (s .auto)) x refl refl))
-
-    pub see-auto-mmio : (s : State) → Piece 𝓤 H A W Po.the-row (State-at s) (State-at s) (s .auto .mmio) (s .auto .mmio) b ((o + offset T′.mir 0) + offset Ps′.mir 0)
-    see-auto-mmio s = nested (State-at s) (State-at s) (partAt Ps.the-row fullShare (s .auto) b (o + offset T′.mir 0)) (partAt Ps.the-row fullShare (s .auto) b (o + offset T′.mir 0)) (partAt Po.the-row fullShare (s .auto .mmio) b ((o + offset T′.mir 0) + offset Ps′.mir 0)) (partAt Po.the-row fullShare (s .auto .mmio) b ((o + offset T′.mir 0) + offset Ps′.mir 0)) (in-auto s)
-        (cut-record 𝓤 H A fullShare Ps.the-row Po.the-type (offset Ps′.mir 0) (s .auto) (s .auto) (s .auto .mmio) (s .auto .mmio) (b, o + offset T′.mir 0) (look-at 𝓤 H A W fullShare Ps.the-type Ps′.the-laws 0 (offset Ps′.mir 0) refl refl (b, o + offset T′.mir 0) (s .auto) (Ps.struct .as-values (s .auto)) refl))
-
-    pub set-auto-pio : (s : State) (x : Pool) → Piece 𝓤 H A W Po.the-row (State-at s) (State-at (with-auto-pio x s)) (s .auto .pio) x b ((o + offset T′.mir 0) + offset Ps′.mir 1)
-    set-auto-pio s x = nested (State-at s) (State-at (with-auto-pio x s)) (partAt Ps.the-row fullShare (s .auto) b (o + offset T′.mir 0)) (partAt Ps.the-row fullShare (with-auto-pio x s .auto) b (o + offset T′.mir 0)) (partAt Po.the-row fullShare (s .auto .pio) b ((o + offset T′.mir 0) + offset Ps′.mir 1)) (partAt Po.the-row fullShare (x) b ((o + offset T′.mir 0) + offset Ps′.mir 1)) (out-auto s (with-auto-pio x s .auto))
-        (cut-record 𝓤 H A fullShare Ps.the-row Po.the-type (offset Ps′.mir 1) (s .auto) (with-auto-pio x s .auto) (s .auto .pio) x (b, o + offset T′.mir 0) (put-at 𝓤 H A W fullShare Ps.the-type Ps′.the-laws 1 (offset Ps′.mir 1) refl refl (b, o + offset T′.mir 0) (s .auto) (with-auto-pio x s .auto) (Ps.struct .as-values (s .auto)) x refl refl))
-
-    pub see-auto-pio : (s : State) → Piece 𝓤 H A W Po.the-row (State-at s) (State-at s) (s .auto .pio) (s .auto .pio) b ((o + offset T′.mir 0) + offset Ps′.mir 1)
-    see-auto-pio s = nested (State-at s) (State-at s) (partAt Ps.the-row fullShare (s .auto) b (o + offset T′.mir 0)) (partAt Ps.the-row fullShare (s .auto) b (o + offset T′.mir 0)) (partAt Po.the-row fullShare (s .auto .pio) b ((o + offset T′.mir 0) + offset Ps′.mir 1)) (partAt Po.the-row fullShare (s .auto .pio) b ((o + offset T′.mir 0) + offset Ps′.mir 1)) (in-auto s)
-        (cut-record 𝓤 H A fullShare Ps.the-row Po.the-type (offset Ps′.mir 1) (s .auto) (s .auto) (s .auto .pio) (s .auto .pio) (b, o + offset T′.mir 0) (look-at 𝓤 H A W fullShare Ps.the-type Ps′.the-laws 1 (offset Ps′.mir 1) refl refl (b, o + offset T′.mir 0) (s .auto) (Ps.struct .as-values (s .auto)) refl))
-
-    pub set-auto-input : (s : State) (x : Pool) → Piece 𝓤 H A W Po.the-row (State-at s) (State-at (with-auto-input x s)) (s .auto .input) x b ((o + offset T′.mir 0) + offset Ps′.mir 2)
-    set-auto-input s x = nested (State-at s) (State-at (with-auto-input x s)) (partAt Ps.the-row fullShare (s .auto) b (o + offset T′.mir 0)) (partAt Ps.the-row fullShare (with-auto-input x s .auto) b (o + offset T′.mir 0)) (partAt Po.the-row fullShare (s .auto .input) b ((o + offset T′.mir 0) + offset Ps′.mir 2)) (partAt Po.the-row fullShare (x) b ((o + offset T′.mir 0) + offset Ps′.mir 2)) (out-auto s (with-auto-input x s .auto))
-        (cut-record 𝓤 H A fullShare Ps.the-row Po.the-type (offset Ps′.mir 2) (s .auto) (with-auto-input x s .auto) (s .auto .input) x (b, o + offset T′.mir 0) (put-at 𝓤 H A W fullShare Ps.the-type Ps′.the-laws 2 (offset Ps′.mir 2) refl refl (b, o + offset T′.mir 0) (s .auto) (with-auto-input x s .auto) (Ps.struct .as-values (s .auto)) x refl refl))
-
-    pub see-auto-input : (s : State) → Piece 𝓤 H A W Po.the-row (State-at s) (State-at s) (s .auto .input) (s .auto .input) b ((o + offset T′.mir 0) + offset Ps′.mir 2)
-    see-auto-input s = nested (State-at s) (State-at s) (partAt Ps.the-row fullShare (s .auto) b (o + offset T′.mir 0)) (partAt Ps.the-row fullShare (s .auto) b (o + offset T′.mir 0)) (partAt Po.the-row fullShare (s .auto .input) b ((o + offset T′.mir 0) + offset Ps′.mir 2)) (partAt Po.the-row fullShare (s .auto .input) b ((o + offset T′.mir 0) + offset Ps′.mir 2)) (in-auto s)
-        (cut-record 𝓤 H A fullShare Ps.the-row Po.the-type (offset Ps′.mir 2) (s .auto) (s .auto) (s .auto .input) (s .auto .input) (b, o + offset T′.mir 0) (look-at 𝓤 H A W fullShare Ps.the-type Ps′.the-laws 2 (offset Ps′.mir 2) refl refl (b, o + offset T′.mir 0) (s .auto) (Ps.struct .as-values (s .auto)) refl))
-
-    pub set-auto-host : (s : State) (x : Pool) → Piece 𝓤 H A W Po.the-row (State-at s) (State-at (with-auto-host x s)) (s .auto .host) x b ((o + offset T′.mir 0) + offset Ps′.mir 3)
-    set-auto-host s x = nested (State-at s) (State-at (with-auto-host x s)) (partAt Ps.the-row fullShare (s .auto) b (o + offset T′.mir 0)) (partAt Ps.the-row fullShare (with-auto-host x s .auto) b (o + offset T′.mir 0)) (partAt Po.the-row fullShare (s .auto .host) b ((o + offset T′.mir 0) + offset Ps′.mir 3)) (partAt Po.the-row fullShare (x) b ((o + offset T′.mir 0) + offset Ps′.mir 3)) (out-auto s (with-auto-host x s .auto))
-        (cut-record 𝓤 H A fullShare Ps.the-row Po.the-type (offset Ps′.mir 3) (s .auto) (with-auto-host x s .auto) (s .auto .host) x (b, o + offset T′.mir 0) (put-at 𝓤 H A W fullShare Ps.the-type Ps′.the-laws 3 (offset Ps′.mir 3) refl refl (b, o + offset T′.mir 0) (s .auto) (with-auto-host x s .auto) (Ps.struct .as-values (s .auto)) x refl refl))
-
-    pub see-auto-host : (s : State) → Piece 𝓤 H A W Po.the-row (State-at s) (State-at s) (s .auto .host) (s .auto .host) b ((o + offset T′.mir 0) + offset Ps′.mir 3)
-    see-auto-host s = nested (State-at s) (State-at s) (partAt Ps.the-row fullShare (s .auto) b (o + offset T′.mir 0)) (partAt Ps.the-row fullShare (s .auto) b (o + offset T′.mir 0)) (partAt Po.the-row fullShare (s .auto .host) b ((o + offset T′.mir 0) + offset Ps′.mir 3)) (partAt Po.the-row fullShare (s .auto .host) b ((o + offset T′.mir 0) + offset Ps′.mir 3)) (in-auto s)
-        (cut-record 𝓤 H A fullShare Ps.the-row Po.the-type (offset Ps′.mir 3) (s .auto) (s .auto) (s .auto .host) (s .auto .host) (b, o + offset T′.mir 0) (look-at 𝓤 H A W fullShare Ps.the-type Ps′.the-laws 3 (offset Ps′.mir 3) refl refl (b, o + offset T′.mir 0) (s .auto) (Ps.struct .as-values (s .auto)) refl))
-
-    pub set-auto-device : (s : State) (x : Pool) → Piece 𝓤 H A W Po.the-row (State-at s) (State-at (with-auto-device x s)) (s .auto .device) x b ((o + offset T′.mir 0) + offset Ps′.mir 4)
-    set-auto-device s x = nested (State-at s) (State-at (with-auto-device x s)) (partAt Ps.the-row fullShare (s .auto) b (o + offset T′.mir 0)) (partAt Ps.the-row fullShare (with-auto-device x s .auto) b (o + offset T′.mir 0)) (partAt Po.the-row fullShare (s .auto .device) b ((o + offset T′.mir 0) + offset Ps′.mir 4)) (partAt Po.the-row fullShare (x) b ((o + offset T′.mir 0) + offset Ps′.mir 4)) (out-auto s (with-auto-device x s .auto))
-        (cut-record 𝓤 H A fullShare Ps.the-row Po.the-type (offset Ps′.mir 4) (s .auto) (with-auto-device x s .auto) (s .auto .device) x (b, o + offset T′.mir 0) (put-at 𝓤 H A W fullShare Ps.the-type Ps′.the-laws 4 (offset Ps′.mir 4) refl refl (b, o + offset T′.mir 0) (s .auto) (with-auto-device x s .auto) (Ps.struct .as-values (s .auto)) x refl refl))
-
-    pub see-auto-device : (s : State) → Piece 𝓤 H A W Po.the-row (State-at s) (State-at s) (s .auto .device) (s .auto .device) b ((o + offset T′.mir 0) + offset Ps′.mir 4)
-    see-auto-device s = nested (State-at s) (State-at s) (partAt Ps.the-row fullShare (s .auto) b (o + offset T′.mir 0)) (partAt Ps.the-row fullShare (s .auto) b (o + offset T′.mir 0)) (partAt Po.the-row fullShare (s .auto .device) b ((o + offset T′.mir 0) + offset Ps′.mir 4)) (partAt Po.the-row fullShare (s .auto .device) b ((o + offset T′.mir 0) + offset Ps′.mir 4)) (in-auto s)
-        (cut-record 𝓤 H A fullShare Ps.the-row Po.the-type (offset Ps′.mir 4) (s .auto) (s .auto) (s .auto .device) (s .auto .device) (b, o + offset T′.mir 0) (look-at 𝓤 H A W fullShare Ps.the-type Ps′.the-laws 4 (offset Ps′.mir 4) refl refl (b, o + offset T′.mir 0) (s .auto) (Ps.struct .as-values (s .auto)) refl))
-
-    pub set-auto-event : (s : State) (x : Pool) → Piece 𝓤 H A W Po.the-row (State-at s) (State-at (with-auto-event x s)) (s .auto .event) x b ((o + offset T′.mir 0) + offset Ps′.mir 5)
-    set-auto-event s x = nested (State-at s) (State-at (with-auto-event x s)) (partAt Ps.the-row fullShare (s .auto) b (o + offset T′.mir 0)) (partAt Ps.the-row fullShare (with-auto-event x s .auto) b (o + offset T′.mir 0)) (partAt Po.the-row fullShare (s .auto .event) b ((o + offset T′.mir 0) + offset Ps′.mir 5)) (partAt Po.the-row fullShare (x) b ((o + offset T′.mir 0) + offset Ps′.mir 5)) (out-auto s (with-auto-event x s .auto))
-        (cut-record 𝓤 H A fullShare Ps.the-row Po.the-type (offset Ps′.mir 5) (s .auto) (with-auto-event x s .auto) (s .auto .event) x (b, o + offset T′.mir 0) (put-at 𝓤 H A W fullShare Ps.the-type Ps′.the-laws 5 (offset Ps′.mir 5) refl refl (b, o + offset T′.mir 0) (s .auto) (with-auto-event x s .auto) (Ps.struct .as-values (s .auto)) x refl refl))
-
-    pub see-auto-event : (s : State) → Piece 𝓤 H A W Po.the-row (State-at s) (State-at s) (s .auto .event) (s .auto .event) b ((o + offset T′.mir 0) + offset Ps′.mir 5)
-    see-auto-event s = nested (State-at s) (State-at s) (partAt Ps.the-row fullShare (s .auto) b (o + offset T′.mir 0)) (partAt Ps.the-row fullShare (s .auto) b (o + offset T′.mir 0)) (partAt Po.the-row fullShare (s .auto .event) b ((o + offset T′.mir 0) + offset Ps′.mir 5)) (partAt Po.the-row fullShare (s .auto .event) b ((o + offset T′.mir 0) + offset Ps′.mir 5)) (in-auto s)
-        (cut-record 𝓤 H A fullShare Ps.the-row Po.the-type (offset Ps′.mir 5) (s .auto) (s .auto) (s .auto .event) (s .auto .event) (b, o + offset T′.mir 0) (look-at 𝓤 H A W fullShare Ps.the-type Ps′.the-laws 5 (offset Ps′.mir 5) refl refl (b, o + offset T′.mir 0) (s .auto) (Ps.struct .as-values (s .auto)) refl))
-
-    pub set-auto-lpi : (s : State) (x : Pool) → Piece 𝓤 H A W Po.the-row (State-at s) (State-at (with-auto-lpi x s)) (s .auto .lpi) x b ((o + offset T′.mir 0) + offset Ps′.mir 6)
-    set-auto-lpi s x = nested (State-at s) (State-at (with-auto-lpi x s)) (partAt Ps.the-row fullShare (s .auto) b (o + offset T′.mir 0)) (partAt Ps.the-row fullShare (with-auto-lpi x s .auto) b (o + offset T′.mir 0)) (partAt Po.the-row fullShare (s .auto .lpi) b ((o + offset T′.mir 0) + offset Ps′.mir 6)) (partAt Po.the-row fullShare (x) b ((o + offset T′.mir 0) + offset Ps′.mir 6)) (out-auto s (with-auto-lpi x s .auto))
-        (cut-record 𝓤 H A fullShare Ps.the-row Po.the-type (offset Ps′.mir 6) (s .auto) (with-auto-lpi x s .auto) (s .auto .lpi) x (b, o + offset T′.mir 0) (put-at 𝓤 H A W fullShare Ps.the-type Ps′.the-laws 6 (offset Ps′.mir 6) refl refl (b, o + offset T′.mir 0) (s .auto) (with-auto-lpi x s .auto) (Ps.struct .as-values (s .auto)) x refl refl))
-
-    pub see-auto-lpi : (s : State) → Piece 𝓤 H A W Po.the-row (State-at s) (State-at s) (s .auto .lpi) (s .auto .lpi) b ((o + offset T′.mir 0) + offset Ps′.mir 6)
-    see-auto-lpi s = nested (State-at s) (State-at s) (partAt Ps.the-row fullShare (s .auto) b (o + offset T′.mir 0)) (partAt Ps.the-row fullShare (s .auto) b (o + offset T′.mir 0)) (partAt Po.the-row fullShare (s .auto .lpi) b ((o + offset T′.mir 0) + offset Ps′.mir 6)) (partAt Po.the-row fullShare (s .auto .lpi) b ((o + offset T′.mir 0) + offset Ps′.mir 6)) (in-auto s)
-        (cut-record 𝓤 H A fullShare Ps.the-row Po.the-type (offset Ps′.mir 6) (s .auto) (s .auto) (s .auto .lpi) (s .auto .lpi) (b, o + offset T′.mir 0) (look-at 𝓤 H A W fullShare Ps.the-type Ps′.the-laws 6 (offset Ps′.mir 6) refl refl (b, o + offset T′.mir 0) (s .auto) (Ps.struct .as-values (s .auto)) refl))
-
-    out-fixed : (s : State) (x : Pools) → Piece 𝓤 H A W Ps.the-row (State-at s) (State-at (withFixed x s)) (s .fixed) x b (o + offset T′.mir 1)
+    pub out-fixed : (s : State) (x : Pools) → Piece 𝓤 H A W Ps.the-row (State-at s) (State-at (withFixed x s)) (s .fixed) x b (o + offset T′.mir 1)
     out-fixed s x = cut-record 𝓤 H A fullShare T.the-row Ps.the-type (offset T′.mir 1) s (withFixed x s) (s .fixed) x (b, o) (put-at 𝓤 H A W fullShare T.the-type T′.the-laws 1 (offset T′.mir 1) refl refl (b, o) s (withFixed x s) (T.struct .as-values s) x refl refl)
-
-    in-fixed : (s : State) → Piece 𝓤 H A W Ps.the-row (State-at s) (State-at s) (s .fixed) (s .fixed) b (o + offset T′.mir 1)
-    in-fixed s = cut-record 𝓤 H A fullShare T.the-row Ps.the-type (offset T′.mir 1) s s (s .fixed) (s .fixed) (b, o) (look-at 𝓤 H A W fullShare T.the-type T′.the-laws 1 (offset T′.mir 1) refl refl (b, o) s (T.struct .as-values s) refl)
-
-    pub set-fixed-mmio : (s : State) (x : Pool) → Piece 𝓤 H A W Po.the-row (State-at s) (State-at (with-fixed-mmio x s)) (s .fixed .mmio) x b ((o + offset T′.mir 1) + offset Ps′.mir 0)
-    set-fixed-mmio s x = nested (State-at s) (State-at (with-fixed-mmio x s)) (partAt Ps.the-row fullShare (s .fixed) b (o + offset T′.mir 1)) (partAt Ps.the-row fullShare (with-fixed-mmio x s .fixed) b (o + offset T′.mir 1)) (partAt Po.the-row fullShare (s .fixed .mmio) b ((o + offset T′.mir 1) + offset Ps′.mir 0)) (partAt Po.the-row fullShare (x) b ((o + offset T′.mir 1) + offset Ps′.mir 0)) (out-fixed s (with-fixed-mmio x s .fixed))
-        (cut-record 𝓤 H A fullShare Ps.the-row Po.the-type (offset Ps′.mir 0) (s .fixed) (with-fixed-mmio x s .fixed) (s .fixed .mmio) x (b, o + offset T′.mir 1) (put-at 𝓤 H A W fullShare Ps.the-type Ps′.the-laws 0 (offset Ps′.mir 0) refl refl (b, o + offset T′.mir 1) (s .fixed) (with-fixed-mmio x s .fixed) (Ps.struct .as-values (s .fixed)) x refl refl))
-
-    pub see-fixed-mmio : (s : State) → Piece 𝓤 H A W Po.the-row (State-at s) (State-at s) (s .fixed .mmio) (s .fixed .mmio) b ((o + offset T′.mir 1) + offset Ps′.mir 0)
-    see-fixed-mmio s = nested (State-at s) (State-at s) (partAt Ps.the-row fullShare (s .fixed) b (o + offset T′.mir 1)) (partAt Ps.the-row fullShare (s .fixed) b (o + offset T′.mir 1)) (partAt Po.the-row fullShare (s .fixed .mmio) b ((o + offset T′.mir 1) + offset Ps′.mir 0)) (partAt Po.the-row fullShare (s .fixed .mmio) b ((o + offset T′.mir 1) + offset Ps′.mir 0)) (in-fixed s)
-        (cut-record 𝓤 H A fullShare Ps.the-row Po.the-type (offset Ps′.mir 0) (s .fixed) (s .fixed) (s .fixed .mmio) (s .fixed .mmio) (b, o + offset T′.mir 1) (look-at 𝓤 H A W fullShare Ps.the-type Ps′.the-laws 0 (offset Ps′.mir 0) refl refl (b, o + offset T′.mir 1) (s .fixed) (Ps.struct .as-values (s .fixed)) refl))
-
-    pub set-fixed-pio : (s : State) (x : Pool) → Piece 𝓤 H A W Po.the-row (State-at s) (State-at (with-fixed-pio x s)) (s .fixed .pio) x b ((o + offset T′.mir 1) + offset Ps′.mir 1)
-    set-fixed-pio s x = nested (State-at s) (State-at (with-fixed-pio x s)) (partAt Ps.the-row fullShare (s .fixed) b (o + offset T′.mir 1)) (partAt Ps.the-row fullShare (with-fixed-pio x s .fixed) b (o + offset T′.mir 1)) (partAt Po.the-row fullShare (s .fixed .pio) b ((o + offset T′.mir 1) + offset Ps′.mir 1)) (partAt Po.the-row fullShare (x) b ((o + offset T′.mir 1) + offset Ps′.mir 1)) (out-fixed s (with-fixed-pio x s .fixed))
-        (cut-record 𝓤 H A fullShare Ps.the-row Po.the-type (offset Ps′.mir 1) (s .fixed) (with-fixed-pio x s .fixed) (s .fixed .pio) x (b, o + offset T′.mir 1) (put-at 𝓤 H A W fullShare Ps.the-type Ps′.the-laws 1 (offset Ps′.mir 1) refl refl (b, o + offset T′.mir 1) (s .fixed) (with-fixed-pio x s .fixed) (Ps.struct .as-values (s .fixed)) x refl refl))
-
-    pub see-fixed-pio : (s : State) → Piece 𝓤 H A W Po.the-row (State-at s) (State-at s) (s .fixed .pio) (s .fixed .pio) b ((o + offset T′.mir 1) + offset Ps′.mir 1)
-    see-fixed-pio s = nested (State-at s) (State-at s) (partAt Ps.the-row fullShare (s .fixed) b (o + offset T′.mir 1)) (partAt Ps.the-row fullShare (s .fixed) b (o + offset T′.mir 1)) (partAt Po.the-row fullShare (s .fixed .pio) b ((o + offset T′.mir 1) + offset Ps′.mir 1)) (partAt Po.the-row fullShare (s .fixed .pio) b ((o + offset T′.mir 1) + offset Ps′.mir 1)) (in-fixed s)
-        (cut-record 𝓤 H A fullShare Ps.the-row Po.the-type (offset Ps′.mir 1) (s .fixed) (s .fixed) (s .fixed .pio) (s .fixed .pio) (b, o + offset T′.mir 1) (look-at 𝓤 H A W fullShare Ps.the-type Ps′.the-laws 1 (offset Ps′.mir 1) refl refl (b, o + offset T′.mir 1) (s .fixed) (Ps.struct .as-values (s .fixed)) refl))
-
-    pub set-fixed-input : (s : State) (x : Pool) → Piece 𝓤 H A W Po.the-row (State-at s) (State-at (with-fixed-input x s)) (s .fixed .input) x b ((o + offset T′.mir 1) + offset Ps′.mir 2)
-    set-fixed-input s x = nested (State-at s) (State-at (with-fixed-input x s)) (partAt Ps.the-row fullShare (s .fixed) b (o + offset T′.mir 1)) (partAt Ps.the-row fullShare (with-fixed-input x s .fixed) b (o + offset T′.mir 1)) (partAt Po.the-row fullShare (s .fixed .input) b ((o + offset T′.mir 1) + offset Ps′.mir 2)) (partAt Po.the-row fullShare (x) b ((o + offset T′.mir 1) + offset Ps′.mir 2)) (out-fixed s (with-fixed-input x s .fixed))
-        (cut-record 𝓤 H A fullShare Ps.the-row Po.the-type (offset Ps′.mir 2) (s .fixed) (with-fixed-input x s .fixed) (s .fixed .input) x (b, o + offset T′.mir 1) (put-at 𝓤 H A W fullShare Ps.the-type Ps′.the-laws 2 (offset Ps′.mir 2) refl refl (b, o + offset T′.mir 1) (s .fixed) (with-fixed-input x s .fixed) (Ps.struct .as-values (s .fixed)) x refl refl))
-
-    pub see-fixed-input : (s : State) → Piece 𝓤 H A W Po.the-row (State-at s) (State-at s) (s .fixed .input) (s .fixed .input) b ((o + offset T′.mir 1) + offset Ps′.mir 2)
-    see-fixed-input s = nested (State-at s) (State-at s) (partAt Ps.the-row fullShare (s .fixed) b (o + offset T′.mir 1)) (partAt Ps.the-row fullShare (s .fixed) b (o + offset T′.mir 1)) (partAt Po.the-row fullShare (s .fixed .input) b ((o + offset T′.mir 1) + offset Ps′.mir 2)) (partAt Po.the-row fullShare (s .fixed .input) b ((o + offset T′.mir 1) + offset Ps′.mir 2)) (in-fixed s)
-        (cut-record 𝓤 H A fullShare Ps.the-row Po.the-type (offset Ps′.mir 2) (s .fixed) (s .fixed) (s .fixed .input) (s .fixed .input) (b, o + offset T′.mir 1) (look-at 𝓤 H A W fullShare Ps.the-type Ps′.the-laws 2 (offset Ps′.mir 2) refl refl (b, o + offset T′.mir 1) (s .fixed) (Ps.struct .as-values (s .fixed)) refl))
-
-    pub set-fixed-host : (s : State) (x : Pool) → Piece 𝓤 H A W Po.the-row (State-at s) (State-at (with-fixed-host x s)) (s .fixed .host) x b ((o + offset T′.mir 1) + offset Ps′.mir 3)
-    set-fixed-host s x = nested (State-at s) (State-at (with-fixed-host x s)) (partAt Ps.the-row fullShare (s .fixed) b (o + offset T′.mir 1)) (partAt Ps.the-row fullShare (with-fixed-host x s .fixed) b (o + offset T′.mir 1)) (partAt Po.the-row fullShare (s .fixed .host) b ((o + offset T′.mir 1) + offset Ps′.mir 3)) (partAt Po.the-row fullShare (x) b ((o + offset T′.mir 1) + offset Ps′.mir 3)) (out-fixed s (with-fixed-host x s .fixed))
-        (cut-record 𝓤 H A fullShare Ps.the-row Po.the-type (offset Ps′.mir 3) (s .fixed) (with-fixed-host x s .fixed) (s .fixed .host) x (b, o + offset T′.mir 1) (put-at 𝓤 H A W fullShare Ps.the-type Ps′.the-laws 3 (offset Ps′.mir 3) refl refl (b, o + offset T′.mir 1) (s .fixed) (with-fixed-host x s .fixed) (Ps.struct .as-values (s .fixed)) x refl refl))
-
-    pub see-fixed-host : (s : State) → Piece 𝓤 H A W Po.the-row (State-at s) (State-at s) (s .fixed .host) (s .fixed .host) b ((o + offset T′.mir 1) + offset Ps′.mir 3)
-    see-fixed-host s = nested (State-at s) (State-at s) (partAt Ps.the-row fullShare (s .fixed) b (o + offset T′.mir 1)) (partAt Ps.the-row fullShare (s .fixed) b (o + offset T′.mir 1)) (partAt Po.the-row fullShare (s .fixed .host) b ((o + offset T′.mir 1) + offset Ps′.mir 3)) (partAt Po.the-row fullShare (s .fixed .host) b ((o + offset T′.mir 1) + offset Ps′.mir 3)) (in-fixed s)
-        (cut-record 𝓤 H A fullShare Ps.the-row Po.the-type (offset Ps′.mir 3) (s .fixed) (s .fixed) (s .fixed .host) (s .fixed .host) (b, o + offset T′.mir 1) (look-at 𝓤 H A W fullShare Ps.the-type Ps′.the-laws 3 (offset Ps′.mir 3) refl refl (b, o + offset T′.mir 1) (s .fixed) (Ps.struct .as-values (s .fixed)) refl))
-
-    pub set-fixed-device : (s : State) (x : Pool) → Piece 𝓤 H A W Po.the-row (State-at s) (State-at (with-fixed-device x s)) (s .fixed .device) x b ((o + offset T′.mir 1) + offset Ps′.mir 4)
-    set-fixed-device s x = nested (State-at s) (State-at (with-fixed-device x s)) (partAt Ps.the-row fullShare (s .fixed) b (o + offset T′.mir 1)) (partAt Ps.the-row fullShare (with-fixed-device x s .fixed) b (o + offset T′.mir 1)) (partAt Po.the-row fullShare (s .fixed .device) b ((o + offset T′.mir 1) + offset Ps′.mir 4)) (partAt Po.the-row fullShare (x) b ((o + offset T′.mir 1) + offset Ps′.mir 4)) (out-fixed s (with-fixed-device x s .fixed))
-        (cut-record 𝓤 H A fullShare Ps.the-row Po.the-type (offset Ps′.mir 4) (s .fixed) (with-fixed-device x s .fixed) (s .fixed .device) x (b, o + offset T′.mir 1) (put-at 𝓤 H A W fullShare Ps.the-type Ps′.the-laws 4 (offset Ps′.mir 4) refl refl (b, o + offset T′.mir 1) (s .fixed) (with-fixed-device x s .fixed) (Ps.struct .as-values (s .fixed)) x refl refl))
-
-    pub see-fixed-device : (s : State) → Piece 𝓤 H A W Po.the-row (State-at s) (State-at s) (s .fixed .device) (s .fixed .device) b ((o + offset T′.mir 1) + offset Ps′.mir 4)
-    see-fixed-device s = nested (State-at s) (State-at s) (partAt Ps.the-row fullShare (s .fixed) b (o + offset T′.mir 1)) (partAt Ps.the-row fullShare (s .fixed) b (o + offset T′.mir 1)) (partAt Po.the-row fullShare (s .fixed .device) b ((o + offset T′.mir 1) + offset Ps′.mir 4)) (partAt Po.the-row fullShare (s .fixed .device) b ((o + offset T′.mir 1) + offset Ps′.mir 4)) (in-fixed s)
-        (cut-record 𝓤 H A fullShare Ps.the-row Po.the-type (offset Ps′.mir 4) (s .fixed) (s .fixed) (s .fixed .device) (s .fixed .device) (b, o + offset T′.mir 1) (look-at 𝓤 H A W fullShare Ps.the-type Ps′.the-laws 4 (offset Ps′.mir 4) refl refl (b, o + offset T′.mir 1) (s .fixed) (Ps.struct .as-values (s .fixed)) refl))
-
-    pub set-fixed-event : (s : State) (x : Pool) → Piece 𝓤 H A W Po.the-row (State-at s) (State-at (with-fixed-event x s)) (s .fixed .event) x b ((o + offset T′.mir 1) + offset Ps′.mir 5)
-    set-fixed-event s x = nested (State-at s) (State-at (with-fixed-event x s)) (partAt Ps.the-row fullShare (s .fixed) b (o + offset T′.mir 1)) (partAt Ps.the-row fullShare (with-fixed-event x s .fixed) b (o + offset T′.mir 1)) (partAt Po.the-row fullShare (s .fixed .event) b ((o + offset T′.mir 1) + offset Ps′.mir 5)) (partAt Po.the-row fullShare (x) b ((o + offset T′.mir 1) + offset Ps′.mir 5)) (out-fixed s (with-fixed-event x s .fixed))
-        (cut-record 𝓤 H A fullShare Ps.the-row Po.the-type (offset Ps′.mir 5) (s .fixed) (with-fixed-event x s .fixed) (s .fixed .event) x (b, o + offset T′.mir 1) (put-at 𝓤 H A W fullShare Ps.the-type Ps′.the-laws 5 (offset Ps′.mir 5) refl refl (b, o + offset T′.mir 1) (s .fixed) (with-fixed-event x s .fixed) (Ps.struct .as-values (s .fixed)) x refl refl))
-
-    pub see-fixed-event : (s : State) → Piece 𝓤 H A W Po.the-row (State-at s) (State-at s) (s .fixed .event) (s .fixed .event) b ((o + offset T′.mir 1) + offset Ps′.mir 5)
-    see-fixed-event s = nested (State-at s) (State-at s) (partAt Ps.the-row fullShare (s .fixed) b (o + offset T′.mir 1)) (partAt Ps.the-row fullShare (s .fixed) b (o + offset T′.mir 1)) (partAt Po.the-row fullShare (s .fixed .event) b ((o + offset T′.mir 1) + offset Ps′.mir 5)) (partAt Po.the-row fullShare (s .fixed .event) b ((o + offset T′.mir 1) + offset Ps′.mir 5)) (in-fixed s)
-        (cut-record 𝓤 H A fullShare Ps.the-row Po.the-type (offset Ps′.mir 5) (s .fixed) (s .fixed) (s .fixed .event) (s .fixed .event) (b, o + offset T′.mir 1) (look-at 𝓤 H A W fullShare Ps.the-type Ps′.the-laws 5 (offset Ps′.mir 5) refl refl (b, o + offset T′.mir 1) (s .fixed) (Ps.struct .as-values (s .fixed)) refl))
-
-    pub set-fixed-lpi : (s : State) (x : Pool) → Piece 𝓤 H A W Po.the-row (State-at s) (State-at (with-fixed-lpi x s)) (s .fixed .lpi) x b ((o + offset T′.mir 1) + offset Ps′.mir 6)
-    set-fixed-lpi s x = nested (State-at s) (State-at (with-fixed-lpi x s)) (partAt Ps.the-row fullShare (s .fixed) b (o + offset T′.mir 1)) (partAt Ps.the-row fullShare (with-fixed-lpi x s .fixed) b (o + offset T′.mir 1)) (partAt Po.the-row fullShare (s .fixed .lpi) b ((o + offset T′.mir 1) + offset Ps′.mir 6)) (partAt Po.the-row fullShare (x) b ((o + offset T′.mir 1) + offset Ps′.mir 6)) (out-fixed s (with-fixed-lpi x s .fixed))
-        (cut-record 𝓤 H A fullShare Ps.the-row Po.the-type (offset Ps′.mir 6) (s .fixed) (with-fixed-lpi x s .fixed) (s .fixed .lpi) x (b, o + offset T′.mir 1) (put-at 𝓤 H A W fullShare Ps.the-type Ps′.the-laws 6 (offset Ps′.mir 6) refl refl (b, o + offset T′.mir 1) (s .fixed) (with-fixed-lpi x s .fixed) (Ps.struct .as-values (s .fixed)) x refl refl))
-
-    pub see-fixed-lpi : (s : State) → Piece 𝓤 H A W Po.the-row (State-at s) (State-at s) (s .fixed .lpi) (s .fixed .lpi) b ((o + offset T′.mir 1) + offset Ps′.mir 6)
-    see-fixed-lpi s = nested (State-at s) (State-at s) (partAt Ps.the-row fullShare (s .fixed) b (o + offset T′.mir 1)) (partAt Ps.the-row fullShare (s .fixed) b (o + offset T′.mir 1)) (partAt Po.the-row fullShare (s .fixed .lpi) b ((o + offset T′.mir 1) + offset Ps′.mir 6)) (partAt Po.the-row fullShare (s .fixed .lpi) b ((o + offset T′.mir 1) + offset Ps′.mir 6)) (in-fixed s)
-        (cut-record 𝓤 H A fullShare Ps.the-row Po.the-type (offset Ps′.mir 6) (s .fixed) (s .fixed) (s .fixed .lpi) (s .fixed .lpi) (b, o + offset T′.mir 1) (look-at 𝓤 H A W fullShare Ps.the-type Ps′.the-laws 6 (offset Ps′.mir 6) refl refl (b, o + offset T′.mir 1) (s .fixed) (Ps.struct .as-values (s .fixed)) refl))
 
     out-held : (s : State) (x : Holders) → Piece 𝓤 H A W Ho.the-row (State-at s) (State-at (withHeld x s)) (s .held) x b (o + offset T′.mir 2)
     out-held s x = cut-record 𝓤 H A fullShare T.the-row Ho.the-type (offset T′.mir 2) s (withHeld x s) (s .held) x (b, o) (put-at 𝓤 H A W fullShare T.the-type T′.the-laws 2 (offset T′.mir 2) refl refl (b, o) s (withHeld x s) (T.struct .as-values s) x refl refl)

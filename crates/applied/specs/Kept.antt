@@ -77,14 +77,6 @@ withHeld h s = state (s .auto) (s .fixed) h (s .owners) s
 abbrev pub withOwners : Holders → State → State
 withOwners o s = state (s .auto) (s .fixed) (s .held) o s
 
-pub record AutoKept (v : Verdict) (s t : State) : Type 0 where
-  pub pools : PoolsKept v 1 (s .auto) (t .auto)
-  pub is : t ≡ withAuto (t .auto) s
-
-pub record FixedKept (v : Verdict) (s t : State) : Type 0 where
-  pub pools : PoolsKept v 2 (s .fixed) (t .fixed)
-  pub is : t ≡ withFixed (t .fixed) s
-
 -- what is said beside the tables, and no row
 pub record Tells (r : Reply) (g : Granted) : Type 0 where
   pub nothing : g .rows ≡ Nothing

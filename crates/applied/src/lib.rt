@@ -1,55 +1,71 @@
 // A call that adds, or starts, on a lent state whose pools and reservations are sound, in place: tables are read through references, and only those of the call's use and kinds are written.
+use admit::PoolPut;
 use admit::Verdict;
 use choose::Refusal;
 use decide::Granted;
 use range::Reply;
 use request::Said;
 use request::call::Call;
+use tables::Pool;
+use tables::Pools;
 use tables::State;
 ghost use mathlib.Core.Path.{_≡_};
 ghost use lib.Dec.{T};
 ghost use Rattle.definition.specs.Tables.{kinds};
 ghost use Rattle.definition.specs.Calls.{given, saying, starting};
-ghost use Rattle.tables.specs.Views.{stateView};
+ghost use Rattle.tables.specs.Views.{poolView, stateView};
 ghost use Rattle.range.specs.Answers.{heard};
 ghost use Rattle.request.specs.Calls.{callOf};
-ghost use Rattle.applied.specs.Kept.{TidyPools, heldWith, HeldFree, withHeld, withOwners, AutoKept, FixedKept, Tells, Kept, Ready, Decides};
+ghost use Rattle.admit.specs.Looks.{Tidy};
+ghost use Rattle.admit.specs.Judged.{enteredView};
+ghost use Rattle.applied.specs.Kept.{TidyPools, heldWith, HeldFree, withHeld, withOwners, PoolsKept, Tells, Kept, Ready, Decides};
 ghost use Rattle.applied.specs.Applied.{applyOf};
 
 // ---- what is stored
 
-// The ranges for the automatic pools: each table goes out by value, and is stored back.
-pub fn auto(s: &mut State, v: Verdict)
-    requires { ⌜ TidyPools (now s .auto) ⌝ }
-    ensures { λ _. ⌜ AutoKept v (now (s .entry)) (now (s .exit)) ⌝ }
+// The range for one pool table, if it has one: only then the table goes out by value, and is stored back.
+pub fn enter(t: &mut Pool, put: PoolPut)
+    requires { ⌜ Tidy (now t) ⌝ }
+    ensures { λ _. ⌜ poolView (now (t .exit)) ≡ enteredView put (poolView (now (t .entry))) ⌝ }
+{
+    if admit::rests(put) {
+        return;
+    }
+    *t = admit::entered(*t, put);
+}
+
+// The ranges for the automatic pools. A verdict that has none for them touches no table.
+pub fn auto(p: &mut Pools, v: Verdict)
+    requires { ⌜ TidyPools (now p) ⌝ }
+    ensures { λ _. ⌜ PoolsKept v 1 (now (p .entry)) (now (p .exit)) ⌝ }
 {
     if admit::idle(v, 1) {
         return;
     }
-    s.auto.mmio = admit::entered(s.auto.mmio, admit::pool_put(v, 1, 1));
-    s.auto.pio = admit::entered(s.auto.pio, admit::pool_put(v, 1, 2));
-    s.auto.input = admit::entered(s.auto.input, admit::pool_put(v, 1, 3));
-    s.auto.host = admit::entered(s.auto.host, admit::pool_put(v, 1, 4));
-    s.auto.device = admit::entered(s.auto.device, admit::pool_put(v, 1, 5));
-    s.auto.event = admit::entered(s.auto.event, admit::pool_put(v, 1, 6));
-    s.auto.lpi = admit::entered(s.auto.lpi, admit::pool_put(v, 1, 7));
+    enter(&mut p.mmio, admit::pool_put(v, 1, 1));
+    enter(&mut p.pio, admit::pool_put(v, 1, 2));
+    enter(&mut p.input, admit::pool_put(v, 1, 3));
+    enter(&mut p.host, admit::pool_put(v, 1, 4));
+    enter(&mut p.device, admit::pool_put(v, 1, 5));
+    enter(&mut p.event, admit::pool_put(v, 1, 6));
+    enter(&mut p.lpi, admit::pool_put(v, 1, 7));
 }
 
 // .. for the fixed pools.
-pub fn fixed(s: &mut State, v: Verdict)
-    requires { ⌜ TidyPools (now s .fixed) ⌝ }
-    ensures { λ _. ⌜ FixedKept v (now (s .entry)) (now (s .exit)) ⌝ }
+pub fn fixed(p: &mut Pools, v: Verdict)
+    requires { ⌜ TidyPools (now p) ⌝ }
+    ensures { λ _. ⌜ PoolsKept v 2 (now (p .entry)) (now (p .exit)) ⌝ }
 {
     if admit::idle(v, 2) {
         return;
     }
-    s.fixed.mmio = admit::entered(s.fixed.mmio, admit::pool_put(v, 2, 1));
-    s.fixed.pio = admit::entered(s.fixed.pio, admit::pool_put(v, 2, 2));
-    s.fixed.input = admit::entered(s.fixed.input, admit::pool_put(v, 2, 3));
-    s.fixed.host = admit::entered(s.fixed.host, admit::pool_put(v, 2, 4));
-    s.fixed.device = admit::entered(s.fixed.device, admit::pool_put(v, 2, 5));
-    s.fixed.event = admit::entered(s.fixed.event, admit::pool_put(v, 2, 6));
-    s.fixed.lpi = admit::entered(s.fixed.lpi, admit::pool_put(v, 2, 7));
+    enter(&mut p.mmio, admit::pool_put(v, 2, 1));
+    enter(&mut p.pio, admit::pool_put(v, 2, 2));
+    enter(&mut p.input, admit::pool_put(v, 2, 3));
+    enter(&mut p.host, admit::pool_put(v, 2, 4));
+    enter(&mut p.device, admit::pool_put(v, 2, 5));
+    enter(&mut p.event, admit::pool_put(v, 2, 6));
+    enter(&mut p.lpi, admit::pool_put(v, 2, 7));
 }
 
 // The rows for the reservations, each at the end of its table, in place.
@@ -94,8 +110,8 @@ pub fn keep(s: &mut State, v: Verdict)
     requires { ⌜ Ready v (now s) ⌝ }
     ensures { λ _. ⌜ Kept v (now (s .entry)) (now (s .exit)) ⌝ }
 {
-    auto(s, v);
-    fixed(s, v);
+    auto(&mut s.auto, v);
+    fixed(&mut s.fixed, v);
     held(s, v);
     say(s, admit::reply(v));
 }

@@ -10,7 +10,7 @@ use Rattle.definition.specs.Request.{automatic, fixed, one, claims, goodRequest
 use Rattle.definition.specs.Request as R
 use Rattle.definition.specs.Calls.{State, state, poolsOf, ownersOf, sound, soundAt, want, serve}
 use Rattle.definition.specs.StateLaws.{Sound, sound-says}
-use Rattle.tables.specs.Views.{poolView, rangesView, wiresView}
+use Rattle.tables.specs.Views.{kindOf, poolView, rangesView, wiresView}
 use Rattle.tables.specs.declared.Pool.{Pool}
 use Rattle.tables.specs.declared.Ranges.{Ranges}
 use Rattle.tables.specs.declared.Wires.{Wires}
@@ -18,10 +18,9 @@ use Rattle.spans.specs.Tests.{limitsOf}
 use Rattle.spans.proofs.KindLaws.{Ranged}
 use Rattle.sound.specs.Tests.{setRanges, setWires}
 use Rattle.sound.proofs.KindLaws.{set-ranges, set-wires}
-use Rattle.search.specs.Asks.{kindOf, needOf}
+use Rattle.search.specs.Asks.{needOf}
 use Rattle.search.specs.Finds.{InOrder}
-use Rattle.search.specs.declared.Kind as K
-use Rattle.search.specs.declared.Kind.the-variants.{Mmio, Pio, Host, Device, Event, Lpi}
+use Rattle.tables.specs.declared.Kind as K
 use Rattle.search.specs.declared.Need.{Need}
 use Rattle.choose.specs.Told.{choiceOf, told, chosenIn}
 use Rattle.choose.specs.Wired.{wireAsked}
@@ -37,14 +36,6 @@ use Rattle.calls.specs.declared.WireAnswer.{WireAnswer}
 use Rattle.calls.specs.Kinds.{poolAs, tablesAt, rangeState, wireState, answerOf, asked, saidBy, RangeServed, WireServed, ServesRange, ServesWire}
 use Rattle.calls.proofs.KindLaws.{only-same, sound-alone, kind-answer, rows-said, serve-after, said-told, kind-after}
 
-pub ranged : (k : K.Kind) → Ranged (kindOf k)
-ranged Mmio = refl
-ranged Pio = refl
-ranged Host = refl
-ranged Device = refl
-ranged Event = refl
-ranged Lpi = refl
-
 -- ---- what a passed test gives the choice
 
 pub record Passed (auto fixed : Pool) (on : ℕ) : Type 0 where
@@ -56,11 +47,11 @@ pub record Passed (auto fixed : Pool) (on : ℕ) : Type 0 where
 everywhere : Table Span → Table Span → Table Row → Table Row → State
 everywhere a f h o = state (λ u j. poolAs a f u) (λ j. h) (λ j. o) silence
 
-pub ranges-passed : (k : K.Kind) (a f : Pool) (h o : Ranges) → setRanges (limitsOf (kindOf k)) a f h o ≡ true → Passed a f (o .n)
+pub ranges-passed : (k : K.Kind) → Ranged (kindOf k) → (a f : Pool) (h o : Ranges) → setRanges (limitsOf (kindOf k)) a f h o ≡ true → Passed a f (o .n)
 unfolding everywhere
-ranges-passed k a f h o e =
+ranges-passed k w a f h o e =
     let v : State = everywhere (poolView a) (poolView f) (rangesView h) (rangesView o) in
-    let s : Sound v (kindOf k) = sound-says v (kindOf k) (true-T (soundAt v (kindOf k)) (set-ranges v (kindOf k) (ranged k) a f h o refl refl refl refl ∙ e)) in
+    let s : Sound v (kindOf k) = sound-says v (kindOf k) (true-T (soundAt v (kindOf k)) (set-ranges v (kindOf k) w a f h o refl refl refl refl ∙ e)) in
     record { order = pool-order (kindOf k) a (s .given .pools automatic); fixed-count = s .given .pools fixed .tidied .within; rows = s .owners .tidied .within }
 
 pub wires-passed : (a f : Pool) (h o : Wires) → setWires a f h o ≡ true → Passed a f (o .n)
@@ -90,12 +81,12 @@ module _ (t : RangeTables) (m : Need) (c : Choice) (r : RangeAnswer) (q s : ℕ)
   abbrev rest : Said → Answer Row
   rest i = require (goodRequest (asked q s w)) badInput (chosenIn (poolsOf (at-range i) automatic Kd) (poolsOf (at-range i) fixed Kd) (ownersOf (at-range i) Kd) (needOf m) (choiceOf c))
 
-  pub range-serves : ((i : Said) → claims (poolsOf (at-range i)) (ownersOf (at-range i)) q w ≡ one (poolsOf (at-range i)) (ownersOf (at-range i)) (needOf m) (choiceOf c))
+  pub range-serves : Ranged Kd → ((i : Said) → claims (poolsOf (at-range i)) (ownersOf (at-range i)) q w ≡ one (poolsOf (at-range i)) (ownersOf (at-range i)) (needOf m) (choiceOf c))
       → RangeServed t (goodRequest (asked q s w)) m c r → ServesRange Kd t q s w r
-  range-serves cl h = record { tables = tables; answer = λ i. rows-said Kd (needOf m) (r .chosen) _ (answer i) }
+  range-serves ranged cl h = record { tables = tables; answer = λ i. rows-said Kd (needOf m) (r .chosen) _ (answer i) }
     where
       judged : (i : Said) → sound (Kd ∷ []) (at-range i) ≡ setRanges (limitsOf Kd) (t .auto) (t .fixed) (t .held) (t .owners)
-      judged i = sound-alone (at-range i) Kd ∙ set-ranges (at-range i) Kd (ranged (m .kind)) (t .auto) (t .fixed) (t .held) (t .owners) (only-same Kd _ _) (only-same Kd _ _) (only-same Kd _ _) (only-same Kd _ _)
+      judged i = sound-alone (at-range i) Kd ∙ set-ranges (at-range i) Kd ranged (t .auto) (t .fixed) (t .held) (t .owners) (only-same Kd _ _) (only-same Kd _ _) (only-same Kd _ _) (only-same Kd _ _)
 
       answer : (i : Said) → claimOf Kd (told (needOf m) (r .chosen)) ≡ answerOf (Kd ∷ []) (asked q s w) (at-range i)
       answer i = kind-answer (at-range i) q s w (needOf m) (choiceOf c) (cl i) (told (needOf m) (r .chosen))

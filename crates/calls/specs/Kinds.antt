@@ -10,10 +10,10 @@ use Rattle.definition.specs.Pools.{Claim}
 use Rattle.definition.specs.Request.{Use, automatic, fixed, resolve}
 use Rattle.definition.specs.Request as R
 use Rattle.definition.specs.Calls.{State, state, zeros, pushAll, poolsOf, ownersOf, sound, want, serve}
-use Rattle.tables.specs.Views.{poolView, rangesView, wiresView}
+use Rattle.tables.specs.Views.{kindOf, poolView, rangesView, wiresView}
 use Rattle.spans.specs.Tests.{limitsOf}
 use Rattle.sound.specs.Tests.{setRanges, setWires}
-use Rattle.search.specs.Asks.{kindOf, needOf}
+use Rattle.search.specs.Asks.{needOf}
 use Rattle.search.specs.declared.Need.{Need}
 use Rattle.choose.specs.Told.{choiceOf, refusalOf, told, chosenIn}
 use Rattle.choose.specs.Wired.{wireAsked}

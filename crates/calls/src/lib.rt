@@ -10,18 +10,19 @@ use msi::Msi;
 use msi::MsiChosen;
 use request::Request;
 use request::Want;
-use search::Kind;
 use search::Need;
 use spans::limits;
 use spans::limits::Limits;
+use tables::Kind;
 use tables::Pool;
 use tables::Ranges;
 use tables::Wires;
 ghost use mathlib.Core.Path.{_≡_};
-ghost use Rattle.definition.specs.Tables.{mmio, pio, host};
+ghost use mathlib.Core.Bool.{false};
+ghost use Rattle.definition.specs.Tables.{mmio, pio, host, nature};
 ghost use Rattle.definition.specs.Request.{memory, ports, wire, irq};
 ghost use Rattle.spans.specs.Tests.{limitsOf};
-ghost use Rattle.search.specs.Asks.{kindOf};
+ghost use Rattle.tables.specs.Views.{kindOf};
 ghost use Rattle.choose.specs.Told.{choiceOf};
 ghost use Rattle.choose.specs.Ids.{deviceChoice, eventChoice, lpiChoice};
 ghost use Rattle.calls.specs.Kinds.{Sensible, RangeServed, WireServed, ServesRange, ServesWire};
@@ -64,7 +65,7 @@ pub fn range_answer(
     need: Need,
     choice: Choice,
 ) -> RangeAnswer
-    requires { ⌜ (l ≡ limitsOf (kindOf (need .kind))) × (Sensible good need) ⌝ }
+    requires { ⌜ (l ≡ limitsOf (kindOf (need .kind))) × ((nature (kindOf (need .kind)) .wired ≡ false) × (Sensible good need)) ⌝ }
     ensures { λ r. ⌜ RangeServed t good need choice r ⌝ }
 {
     let auto = t.auto;

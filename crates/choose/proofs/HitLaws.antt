@@ -8,14 +8,14 @@ use Rattle.definition.specs.Base.{firstOf}
 use Rattle.definition.specs.Tables.{rowLimit, nature, Row, rangeRow, meets, joins, used}
 use Rattle.definition.specs.Request.{rowAt, obstacle, unjoined}
 use Rattle.tables.specs.Below.{first}
-use Rattle.tables.specs.Views.{rangesView, wiresView}
+use Rattle.tables.specs.Views.{kindOf, rangesView, wiresView}
 use Rattle.tables.specs.declared.Ranges.{Ranges}
 use Rattle.tables.specs.declared.Wires.{Wires}
 use Rattle.tables.specs.declared.Hit.{Hit}
 use Rattle.tables.proofs.ListedLaws.{listed-length}
-use Rattle.search.specs.Asks.{kindOf, needOf}
-use Rattle.search.specs.declared.Kind.{Kind}
-use Rattle.search.specs.declared.Kind.the-variants.{Mmio, Pio, Host, Device, Event, Lpi}
+use Rattle.search.specs.Asks.{needOf}
+use Rattle.tables.specs.declared.Kind.{Kind}
+use Rattle.tables.specs.declared.Kind.the-variants.{Mmio, Pio, Input, Host, Device, Event, Lpi}
 use Rattle.search.specs.declared.Need.{Need}
 use Rattle.tables.proofs.IndexLaws.{rowHit, first-listed}
 use Rattle.search.proofs.FoundLaws.{rangeIn, wireIn, ranges-used, wires-used}
@@ -23,6 +23,7 @@ use Rattle.search.proofs.FoundLaws.{rangeIn, wireIn, ranges-used, wires-used}
 pub top-fits : (k : Kind) → nature (kindOf k) .top < 2 ^ 64
 top-fits Mmio = omega arith
 top-fits Pio = omega arith
+top-fits Input = omega arith
 top-fits Host = omega arith
 top-fits Device = omega arith
 top-fits Event = omega arith

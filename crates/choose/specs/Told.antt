@@ -9,11 +9,11 @@ use Rattle.definition.specs.Base.{malformed, badInput, fixedNotAllowed, exhaust
 use Rattle.definition.specs.Base as F
 use Rattle.definition.specs.Request.{auto, at, automatic, fixed, Pools}
 use Rattle.definition.specs.Request as R
-use Rattle.tables.specs.Views.{ranges, poolView, rangesView}
+use Rattle.tables.specs.Views.{kindOf, ranges, poolView, rangesView}
 use Rattle.tables.specs.declared.Pool.{Pool}
 use Rattle.tables.specs.declared.Ranges.{Ranges}
-use Rattle.search.specs.Asks.{kindOf, needOf}
-use Rattle.search.specs.declared.Kind.{Kind}
+use Rattle.search.specs.Asks.{needOf}
+use Rattle.tables.specs.declared.Kind.{Kind}
 use Rattle.search.specs.declared.Need.{Need}
 use Rattle.choose.specs.declared.Choice.{Choice}
 use Rattle.choose.specs.declared.Choice.the-variants.{Auto, Fixed}
@@ -41,8 +41,9 @@ abbrev pub told : R.Need → Chosen → Answer Row
 told n (Stands b e) = accepted (record { dom = n .dom; start = b; end = e; trigger = n .trigger; sharing = n .sharing; owner = n .owner })
 told n (Refused y) = refused (refusalOf y)
 
+-- rows of ranges carry no trigger
 abbrev pub DetailIs : Kind → ℕ → Type 0
-DetailIs k d = (w r : Row) → d ≡ R.detail (kindOf k) w r
+DetailIs k d = (w r : Row) → w .trigger ≡ 0 → r .trigger ≡ 0 → d ≡ R.detail (kindOf k) w r
 
 -- ---- the definition's answer over the lists of one kind
 

@@ -1,8 +1,8 @@
 // For each kind, which rows a request is granted or why it is refused, read through references to the columns: nothing is changed here.
-use search::Kind;
+use tables::Kind;
 ghost use mathlib.Core.Path.{_≡_};
 ghost use Rattle.definition.specs.Tables.{nature};
-ghost use Rattle.search.specs.Asks.{kindOf};
+ghost use Rattle.tables.specs.Views.{kindOf};
 ghost use Rattle.choose.specs.Told.{DetailIs};
 
 pub mod ids;
@@ -39,6 +39,7 @@ pub fn namespace(kind: Kind) -> u32
     match kind {
         Kind::Mmio => 1,
         Kind::Pio => 2,
+        Kind::Input => 3,
         Kind::Host => 4,
         Kind::Device => 5,
         Kind::Event => 5,
@@ -46,13 +47,14 @@ pub fn namespace(kind: Kind) -> u32
     }
 }
 
-// The detail of a conflict of a kind whose rows hold ranges.
+// The detail of a conflict of two rows that carry no trigger.
 pub fn detail(kind: Kind) -> u32
     ensures { λ r. ⌜ DetailIs kind r ⌝ }
 {
     match kind {
         Kind::Mmio => 1,
         Kind::Pio => 1,
+        Kind::Input => 3,
         Kind::Host => 4,
         Kind::Device => 5,
         Kind::Event => 6,

@@ -16,7 +16,7 @@ use Rattle.tables.specs.declared.Pool.{Pool}
 use Rattle.tables.specs.declared.Ranges.{Ranges}
 use Rattle.tables.specs.declared.State.{State}
 use Rattle.search.specs.Asks.{needOf}
-use Rattle.search.specs.declared.Kind.the-variants as K
+use Rattle.tables.specs.declared.Kind.the-variants as K
 use Rattle.search.specs.declared.Need.{Need}
 use Rattle.choose.specs.Told.{choiceOf, chosenIn}
 use Rattle.choose.specs.Wired.{wireAsked}

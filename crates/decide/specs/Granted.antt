@@ -3,8 +3,8 @@ use mathlib.Core.Bool.{Bool, true, false}
 use Prim.Native.Nat.{ℕ}
 use lib.Dec.{ltb}
 use Rattle.definition.specs.Tables.{rowLimit}
-use Rattle.search.specs.declared.Kind.{Kind}
-use Rattle.search.specs.declared.Kind.the-variants as K
+use Rattle.tables.specs.declared.Kind.{Kind}
+use Rattle.tables.specs.declared.Kind.the-variants as K
 use Rattle.search.specs.declared.Need.{Need}
 use Rattle.choose.specs.declared.Refusal.{Refusal}
 use Rattle.choose.specs.declared.Refusal.the-variants.{Malformed, BadInput, FixedNotAllowed, Exhausted, Conflict, Full, Short}
@@ -76,6 +76,7 @@ given f (Refused y) = refusal y
 abbrev pub placed : Kind → RangeRow → Rows
 placed K.Mmio r = R.Mmio r
 placed K.Pio r = R.Pio r
+placed K.Input r = R.Nothing
 placed K.Host r = R.Host r
 placed K.Device r = R.Nothing
 placed K.Event r = R.Nothing

@@ -2,8 +2,8 @@
 use mathlib.Core.Bool.{Bool, true, false}
 use Prim.Native.Nat.{ℕ}
 use Rattle.definition.specs.Request.{goodRequest}
-use Rattle.search.specs.declared.Kind.{Kind}
-use Rattle.search.specs.declared.Kind.the-variants as K
+use Rattle.tables.specs.declared.Kind.{Kind}
+use Rattle.tables.specs.declared.Kind.the-variants as K
 use Rattle.search.specs.declared.Need.{Need}
 use Rattle.choose.specs.Ids.{plainDevice, plainEvent, plainLpi}
 use Rattle.choose.specs.declared.Choice.{Choice}

@@ -10,7 +10,7 @@ use look::WireAsk;
 use msi::DeviceChosen;
 use msi::EventChosen;
 use msi::Msi;
-use search::Kind;
+use tables::Kind;
 ghost use mathlib.Core.Path.{_≡_};
 ghost use Rattle.decide.specs.Query.{idle, idleWire, asked, deviceAsk, eventAsk, lpiAsk};
 

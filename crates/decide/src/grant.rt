@@ -9,10 +9,10 @@ use look::Seen;
 use msi::Msi;
 use msi::MsiChosen;
 use request::Said;
-use search::Kind;
 use search::Need;
 use tables::DeviceId;
 use tables::EventId;
+use tables::Kind;
 use tables::Lpi;
 use tables::ROWS;
 use tables::RangeRow;
@@ -146,6 +146,7 @@ pub fn place(kind: Kind, row: RangeRow) -> Rows
     match kind {
         Kind::Mmio => Rows::Mmio(row),
         Kind::Pio => Rows::Pio(row),
+        Kind::Input => Rows::Nothing,
         Kind::Host => Rows::Host(row),
         Kind::Device => Rows::Nothing,
         Kind::Event => Rows::Nothing,

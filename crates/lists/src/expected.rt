@@ -1,4 +1,6 @@
 // What is expected of a plan, worked out from the cases' own numbers.
+use tables::RECORD;
+use tables::ROWS;
 use tables::State;
 
 // The answer names something: its request, and of a conflict the namespace, the owner and the detail.
@@ -56,7 +58,7 @@ pub fn counts(t: State, m: usize, host: usize) -> bool {
 // A refused plan puts the tables back: not even an unused row is written.
 pub fn owners(t: State, number: u64, accepted: usize, damaged: bool) -> bool {
     if damaged {
-        return counts(t, 0, 129);
+        return counts(t, 0, ROWS + 1);
     }
     if number == 0 {
         if 1000 < accepted {
@@ -81,10 +83,10 @@ pub fn base(turn: u32, fixed: u64, next: u64) -> u64 {
 }
 
 // The nine numbers of a request's record. An automatic MSI request has a device of its own, so that its events begin at 0.
-pub fn record(turn: u32) -> [u64; 9] {
+pub fn record(turn: u32) -> [u64; RECORD] {
     let t = turn as u64;
     let kind = turn % 5;
-    let mut r = [0u64; 9];
+    let mut r = [0u64; RECORD];
     r[0] = kind as u64 + 1;
     r[1] = t + 1;
     r[2] = t;
@@ -119,9 +121,9 @@ pub fn record(turn: u32) -> [u64; 9] {
 
 // The number at place i of the results: a record's, or the nine that stood there.
 pub fn number_at(i: usize, accepted: usize) -> u64 {
-    if i / 9 < accepted {
-        let r = record((i / 9 % 256) as u32);
-        return r[i % 9];
+    if i / RECORD < accepted {
+        let r = record((i / RECORD % 256) as u32);
+        return r[i % RECORD];
     }
     9
 }
@@ -139,10 +141,10 @@ pub fn records(out: &[u64], accepted: usize) -> bool {
 
 // The part that is handed back: these records and nothing else.
 pub fn front(out: &[u64], accepted: usize) -> bool {
-    if out.len() % 9 != 0 {
+    if out.len() % RECORD != 0 {
         return false;
     }
-    if out.len() / 9 != accepted {
+    if out.len() / RECORD != accepted {
         return false;
     }
     records(out, accepted)

@@ -3,6 +3,7 @@ use choose::Choice;
 use choose::ids::DeviceChoice;
 use choose::ids::EventChoice;
 use choose::ids::LpiChoice;
+use lending::MOST;
 use pool::Call;
 use pool::Devices;
 use pool::Events;
@@ -15,6 +16,7 @@ use request::Want;
 use tables::DeviceId;
 use tables::EventId;
 use tables::Lpi;
+use tables::ROWS;
 use tables::State;
 
 // The request that is in conflict stands here.
@@ -105,7 +107,7 @@ pub fn damaged(s: State) -> State {
     let mut t = s;
     let mut owners = t.owners;
     let mut host = owners.host;
-    host.n = 129;
+    host.n = ROWS + 1;
     owners.host = host;
     t.owners = owners;
     t
@@ -184,12 +186,12 @@ pub fn request(turn: u32) -> Request {
 }
 
 // All requests; the one in conflict asks for what an earlier one has.
-pub fn requests(conflict: bool) -> [Request; 129] {
+pub fn requests(conflict: bool) -> [Request; MOST] {
     let first = request(0);
-    let mut list = [first; 129];
-    let mut turn: u32 = 0;
-    while turn < 129 {
-        list[turn as usize] = request(turn);
+    let mut list = [first; MOST];
+    let mut turn: usize = 0;
+    while turn < MOST {
+        list[turn] = request(turn as u32);
         turn += 1;
     }
     if conflict {

@@ -2,7 +2,15 @@
 mod expected;
 mod input;
 
+use lending::MOST;
+use tables::PLAN;
+use tables::RECORD;
 use tables::State;
+
+// Numbers of results: of the longest plan, and of one request more.
+const ALL: usize = RECORD * PLAN;
+
+const MORE: usize = RECORD * MOST;
 
 // A plan and its answer: n requests, of which one may be in conflict, room for so many numbers, the owner tables damaged or not.
 pub struct Case {
@@ -19,12 +27,12 @@ const CASES: u64 = 8;
 // 0 the longest plan, 1 one of eight, 2 none, 3 a refusal in the middle, 4 one number of results too few, 5 one request too many, 6 the same with too few results, 7 unsound tables.
 pub fn case_at(k: u64) -> Case {
     let mut c = Case {
-        n: 128,
-        room: 1152,
+        n: PLAN,
+        room: ALL,
         conflict: false,
         damaged: false,
         number: 0,
-        accepted: 128,
+        accepted: PLAN,
     };
     if k == 0 {
         return c;
@@ -49,16 +57,16 @@ pub fn case_at(k: u64) -> Case {
     c.accepted = 0;
     c.number = 11;
     if k == 4 {
-        c.room = 1151;
+        c.room = ALL - 1;
         return c;
     }
     if k == 5 {
-        c.n = 129;
-        c.room = 1161;
+        c.n = MOST;
+        c.room = MORE;
         return c;
     }
     if k == 6 {
-        c.n = 129;
+        c.n = MOST;
         return c;
     }
     c.damaged = true;
@@ -77,7 +85,7 @@ pub fn given(c: Case) -> State {
 
 // The plan on the state lent, over results that begin as nines.
 pub fn in_place(c: Case, out: &mut [u64]) -> bool {
-    if 129 < c.n {
+    if MOST < c.n {
         return false;
     }
     if out.len() < c.room {
@@ -98,7 +106,7 @@ pub fn in_place(c: Case, out: &mut [u64]) -> bool {
 
 // The filled part that is handed back.
 pub fn part(c: Case, out: &mut [u64]) -> bool {
-    if 129 < c.n {
+    if MOST < c.n {
         return false;
     }
     if out.len() < c.room {
@@ -112,12 +120,12 @@ pub fn part(c: Case, out: &mut [u64]) -> bool {
 }
 
 pub fn tried(c: Case) -> bool {
-    let mut out = [9u64; 1161];
+    let mut out = [9u64; MORE];
     in_place(c, &mut out)
 }
 
 pub fn handed(c: Case) -> bool {
-    let mut out = [9u64; 1161];
+    let mut out = [9u64; MORE];
     part(c, &mut out)
 }
 

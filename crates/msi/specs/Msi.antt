@@ -16,7 +16,7 @@ use Rattle.tables.specs.declared.DeviceId.{DeviceId}
 use Rattle.tables.specs.declared.EventId.{EventId}
 use Rattle.tables.specs.declared.Lpi.{Lpi}
 use Rattle.search.specs.Asks.{needOf}
-use Rattle.search.specs.declared.Kind.the-variants as K
+use Rattle.tables.specs.declared.Kind.the-variants as K
 use Rattle.search.specs.declared.Need.{Need}
 use Rattle.choose.specs.Told.{refusalOf, placeIn}
 use Rattle.choose.specs.Ids.{deviceChoice, eventChoice, lpiChoice}

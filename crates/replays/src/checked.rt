@@ -1,19 +1,21 @@
 // What must hold of the second run.
+use tables::PLAN;
+use tables::RECORD;
 use tables::State;
 
 // Each record is the one that the line had: the first results' nine numbers of that index.
 pub fn records(first: &[u64], order: &[u64], second: &[u64]) -> bool {
     let mut p: usize = 0;
     while p < second.len() {
-        let j = p / 9;
+        let j = p / RECORD;
         if order.len() <= j {
             return true;
         }
         let i = order[j];
-        if 128 <= i {
+        if PLAN as u64 <= i {
             return false;
         }
-        let from = 9 * i as usize + p % 9;
+        let from = RECORD * i as usize + p % RECORD;
         if first.len() <= from {
             return false;
         }
@@ -30,10 +32,10 @@ pub fn count(second: &[u64], n: usize, kind: u64) -> usize {
     let mut c: usize = 0;
     let mut j: usize = 0;
     while j < n {
-        if second.len() / 9 <= j {
+        if second.len() / RECORD <= j {
             return c;
         }
-        if second[9 * j] == kind {
+        if second[RECORD * j] == kind {
             c = std::num::wrapping_add_usize(c, 1);
         }
         j += 1;

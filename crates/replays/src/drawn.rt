@@ -1,4 +1,5 @@
 // Random plans: every number is drawn from the plan's seed, the line and the place in it, so that nothing is kept.
+use flat::REQUEST;
 ghost use Prim.Native.Nat.{_≤_};
 ghost use lib.ListN.{length};
 
@@ -145,7 +146,7 @@ pub fn number(seed: u32, i: u64, j: u64) -> u64 {
 pub fn fill(seed: u32, requests: &mut [u64]) {
     let mut p: usize = 0;
     while p < requests.len() {
-        requests[p] = number(seed, (p / 12) as u64, (p % 12) as u64);
+        requests[p] = number(seed, (p / REQUEST) as u64, (p % REQUEST) as u64);
         p += 1;
     }
 }

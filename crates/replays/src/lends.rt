@@ -2,7 +2,7 @@
 use tables::State;
 ghost use mathlib.Core.Path.{_≡_};
 ghost use Rattle.tables.specs.Views.{stateView};
-ghost use Rattle.again.specs.Runs.{runs, runsOf};
+ghost use Rattle.replay.specs.Runs.{runs, runsOf};
 
 // Demand 3 by `replay::replay`, on a state by value: it is lent from here.
 pub fn replay(

@@ -4,7 +4,15 @@ mod drawn;
 mod lends;
 mod pools;
 
+use flat::REQUEST;
+use tables::PLAN;
+use tables::RECORD;
 use tables::State;
+
+// The numbers of the longest plan, and of its results.
+const LINES: usize = REQUEST * PLAN;
+
+const RESULTS: usize = RECORD * PLAN;
 
 // What became of a plan.
 pub enum Outcome {
@@ -15,8 +23,8 @@ pub enum Outcome {
 
 // A plan that its first run accepts is run again by `replay::replay`.
 pub fn again(s: State, requests: &mut [u64], selection: &[u64], first: &[u64]) -> Outcome {
-    let mut results = [0u64; 1152];
-    let mut second = [0u64; 1152];
+    let mut results = [0u64; RESULTS];
+    let mut second = [0u64; RESULTS];
     let t = lends::replay(s, requests, selection, &mut results, &mut second);
     if t.number != 0 {
         return Outcome::Failed;
@@ -37,12 +45,12 @@ pub fn tried(seed: u32) -> Outcome {
     }
     let n = drawn::lines(seed);
     let m = drawn::some_of(seed, n);
-    let long = 12 * n;
-    let mut requests = [0u64; 1536];
+    let long = REQUEST * n;
+    let mut requests = [0u64; LINES];
     drawn::fill(seed, &mut requests);
-    let mut order = [0u64; 128];
+    let mut order = [0u64; PLAN];
     drawn::shuffle(seed, n, &mut order);
-    let mut first = [0u64; 1152];
+    let mut first = [0u64; RESULTS];
     let t = plan::numbers::plan_by_value(pool::start(s), &requests[..long], &mut first);
     if t.number != 0 {
         return Outcome::Refused;

@@ -1,10 +1,10 @@
 // The same for inputs: one number of a controller.
 use super::Found;
-use super::Kind;
 use super::Need;
 use super::Step;
 use super::bases_of;
 use tables::Hit;
+use tables::Kind;
 use tables::POOL_ROWS;
 use tables::ROWS;
 ghost use mathlib.Core.Path.{_≡_};
@@ -17,12 +17,12 @@ ghost use Rattle.search.specs.Asks.{needOf, inputNeed};
 ghost use Rattle.search.specs.Steps.{Passes, Steps};
 ghost use Rattle.search.specs.Finds.{InOrder, FindsInput};
 
-// One input of a controller, as a need: inputs have the width of host IRQs, and no search reads the kind or who asks.
+// One input of a controller, as a need: no search reads who asks.
 pub fn one_input(controller: u32) -> Need
     ensures { λ r. ⌜ r ≡ inputNeed controller ⌝ }
 {
     Need {
-        kind: Kind::Host,
+        kind: Kind::Input,
         controller,
         its: 0,
         device: 0,

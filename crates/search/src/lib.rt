@@ -2,6 +2,7 @@
 use bases::align_up;
 use bases::bases_below;
 use tables::Hit;
+use tables::Kind;
 use tables::POOL_ROWS;
 use tables::ROWS;
 ghost use mathlib.Core.Path.{_≡_};
@@ -11,22 +12,12 @@ ghost use Rattle.definition.specs.Base.{anyOf};
 ghost use Rattle.definition.specs.Tables.{used, poolLimit, rowLimit, nature, dom, sameDom, rangeRow, meets};
 ghost use Rattle.definition.specs.Request.{oneBit, holds, allowed};
 ghost use Rattle.tables.specs.Below.{first};
-ghost use Rattle.tables.specs.Views.{pool, ranges, spanOf, poolAt, rangeOf, rangeAt, poolView};
-ghost use Rattle.search.specs.Asks.{kindOf, needOf};
+ghost use Rattle.tables.specs.Views.{kindOf, pool, ranges, spanOf, poolAt, rangeOf, rangeAt, poolView};
+ghost use Rattle.search.specs.Asks.{needOf};
 ghost use Rattle.search.specs.Steps.{Bases, Passes, Steps};
 ghost use Rattle.search.specs.Finds.{InOrder, Finds};
 
 pub mod input;
-
-// The kinds whose rows hold ranges: every kind but inputs.
-pub enum Kind {
-    Mmio,
-    Pio,
-    Host,
-    Device,
-    Event,
-    Lpi,
-}
 
 // What a request needs of one table. A domain number that the kind does not use is 0.
 pub struct Need {
@@ -244,6 +235,7 @@ pub fn limit(kind: Kind) -> u64
     match kind {
         Kind::Mmio => 18446744073709551615,
         Kind::Pio => 65535,
+        Kind::Input => 18446744073709551615,
         Kind::Host => 18446744073709551615,
         Kind::Device => 4294967295,
         Kind::Event => 4294967295,

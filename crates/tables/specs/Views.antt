@@ -1,12 +1,16 @@
 -- The columns as the definition's tables: the count, and ALL rows. A promise about a view speaks of every number that the columns hold. Assumes nothing.
+use mathlib.Core.Bool.{Bool}
 use mathlib.Core.List.{List}
 use Prim.Native.Nat.{ℕ}
+use lib.Dec.{eqb}
 use lib.ListN.{getD}
-use Rattle.definition.specs.Tables.{poolLimit, rowLimit, dom, Kind, mmio, pio, input, host, device, event, lpi, Span, span, Row, rangeRow, wiredRow, Table}
+use Rattle.definition.specs.Tables.{poolLimit, rowLimit, dom, Kind as DKind, mmio, pio, input, host, device, event, lpi, nature, Span, span, Row, rangeRow, wiredRow, Table}
 use Rattle.definition.specs.Base.{says}
 use Rattle.definition.specs.Request.{Use, automatic, fixed}
 use Rattle.definition.specs.Calls.{State as Given, state}
 use Rattle.tables.specs.Below.{listed}
+use Rattle.tables.specs.declared.Kind.{Kind}
+use Rattle.tables.specs.declared.Kind.the-variants as K
 use Rattle.tables.specs.declared.Pool.{Pool}
 use Rattle.tables.specs.declared.Ranges.{Ranges}
 use Rattle.tables.specs.declared.Wires.{Wires}
@@ -16,6 +20,21 @@ use Rattle.tables.specs.declared.State.{State}
 use Rattle.tables.specs.declared.PoolRow.{PoolRow}
 use Rattle.tables.specs.declared.RangeRow.{RangeRow}
 use Rattle.tables.specs.declared.WireRow.{WireRow}
+
+-- ---- kinds
+
+abbrev pub kindOf : Kind → DKind
+kindOf K.Mmio = mmio
+kindOf K.Pio = pio
+kindOf K.Input = input
+kindOf K.Host = host
+kindOf K.Device = device
+kindOf K.Event = event
+kindOf K.Lpi = lpi
+
+-- the definition's `sameKind`
+abbrev pub sameOf : Kind → Kind → Bool
+sameOf j k = eqb (nature (kindOf j) .number) (nature (kindOf k) .number)
 
 -- ---- tables of lent columns
 
@@ -77,7 +96,7 @@ wiresView t = record { count = t .n; rows = listed (λ k. wireOf (wireAt t k)) r
 
 -- ---- all tables
 
-abbrev pub poolOf : Pools → Kind → Pool
+abbrev pub poolOf : Pools → DKind → Pool
 poolOf p mmio = p .mmio
 poolOf p pio = p .pio
 poolOf p input = p .input
@@ -86,11 +105,11 @@ poolOf p device = p .device
 poolOf p event = p .event
 poolOf p lpi = p .lpi
 
-abbrev pub poolsView : Pools → Pools → Use → Kind → Table Span
+abbrev pub poolsView : Pools → Pools → Use → DKind → Table Span
 poolsView a f automatic k = poolView (poolOf a k)
 poolsView a f fixed k = poolView (poolOf f k)
 
-abbrev pub holdersView : Holders → Kind → Table Row
+abbrev pub holdersView : Holders → DKind → Table Row
 holdersView h mmio = rangesView (h .mmio)
 holdersView h pio = rangesView (h .pio)
 holdersView h input = wiresView (h .input)

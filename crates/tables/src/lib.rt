@@ -1,8 +1,8 @@
 // The tables as columns: what the planner keeps, how a table starts, gains a row and is read. Used rows stand first.
 ghost use mathlib.Core.Path.{_≡_};
 ghost use Prim.Native.Nat.{_<_};
-ghost use Rattle.definition.specs.Tables.{poolLimit, rowLimit};
-ghost use Rattle.tables.specs.Views.{pool, ranges, wires, poolAt, rangeAt, wireAt, rangeOf, wireOf};
+ghost use Rattle.definition.specs.Tables.{poolLimit, rowLimit, nature};
+ghost use Rattle.tables.specs.Views.{kindOf, sameOf, pool, ranges, wires, poolAt, rangeAt, wireAt, rangeOf, wireOf};
 ghost use Rattle.tables.specs.Whole.{pushedRange, pushedWire, freshPool, freshRanges, freshWires, freshPools, freshHolders, freshState};
 
 // The sizes, each stated here alone: rows of a reservation or owner table, rows of a pool table, requests of a plan, numbers of a record.
@@ -83,6 +83,39 @@ pub struct State {
     pub namespace: u64,
     pub owner: u64,
     pub detail: u64,
+}
+
+// The kinds, each with its tables.
+pub enum Kind {
+    Mmio,
+    Pio,
+    Input,
+    Host,
+    Device,
+    Event,
+    Lpi,
+}
+
+// The number of a kind.
+pub fn kind_number(k: Kind) -> u64
+    ensures { λ n. ⌜ n ≡ nature (kindOf k) .number ⌝ }
+{
+    match k {
+        Kind::Mmio => 1,
+        Kind::Pio => 2,
+        Kind::Input => 3,
+        Kind::Host => 4,
+        Kind::Device => 5,
+        Kind::Event => 6,
+        Kind::Lpi => 7,
+    }
+}
+
+// Whether two kinds are one.
+pub fn same_kind(j: Kind, k: Kind) -> bool
+    ensures { λ b. ⌜ b ≡ sameOf j k ⌝ }
+{
+    kind_number(j) == kind_number(k)
 }
 
 // Three numbers that cannot be passed for one another.

@@ -26,7 +26,7 @@ use Rattle.lent.proofs.Steps.{points, sets, acted, leaves-if, gives, gives-with
 use Rattle.plan.proofs.Beside.{Stands, lent-beside}
 use Rattle.applied.specs.Kept.{Decides, Kept}
 use Rattle.applied.specs.Applied.{applyOf}
-use Rattle.applied.proofs.Asking.{one-asks}
+use Rattle.applied.proofs.Lending.{one-asks}
 use Rattle.applied.proofs.ApplyLaws.{passed, begun}
 use Rattle.applied.proofs.start as t
 use Rattle.applied.proofs.look as k
@@ -107,7 +107,7 @@ module _ {M : Type 1} (𝓤 : URA M) (H : Heap 𝓤) (A : Atoms 𝓤) (at-mem : 
 
   f-meets : Meets 𝓤 H A f.signature (WpFn 𝓤 H (𝓣 .C) (𝓣 .Λ) f.Code.function) (f.spec 𝓤 H A at-mem run)
   f-meets =
-      one-asks 𝓤 H A W Ca.the-row valC (EE.tells Ca.the-type Ca′.the-laws) (EE.makes Ca.the-type Ca′.the-plain 𝓤 H A) (λ c. tt) (λ κs c w. refl) 𝓣 f.Code.function (f.clauses 𝓤 H A at-mem run) (λ h c. Holds (given kinds (stateView h))) (λ κs a g. id⊢ 𝓤 _) (λ h c d. stateView d ≡ applyOf (callOf c) (stateView h))
+      one-asks 𝓤 H A W T.the-row Ca.the-row valC (EE.tells Ca.the-type Ca′.the-laws) (EE.makes Ca.the-type Ca′.the-plain 𝓤 H A) (λ c. tt) (λ κs c w. refl) 𝓣 f.Code.function (f.clauses 𝓤 H A at-mem run) (λ h c. Holds (given kinds (stateView h))) (λ κs a g. id⊢ 𝓤 _) (λ h c d. stateView d ≡ applyOf (callOf c) (stateView h))
       (λ κs a g d p. factI 𝓤 _ (emp 𝓤) p) walk
 
 pub apply-spec : {M : Type 1} → f.Statement.statement M

@@ -21,8 +21,8 @@ use Rattle.store.proofs.WirePut as Wp
 use Rattle.store.proofs.WirePut.Laws as Wp′
 use Rattle.store.proofs.range as r
 use Rattle.store.proofs.wire as w
-use Rattle.inplace.proofs.LendPart.{Makes, Leaves}
-use Rattle.inplace.proofs.Callees.{made, left}
+use Rattle.inplace.proofs.LendPart.{Makes}
+use Rattle.inplace.proofs.Callees.{made}
 use Rattle.admit.specs.Judged.{heldPutOf, wirePutOf}
 use Rattle.admit.specs.declared.Verdict.{Verdict}
 use Rattle.admit.proofs.Verdict as Ve
@@ -31,7 +31,8 @@ use Rattle.admit.proofs.held_put as p
 use Rattle.admit.proofs.wire_put as x
 use Rattle.plan.proofs.Beside.{Stands}
 use Rattle.applied.specs.Kept.{heldWith, HeldFree, withHeld}
-use Rattle.applied.proofs.Asking.{one-asks}
+use Rattle.applied.proofs.Parts.{Leaves}
+use Rattle.applied.proofs.Lending.{leaves-by, one-asks}
 use Rattle.applied.proofs.Pieces.{set-held-mmio, set-held-pio, set-held-input, set-held-host, set-held-device, set-held-event, set-held-lpi}
 use Rattle.applied.proofs.HeldWalk.{heldCode, Stage, held-walk}
 use Rattle.applied.proofs.held as f
@@ -91,10 +92,10 @@ module _ {M : Type 1} (𝓤 : URA M) (H : Heap 𝓤) (A : Atoms 𝓤) (at-mem : 
     abbrev spot : ℕ → ℕ
     spot j = (o + offset T′.mir 2) + offset Ho′.mir j
 
-    stores : (j : ℕ) (t : Ranges) (y : Put) → Free (t .n) (y .go) → Good y → Leaves 𝓤 H A W (𝓣 .C) r.Symbol.name (named 0) Ra.the-row t (putRange t y) b (spot j) (valP y)
+    stores : (j : ℕ) (t : Ranges) (y : Put) → Free (t .n) (y .go) → Good y → Leaves W b (𝓣 .C) r.Symbol.name Ra.the-row t (λ d. d ≡ putRange t y) (spot j) (valP y ∷ [])
     stores j t y room good =
-        left 𝓤 H A W (𝓣 .C) (fmOf 𝓤 H (W .laws) 𝓣) r.Symbol.name Ra.the-row Pu.the-row tt (r.clauses 𝓤 H A at-mem run) known-r b (spot j) t (putRange t y) y (valP y) (λ ν γ₁. tt) (LL.makes Pu.the-type Pu′.the-plain 𝓤 H A y _ good)
-        (λ ν γ₁. factI 𝓤 (Free (t .n) (y .go)) (emp 𝓤) room) (λ ν γ₁ ws. id⊢ 𝓤 _)
+        leaves-by 𝓤 H A W (𝓣 .C) (fmOf 𝓤 H (W .laws) 𝓣) r.Symbol.name Ra.the-row (plain (λ _. Pu.the-row) ∷ []) (yes, tt) (r.clauses 𝓤 H A at-mem run) known-r b (spot j) t (valP y ∷ []) (λ ν. (y, tt)) (λ ν. (valP y ∷ [], tt)) (λ ν. refl)
+        (λ ν. qed W [] ∵ nothing ! $ owned ! Pu.the-row (Is Pu.the-row) (LL.makes Pu.the-type Pu′.the-plain 𝓤 H A) y _ good $ fjoin ! $ done !) (λ ν δ. tt) (λ ν δ. factI 𝓤 (Free (t .n) (y .go)) (emp 𝓤) room) (λ d. d ≡ putRange t y) (λ ν δ ws. id⊢ 𝓤 _)
 
     s₀ : Stage 𝓤 H A W (𝓣 .C) (fmOf 𝓤 H (W .laws) 𝓣) T.the-row T′.mir κ q b o γ (valV v) Ra.the-row Pu′.mir r.Symbol.name p.Symbol.name (valV v ∷ vint w64 1 ∷ []) 0 h₀ h₁
     s₀ = record {
@@ -135,8 +136,8 @@ module _ {M : Type 1} (𝓤 : URA M) (H : Heap 𝓤) (A : Atoms 𝓤) (at-mem : 
       typed = λ good. LL.lawful Wp.the-type Wp′.the-laws 𝓤 H A W .typed (wirePutOf v) _ good .0;
       makes = makes-wire;
       leaves = λ good.
-          left 𝓤 H A W (𝓣 .C) (fmOf 𝓤 H (W .laws) 𝓣) w.Symbol.name Wi.the-row Wp.the-row tt (w.clauses 𝓤 H A at-mem run) known-w b (spot 2) (h .held .input) (putWire (h .held .input) (wirePutOf v)) (wirePutOf v) (valW (wirePutOf v)) (λ ν γ₁. tt) (LL.makes Wp.the-type Wp′.the-plain 𝓤 H A (wirePutOf v) _ good)
-          (λ ν γ₁. factI 𝓤 (Free (h .held .input .n) (wirePutOf v .go)) (emp 𝓤) (free .input)) (λ ν γ₁ ws. id⊢ 𝓤 _);
+          leaves-by 𝓤 H A W (𝓣 .C) (fmOf 𝓤 H (W .laws) 𝓣) w.Symbol.name Wi.the-row (plain (λ _. Wp.the-row) ∷ []) (yes, tt) (w.clauses 𝓤 H A at-mem run) known-w b (spot 2) (h .held .input) (valW (wirePutOf v) ∷ []) (λ ν. (wirePutOf v, tt)) (λ ν. (valW (wirePutOf v) ∷ [], tt)) (λ ν. refl)
+          (λ ν. qed W [] ∵ nothing ! $ owned ! Wp.the-row (Is Wp.the-row) (LL.makes Wp.the-type Wp′.the-plain 𝓤 H A) (wirePutOf v) _ good $ fjoin ! $ done !) (λ ν δ. tt) (λ ν δ. factI 𝓤 (Free (h .held .input .n) (wirePutOf v .go)) (emp 𝓤) (free .input)) (λ d. d ≡ putWire (h .held .input) (wirePutOf v)) (λ ν δ ws. id⊢ 𝓤 _);
       piece = set-held-input 𝓤 H A W b o h₂ (putWire (h .held .input) (wirePutOf v));
     }
 
@@ -203,7 +204,7 @@ module _ {M : Type 1} (𝓤 : URA M) (H : Heap 𝓤) (A : Atoms 𝓤) (at-mem : 
 
   f-meets : Meets 𝓤 H A f.signature (WpFn 𝓤 H (𝓣 .C) (𝓣 .Λ) f.Code.function) (f.spec 𝓤 H A at-mem run)
   f-meets =
-      one-asks 𝓤 H A W Ve.the-row valV (LL.tells Ve.the-type Ve′.the-laws) (LL.makes Ve.the-type Ve′.the-plain 𝓤 H A) (λ v. tt) (λ κs v w. refl) 𝓣 f.Code.function (f.clauses 𝓤 H A at-mem run) (λ h v. HeldFree v (h .held)) (λ κs a g. id⊢ 𝓤 _) (λ h v d. d ≡ withHeld (heldWith v (h .held)) h)
+      one-asks 𝓤 H A W T.the-row Ve.the-row valV (LL.tells Ve.the-type Ve′.the-laws) (LL.makes Ve.the-type Ve′.the-plain 𝓤 H A) (λ v. tt) (λ κs v w. refl) 𝓣 f.Code.function (f.clauses 𝓤 H A at-mem run) (λ h v. HeldFree v (h .held)) (λ κs a g. id⊢ 𝓤 _) (λ h v d. d ≡ withHeld (heldWith v (h .held)) h)
       (λ κs a g d p. factI 𝓤 _ (emp 𝓤) p) walk
 
 pub held-spec : {M : Type 1} → f.Statement.statement M

@@ -1,9 +1,12 @@
 -- `keep` meets its contract: its four parts, one after another. Assumes nothing.
-use Rattle.walks.proofs.Prelude.{_≡_, refl, sym, ap, subst, _∙_, Bool, true, false, not, ℕ, _+_, _<_, _^_, arith, [], _∷_, List, none, URA, fullShare, T as Holds, ltb, ltb→lt, lit<, Name, named, w64, field, Local, Fn, Val, WT, hasTy, vunit, vint, vbool, vptr, SProp, ent, emp, id⊢, GName, Lft, Share, Memory, Routine, Heap, Calls, WpFn, Tables, Atoms, Fun, factI, givenOf, tables, tablesOf, Given, Item, mean, _$_, _∵_, !, qed, fjoin, done, fld, stop, unit-lit, of-opd, fmOf, Is, uint-makes, uint-tells, bool-makes, bool-tells, nothing-makes, nothing-tells, u64, bool, unit, plain, owned, nothing, Meets, tripleOf, Contract, Triple, entered, cited, yes}
+use Rattle.walks.proofs.Prelude.{_≡_, refl, sym, ap, subst, _∙_, Bool, true, false, not, ℕ, _+_, _<_, _^_, arith, [], _∷_, List, none, URA, fullShare, T as Holds, ltb, ltb→lt, lit<, Name, named, w64, field, Local, Fn, Val, WT, hasTy, vunit, vint, vbool, vptr, SProp, ent, emp, id⊢, GName, Lft, Share, Memory, Routine, Heap, Calls, WpFn, Tables, Atoms, Fun, factI, givenOf, tables, tablesOf, sem, owns, Given, Item, mean, _$_, _∵_, !, qed, fjoin, done, fld, stop, unit-lit, of-opd, fmOf, partAt, Is, uint-makes, uint-tells, bool-makes, bool-tells, nothing-makes, nothing-tells, u64, bool, unit, plain, owned, nothing, Meets, tripleOf, Contract, Triple, entered, cited, yes}
 use denote.Struct.Laws as LL
 use Rattle.definition.specs.Calls.{saying}
 use Rattle.tables.specs.Views.{stateView}
+use Rattle.tables.specs.declared.Pools.{Pools}
 use Rattle.tables.specs.declared.State.{State}
+use Rattle.tables.proofs.Pools as Ps
+use Rattle.tables.proofs.Pools.Laws as Ps′
 use Rattle.tables.proofs.State as T
 use Rattle.tables.proofs.State.Laws as T′
 use Rattle.range.specs.Answers.{heard}
@@ -13,16 +16,21 @@ use Rattle.range.proofs.Reply.Laws as Re′
 use Rattle.admit.specs.declared.Verdict.{Verdict}
 use Rattle.admit.proofs.Verdict as Ve
 use Rattle.admit.proofs.Verdict.Laws as Ve′
-use Rattle.inplace.proofs.LendPart.{Makes}
+use Rattle.walks.proofs.Columns.{offset}
+use Rattle.inplace.proofs.LendPart.{Piece, Makes}
 use Rattle.inplace.proofs.Callees.{made}
 use Rattle.admit.proofs.reply as p
+use Rattle.lent.proofs.Plain.{Plain, plainOf}
 use Rattle.lent.proofs.Acts.{Acts, plainly}
 use Rattle.walks.proofs.Straight.{nil, arg, num, first, others}
 use Rattle.lent.proofs.Steps.{points, sets, acted, leaves-if, gives, gives-within, entering}
 use Rattle.plan.proofs.Beside.{Stands, lent-beside}
-use Rattle.applied.specs.Kept.{heldWith, withHeld, AutoKept, FixedKept, Ready, Kept}
-use Rattle.applied.proofs.Asking.{one-asks}
-use Rattle.applied.proofs.KeptLaws.{kept-all, ready-fixed, ready-held}
+use Rattle.applied.specs.Kept.{TidyPools, heldWith, withHeld, withAuto, withFixed, PoolsKept, Ready, Kept}
+use Rattle.applied.proofs.Parts.{Leaves, comes-plain, lends}
+use Rattle.applied.proofs.Lending.{leaves-by, one-asks}
+use Rattle.applied.proofs.Pieces.{out-auto, out-fixed}
+use Rattle.applied.proofs.ToldLaws.{poolsFrom, pools-told}
+use Rattle.applied.proofs.KeptLaws.{kept-all}
 use Rattle.applied.proofs.auto as a
 use Rattle.applied.proofs.fixed as x
 use Rattle.applied.proofs.held as e
@@ -46,20 +54,39 @@ module _ {M : Type 1} (𝓤 : URA M) (H : Heap 𝓤) (A : Atoms 𝓤) (at-mem : 
     abbrev After : (State → Type 0) → State × Unit {0} → Type 0
     After Q z = Is unit (z .1) (vunit ∷ []) × Q (z .0)
 
-    autos : (s : State) → Ready v s → Acts 𝓤 H A W (𝓣 .C) a.Symbol.name (vptr b o ∷ valV v ∷ []) (Held s) (State × Unit {0}) (λ z. Held (z .0)) (λ z. vunit) (After (AutoKept v s))
-    autos s ready =
-        lent-beside 𝓤 H A W κ q b o γ (𝓣 .C) (fmOf 𝓤 H (W .laws) 𝓣) a.Symbol.name (plain (λ _. Ve.the-row) ∷ []) (yes, tt) unit (λ u. vunit) nothing-tells (a.clauses 𝓤 H A at-mem run) known-a s (valV v ∷ []) (λ ν. (v, tt)) (λ ν. (valV v ∷ [], tt)) (λ ν. refl)
-        (λ ν. qed W [] ∵ nothing ! $ owned ! Ve.the-row (Is Ve.the-row) (LL.makes Ve.the-type Ve′.the-plain 𝓤 H A) v _ v-is $ fjoin ! $ done !) (λ ν δ. tt) (λ ν δ. factI 𝓤 _ (emp 𝓤) (ready .auto)) (λ d u. AutoKept v s d) (λ ν δ ws u. id⊢ 𝓤 _)
+    abbrev group : Plain 𝓤 H A
+    group = plainOf 𝓤 H A W Ps.the-type Ps′.the-laws Ps′.the-plain
 
-    fixes : (s s₁ : State) → Ready v s → AutoKept v s s₁ → Acts 𝓤 H A W (𝓣 .C) x.Symbol.name (vptr b o ∷ valV v ∷ []) (Held s₁) (State × Unit {0}) (λ z. Held (z .0)) (λ z. vunit) (After (FixedKept v s₁))
-    fixes s s₁ ready k₁ =
-        lent-beside 𝓤 H A W κ q b o γ (𝓣 .C) (fmOf 𝓤 H (W .laws) 𝓣) x.Symbol.name (plain (λ _. Ve.the-row) ∷ []) (yes, tt) unit (λ u. vunit) nothing-tells (x.clauses 𝓤 H A at-mem run) known-x s₁ (valV v ∷ []) (λ ν. (v, tt)) (λ ν. (valV v ∷ [], tt)) (λ ν. refl)
-        (λ ν. qed W [] ∵ nothing ! $ owned ! Ve.the-row (Is Ve.the-row) (LL.makes Ve.the-type Ve′.the-plain 𝓤 H A) v _ v-is $ fjoin ! $ done !) (λ ν δ. tt) (λ ν δ. factI 𝓤 _ (emp 𝓤) (ready-fixed v s s₁ ready k₁)) (λ d u. FixedKept v s₁ d) (λ ν δ ws u. id⊢ 𝓤 _)
+    -- the pools of the use numbered to, group j of the state, by the function f
+    fills : (f : Name) (j to : ℕ) (s s′ : State) (g : Pools) → Leaves W b (𝓣 .C) f Ps.the-row g (PoolsKept v to g) (o + offset T′.mir j) (valV v ∷ []) → Piece 𝓤 H A W Ps.the-row (partAt T.the-row fullShare s b o) (partAt T.the-row fullShare s′ b o) g (poolsFrom v to g) b (o + offset T′.mir j)
+        → Acts 𝓤 H A W (𝓣 .C) f (vptr b (o + offset T′.mir j) ∷ valV v ∷ []) (Held s) (Unit {0}) (λ u. Held s′) (λ u. vunit) (λ u. PoolsKept v to g (poolsFrom v to g))
+    fills f j to s s′ g leaves piece =
+        lends W T.the-row κ q b o γ (𝓣 .C) (fmOf 𝓤 H (W .laws) 𝓣) Ps.the-row (o + offset T′.mir j) s s′ g (poolsFrom v to g) piece f (valV v ∷ []) (PoolsKept v to g) (PoolsKept v to g (poolsFrom v to g))
+        (comes-plain W b group (o + offset T′.mir j) (PoolsKept v to g) (poolsFrom v to g) (λ d is k. pools-told v to g d is k)) leaves
 
-    holds : (s s₁ s₂ : State) → Ready v s → AutoKept v s s₁ → FixedKept v s₁ s₂ → Acts 𝓤 H A W (𝓣 .C) e.Symbol.name (vptr b o ∷ valV v ∷ []) (Held s₂) (State × Unit {0}) (λ z. Held (z .0)) (λ z. vunit) (After (λ d. d ≡ withHeld (heldWith v (s₂ .held)) s₂))
-    holds s s₁ s₂ ready k₁ k₂ =
-        lent-beside 𝓤 H A W κ q b o γ (𝓣 .C) (fmOf 𝓤 H (W .laws) 𝓣) e.Symbol.name (plain (λ _. Ve.the-row) ∷ []) (yes, tt) unit (λ u. vunit) nothing-tells (e.clauses 𝓤 H A at-mem run) known-e s₂ (valV v ∷ []) (λ ν. (v, tt)) (λ ν. (valV v ∷ [], tt)) (λ ν. refl)
-        (λ ν. qed W [] ∵ nothing ! $ owned ! Ve.the-row (Is Ve.the-row) (LL.makes Ve.the-type Ve′.the-plain 𝓤 H A) v _ v-is $ fjoin ! $ done !) (λ ν δ. tt) (λ ν δ. factI 𝓤 _ (emp 𝓤) (ready-held v s s₁ ready k₁ s₂ k₂)) (λ d u. d ≡ withHeld (heldWith v (s₂ .held)) s₂) (λ ν δ ws u. id⊢ 𝓤 _)
+    owns-v : (ν : ℕ) → ent 𝓤 (emp 𝓤) (sem 𝓤 H A (owns (Ve.the-row ∷ []) (v, tt) (valV v ∷ [], tt)))
+    owns-v ν = qed W [] ∵ nothing ! $ owned ! Ve.the-row (Is Ve.the-row) (LL.makes Ve.the-type Ve′.the-plain 𝓤 H A) v _ v-is $ fjoin ! $ done !
+
+    autos : (g : Pools) → TidyPools g → Leaves W b (𝓣 .C) a.Symbol.name Ps.the-row g (PoolsKept v 1 g) (o + offset T′.mir 0) (valV v ∷ [])
+    autos g tidy =
+        leaves-by 𝓤 H A W (𝓣 .C) (fmOf 𝓤 H (W .laws) 𝓣) a.Symbol.name Ps.the-row (plain (λ _. Ve.the-row) ∷ []) (yes, tt) (a.clauses 𝓤 H A at-mem run) known-a b (o + offset T′.mir 0) g (valV v ∷ []) (λ ν. (v, tt)) (λ ν. (valV v ∷ [], tt)) (λ ν. refl)
+        owns-v (λ ν δ. tt) (λ ν δ. factI 𝓤 (TidyPools g) (emp 𝓤) tidy) (PoolsKept v 1 g) (λ ν δ ws. id⊢ 𝓤 _)
+
+    fixes : (g : Pools) → TidyPools g → Leaves W b (𝓣 .C) x.Symbol.name Ps.the-row g (PoolsKept v 2 g) (o + offset T′.mir 1) (valV v ∷ [])
+    fixes g tidy =
+        leaves-by 𝓤 H A W (𝓣 .C) (fmOf 𝓤 H (W .laws) 𝓣) x.Symbol.name Ps.the-row (plain (λ _. Ve.the-row) ∷ []) (yes, tt) (x.clauses 𝓤 H A at-mem run) known-x b (o + offset T′.mir 1) g (valV v ∷ []) (λ ν. (v, tt)) (λ ν. (valV v ∷ [], tt)) (λ ν. refl)
+        owns-v (λ ν δ. tt) (λ ν δ. factI 𝓤 (TidyPools g) (emp 𝓤) tidy) (PoolsKept v 2 g) (λ ν δ ws. id⊢ 𝓤 _)
+
+    abbrev s₁ : State → State
+    s₁ s = withAuto (poolsFrom v 1 (s .auto)) s
+
+    abbrev s₂ : State → State
+    s₂ s = withFixed (poolsFrom v 2 (s .fixed)) (s₁ s)
+
+    holds : (s : State) → Ready v s → Acts 𝓤 H A W (𝓣 .C) e.Symbol.name (vptr b o ∷ valV v ∷ []) (Held (s₂ s)) (State × Unit {0}) (λ z. Held (z .0)) (λ z. vunit) (After (λ d. d ≡ withHeld (heldWith v (s .held)) (s₂ s)))
+    holds s ready =
+        lent-beside 𝓤 H A W κ q b o γ (𝓣 .C) (fmOf 𝓤 H (W .laws) 𝓣) e.Symbol.name (plain (λ _. Ve.the-row) ∷ []) (yes, tt) unit (λ u. vunit) nothing-tells (e.clauses 𝓤 H A at-mem run) known-e (s₂ s) (valV v ∷ []) (λ ν. (v, tt)) (λ ν. (valV v ∷ [], tt)) (λ ν. refl)
+        (λ ν. qed W [] ∵ nothing ! $ owned ! Ve.the-row (Is Ve.the-row) (LL.makes Ve.the-type Ve′.the-plain 𝓤 H A) v _ v-is $ fjoin ! $ done !) (λ ν δ. tt) (λ ν δ. factI 𝓤 _ (emp 𝓤) (ready .free)) (λ d u. d ≡ withHeld (heldWith v (s .held)) (s₂ s)) (λ ν δ ws u. id⊢ 𝓤 _)
 
     replies : Makes 𝓤 H A W (𝓣 .C) p.Symbol.name (valV v ∷ []) (valR (v .reply)) (Is Re.the-row (v .reply) (valR (v .reply) ∷ []))
     replies =
@@ -73,16 +100,16 @@ module _ {M : Type 1} (𝓤 : URA M) (H : Heap 𝓤) (A : Atoms 𝓤) (at-mem : 
 
     walk : (s : State) → Ready v s → (Kf : Val → SProp 𝓤) → ((d : State) → Kept v s d → ent 𝓤 (mean 𝓤 H A (Held d)) (Kf vunit)) → ent 𝓤 (mean 𝓤 H A (Held s)) (WpFn 𝓤 H (𝓣 .C) (𝓣 .Λ) f.Code.function (vptr b o ∷ valV v ∷ []) Kf)
     walk s ready Kf exits = entering W (𝓣 .C) (𝓣 .Λ) (Held s) f.Code.function (first ls) (others ls) (vptr b o ∷ valV v ∷ []) Kf refl ((tt, tt), (LL.lawful Ve.the-type Ve′.the-laws 𝓤 H A W .typed v _ v-is .0, tt)) (λ l.
-        points W (𝓣 .C) (𝓣 .Λ) ls l refl refl tt tt (tt, tt) (acted W (𝓣 .C) (𝓣 .Λ) ls l (fmOf 𝓤 H (W .laws) 𝓣) (State × Unit {0}) (λ z. Held (z .0)) (λ z. vunit) (After (AutoKept v s)) (arg refl tt (arg refl tt nil)) (autos s ready) tt (λ z y. (tt, tt)) (λ z₁ k₁.
-        points W (𝓣 .C) (𝓣 .Λ) ls l refl refl tt tt (tt, tt) (acted W (𝓣 .C) (𝓣 .Λ) ls l (fmOf 𝓤 H (W .laws) 𝓣) (State × Unit {0}) (λ z. Held (z .0)) (λ z. vunit) (After (FixedKept v (z₁ .0))) (arg refl tt (arg refl tt nil)) (fixes s (z₁ .0) ready (k₁ .1)) tt (λ z y. (tt, tt)) (λ z₂ k₂.
-        points W (𝓣 .C) (𝓣 .Λ) ls l refl refl tt tt (tt, tt) (acted W (𝓣 .C) (𝓣 .Λ) ls l (fmOf 𝓤 H (W .laws) 𝓣) (State × Unit {0}) (λ z. Held (z .0)) (λ z. vunit) (After (λ d. d ≡ withHeld (heldWith v (z₂ .0 .held)) (z₂ .0))) (arg refl tt (arg refl tt nil)) (holds s (z₁ .0) (z₂ .0) ready (k₁ .1) (k₂ .1)) tt (λ z y. (tt, tt)) (λ z₃ k₃.
+        points W (𝓣 .C) (𝓣 .Λ) ls l refl refl tt tt (tt, tt) (acted W (𝓣 .C) (𝓣 .Λ) ls l (fmOf 𝓤 H (W .laws) 𝓣) (Unit {0}) (λ u. Held (s₁ s)) (λ u. vunit) (λ u. PoolsKept v 1 (s .auto) (poolsFrom v 1 (s .auto))) (arg refl tt (arg refl tt nil)) (fills a.Symbol.name 0 1 s (s₁ s) (s .auto) (autos (s .auto) (ready .auto)) (out-auto 𝓤 H A W b o s (poolsFrom v 1 (s .auto)))) tt (λ u y. (tt, tt)) (λ u k₁.
+        points W (𝓣 .C) (𝓣 .Λ) ls l refl refl tt tt (tt, tt) (acted W (𝓣 .C) (𝓣 .Λ) ls l (fmOf 𝓤 H (W .laws) 𝓣) (Unit {0}) (λ u. Held (s₂ s)) (λ u. vunit) (λ u. PoolsKept v 2 (s .fixed) (poolsFrom v 2 (s .fixed))) (arg refl tt (arg refl tt nil)) (fills x.Symbol.name 1 2 (s₁ s) (s₂ s) (s .fixed) (fixes (s .fixed) (ready .fixed)) (out-fixed 𝓤 H A W b o (s₁ s) (poolsFrom v 2 (s .fixed)))) tt (λ u y. (tt, tt)) (λ u k₂.
+        points W (𝓣 .C) (𝓣 .Λ) ls l refl refl tt tt (tt, tt) (acted W (𝓣 .C) (𝓣 .Λ) ls l (fmOf 𝓤 H (W .laws) 𝓣) (State × Unit {0}) (λ z. Held (z .0)) (λ z. vunit) (After (λ d. d ≡ withHeld (heldWith v (s .held)) (s₂ s))) (arg refl tt (arg refl tt nil)) (holds s ready) tt (λ z y. (tt, tt)) (λ z₃ k₃.
         points W (𝓣 .C) (𝓣 .Λ) ls l refl refl tt tt (tt, tt) (acted W (𝓣 .C) (𝓣 .Λ) ls l (fmOf 𝓤 H (W .laws) 𝓣) (Unit {0}) (λ u. Held (z₃ .0)) (λ u. valR (v .reply)) (λ u. Is Re.the-row (v .reply) (valR (v .reply) ∷ [])) (arg refl tt nil) (plainly 𝓤 H A W (𝓣 .C) (fmOf 𝓤 H (W .laws) 𝓣) (Held (z₃ .0)) p.Symbol.name (valV v ∷ []) (valR (v .reply)) (Is Re.the-row (v .reply) (valR (v .reply) ∷ [])) replies) tt (λ u y. LL.lawful Re.the-type Re′.the-laws 𝓤 H A W .typed (v .reply) _ y .0) (λ u r-is.
         acted W (𝓣 .C) (𝓣 .Λ) ls l (fmOf 𝓤 H (W .laws) 𝓣) (State × Unit {0}) (λ z. Held (z .0)) (λ z. vunit) (After (λ d. stateView d ≡ saying (heard (v .reply)) (stateView (z₃ .0)))) (arg refl tt (arg refl tt nil)) (says (z₃ .0) r-is) tt (λ z y. (tt, tt)) (λ z₄ k₄.
-        sets W (𝓣 .C) (𝓣 .Λ) ls l vunit (of-opd ! (unit-lit !)) tt (tt, tt) (gives W (𝓣 .C) (𝓣 .Λ) ls l Kf vunit refl tt (exits (z₄ .0) (kept-all v s (z₁ .0) (z₂ .0) (z₃ .0) (z₄ .0) (k₁ .1) (k₂ .1) (k₃ .1) (k₄ .1))))))))))))))
+        sets W (𝓣 .C) (𝓣 .Λ) ls l vunit (of-opd ! (unit-lit !)) tt (tt, tt) (gives W (𝓣 .C) (𝓣 .Λ) ls l Kf vunit refl tt (exits (z₄ .0) (kept-all v s (z₃ .0) (z₄ .0) (poolsFrom v 1 (s .auto)) (poolsFrom v 2 (s .fixed)) k₁ k₂ (k₃ .1) (k₄ .1))))))))))))))
 
   f-meets : Meets 𝓤 H A f.signature (WpFn 𝓤 H (𝓣 .C) (𝓣 .Λ) f.Code.function) (f.spec 𝓤 H A at-mem run)
   f-meets =
-      one-asks 𝓤 H A W Ve.the-row valV (LL.tells Ve.the-type Ve′.the-laws) (LL.makes Ve.the-type Ve′.the-plain 𝓤 H A) (λ v. tt) (λ κs v w. refl) 𝓣 f.Code.function (f.clauses 𝓤 H A at-mem run) (λ h v. Ready v h) (λ κs a g. id⊢ 𝓤 _) (λ h v d. Kept v h d)
+      one-asks 𝓤 H A W T.the-row Ve.the-row valV (LL.tells Ve.the-type Ve′.the-laws) (LL.makes Ve.the-type Ve′.the-plain 𝓤 H A) (λ v. tt) (λ κs v w. refl) 𝓣 f.Code.function (f.clauses 𝓤 H A at-mem run) (λ h v. Ready v h) (λ κs a g. id⊢ 𝓤 _) (λ h v d. Kept v h d)
       (λ κs a g d p. factI 𝓤 _ (emp 𝓤) p) (λ κ q b o γ h v v-is ready. walk κ q b o γ v v-is h ready)
 
 pub keep-spec : {M : Type 1} → f.Statement.statement M

@@ -17,7 +17,7 @@ range-answer-requires c κs = search needs
 
 returns : tie.Need-returns
 unfolding claims
-returns c = range-serves _ _ _ _ _ _ _ (λ i. refl) (rw (c .before .before .good-request .ensures) at (c .range-answer .ensures))
+returns c = range-serves _ _ _ _ _ _ _ refl (λ i. refl) (rw (c .before .before .good-request .ensures) at (c .range-answer .ensures))
 
 pub allocate-host-irq-spec : {M : Type 1} → statement M
 allocate-host-irq-spec =

@@ -12,8 +12,8 @@ ranges-set-requires c κs = search needs
 
 grant-range-requires : tie.Need-grant-range-requires
 grant-range-requires c κs =
-    let p = ranges-passed (c .before .before .before .before .before .before .args .need .kind) _ _ _ _ (rw (c .before .before .before .before .before .before .pre .0) at (sym (c .before .before .ranges-set .ensures) ∙ c .before .if1 .taken)) in
-    let k = c .before .before .before .before .before .before .pre .1 (c .if2 .taken) in
+    let p = ranges-passed (c .before .before .before .before .before .before .args .need .kind) (c .before .before .before .before .before .before .pre .1 .0) _ _ _ _ (rw (c .before .before .before .before .before .before .pre .0) at (sym (c .before .before .ranges-set .ensures) ∙ c .before .if1 .taken)) in
+    let k = c .before .before .before .before .before .before .pre .1 .1 (c .if2 .taken) in
     (p .order, p .fixed-count, p .rows, k .size, k .align)
 
 returns : tie.Need-returns

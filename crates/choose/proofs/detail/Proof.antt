@@ -22,30 +22,37 @@ enum-told-5 c = search needs
 enum-told-6 : tie.Need-enum-told-6
 enum-told-6 c = search needs
 
+enum-told-7 : tie.Need-enum-told-7
+enum-told-7 c = search needs
+
 returns : tie.Need-returns
 unfolding detail
-returns c = λ w r. rw (c .enum-told .given .1)
+returns c = λ w r x y. rw (c .enum-told .given .1)
 
 returns-2 : tie.Need-returns-2
 unfolding detail
-returns-2 c = λ w r. rw (c .enum-told2 .given .1)
+returns-2 c = λ w r x y. rw (c .enum-told2 .given .1)
 
 returns-3 : tie.Need-returns-3
 unfolding detail
-returns-3 c = λ w r. rw (c .enum-told3 .given .1)
+returns-3 c = λ w r x y. rw (c .enum-told3 .given .1, x, y)
 
 returns-4 : tie.Need-returns-4
 unfolding detail
-returns-4 c = λ w r. rw (c .enum-told4 .given .1)
+returns-4 c = λ w r x y. rw (c .enum-told4 .given .1)
 
 returns-5 : tie.Need-returns-5
 unfolding detail
-returns-5 c = λ w r. rw (c .enum-told5 .given .1)
+returns-5 c = λ w r x y. rw (c .enum-told5 .given .1)
 
 returns-6 : tie.Need-returns-6
 unfolding detail
-returns-6 c = λ w r. rw (c .enum-told6 .given .1)
+returns-6 c = λ w r x y. rw (c .enum-told6 .given .1)
+
+returns-7 : tie.Need-returns-7
+unfolding detail
+returns-7 c = λ w r x y. rw (c .enum-told7 .given .1)
 
 pub detail-spec : {M : Type 1} → statement M
 detail-spec =
-    tie.close (tie.spec enum-told enum-told-2 enum-told-3 enum-told-4 enum-told-5 enum-told-6 returns returns-2 returns-3 returns-4 returns-5 returns-6)
+    tie.close (tie.spec enum-told enum-told-2 enum-told-3 enum-told-4 enum-told-5 enum-told-6 enum-told-7 returns returns-2 returns-3 returns-4 returns-5 returns-6 returns-7)

@@ -5,15 +5,15 @@ use Rattle.tables.specs.Views.{stateView}
 use Rattle.tables.specs.declared.State.{State}
 use Rattle.tables.proofs.State as T
 use Rattle.tables.proofs.State.Laws as T′
-use Rattle.again.specs.Runs.{runs, runsOf, Replayable, Replays}
-use Rattle.again.proofs.RunLaws.{replays}
+use Rattle.replay.specs.Runs.{runs, runsOf, Replayable, Replays}
+use Rattle.replay.proofs.RunLaws.{replays}
 use Rattle.walks.proofs.Straight.{Store, env, first, others, given, set, arg, nil}
 use Rattle.lent.proofs.Acts.{Acts, framed, framed-left}
 use Rattle.lent.proofs.Steps.{Does, part-reads, local-of, sets, acted, gives, entering}
 use Rattle.replay.proofs.Whole.{Stands, Lies, Open, opens-up, closes-up, copies, stores}
 use Rattle.replay.proofs.Lists as Ls
 use Rattle.replay.proofs.Lists.{Loan, word, valOf, Listed, lent-lists}
-use Rattle.runs.proofs.replayed as g
+use Rattle.replay.proofs.replayed as g
 use Rattle.replay.proofs.replay as f
 
 abbrev Words : Type 0
@@ -210,4 +210,4 @@ replay-spec 𝓤 H 𝓜 𝓖 𝓡 =
     entered 𝓤 H (tripleOf 𝓤 H (𝓖 .A) f.signature (f.spec 𝓤 H (𝓖 .A) (𝓜 .mem) (𝓡 .run)))
     (tables 𝓤 H 𝓜 𝓡 f.Code.env .C) (tables 𝓤 H 𝓜 𝓡 f.Code.env .Λ) f.Key.name f.Code.function (f.Code.unfolded 𝓤 H 𝓜 𝓡)
     (f-meets 𝓤 H (𝓖 .A) (givenOf 𝓤 H 𝓜 𝓖) (𝓜 .mem) (𝓡 .run) (tablesOf 𝓤 H 𝓜 (tables 𝓤 H 𝓜 𝓡 f.Code.env))
-    (cited 𝓤 H (Core 𝓤 H (𝓖 .A) (𝓜 .mem) (𝓡 .run)) 𝓜 𝓡 f.Code.env g.Symbol.name g.Symbol.routine f.Code.calls-runs·replayed (g.Met.met 𝓤 H 𝓜 𝓖 𝓡)))
+    (cited 𝓤 H (Core 𝓤 H (𝓖 .A) (𝓜 .mem) (𝓡 .run)) 𝓜 𝓡 f.Code.env g.Symbol.name g.Symbol.routine f.Code.calls-replay·replayed (g.Met.met 𝓤 H 𝓜 𝓖 𝓡)))

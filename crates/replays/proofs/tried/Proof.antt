@@ -4,6 +4,7 @@ use Prim.Native.Nat.{_*_}
 use lib.Seq.{length-take-le}
 use native.Mathlib.Omega.{arith}
 use borrow.Author.Needs.{needs}
+use Rattle.flat.specs.Flat.{requestSize}
 use Rattle.replays.proofs.tried.Statement.{statement}
 use Rattle.replays.proofs.tried.Tie as tie
 
@@ -41,7 +42,7 @@ array-share-prefix-requests : tie.Need-array-share-prefix-requests
 array-share-prefix-requests c = search needs
 
 slice-aggregate-plan-by-value : tie.Need-slice-aggregate-plan-by-value
-slice-aggregate-plan-by-value c = sym (length-take-le (12 * c .before .before .before .before .before .before .before .before .before .lines .result) (c .before .before .before .before .before .before .fill .last .1 .0) (omega (arith, c .before .before .before .before .before .before .before .before .before .lines .ensures, c .before .before .before .before .before .before .fill .kept .1 .0)))
+slice-aggregate-plan-by-value c = sym (length-take-le (requestSize * c .before .before .before .before .before .before .before .before .before .lines .result) (c .before .before .before .before .before .before .fill .last .1 .0) (omega (arith, c .before .before .before .before .before .before .before .before .before .lines .ensures, c .before .before .before .before .before .before .fill .kept .1 .0)))
 
 slice-aggregate-plan-by-value-2 : tie.Need-slice-aggregate-plan-by-value-2
 slice-aggregate-plan-by-value-2 c = search needs
@@ -56,7 +57,7 @@ array-borrow-prefix-requests : tie.Need-array-borrow-prefix-requests
 array-borrow-prefix-requests c = omega (arith, c .before .before .before .before .before .before .before .before .before .before .before .before .before .before .lines .ensures, c .before .before .before .before .before .before .before .before .before .before .before .fill .kept .1 .0)
 
 slice-aggregate-again : tie.Need-slice-aggregate-again
-slice-aggregate-again c = sym (length-take-le (12 * c .before .before .before .before .before .before .before .before .before .before .before .before .before .before .before .lines .result) (c .before .before .before .before .before .before .before .before .before .before .before .before .fill .last .1 .0) (omega (arith, c .before .before .before .before .before .before .before .before .before .before .before .before .before .before .before .lines .ensures, c .before .before .before .before .before .before .before .before .before .before .before .before .fill .kept .1 .0)))
+slice-aggregate-again c = sym (length-take-le (requestSize * c .before .before .before .before .before .before .before .before .before .before .before .before .before .before .before .lines .result) (c .before .before .before .before .before .before .before .before .before .before .before .before .fill .last .1 .0) (omega (arith, c .before .before .before .before .before .before .before .before .before .before .before .before .before .before .before .lines .ensures, c .before .before .before .before .before .before .before .before .before .before .before .before .fill .kept .1 .0)))
 
 array-share-prefix-order : tie.Need-array-share-prefix-order
 array-share-prefix-order c = omega (arith, c .before .before .before .before .before .before .before .before .before .before .before .before .before .before .before .lines .ensures, c .before .before .before .before .before .before .before .before .before .before .before .before .before .before .some-of .ensures, c .before .before .before .before .before .before .before .before .before .shuffle .kept .1 .1 .0)

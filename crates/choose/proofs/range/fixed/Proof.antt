@@ -1,6 +1,6 @@
 -- The pool, then the first row in the way. Assumes nothing.
 use native.Mathlib.Omega.{arith}
-use mathlib.Core.Path.{sym, _∙_}
+use mathlib.Core.Path.{refl, sym, _∙_}
 use Rattle.definition.specs.Tables.{meets}
 use Rattle.definition.specs.Request.{rowAt}
 use Rattle.tables.specs.Views.{ranges}
@@ -52,10 +52,10 @@ detail-requires : tie.Need-detail-requires
 detail-requires c κs = search needs
 
 returns-2 : tie.Need-returns-2
-unfolding meets
+unfolding meets rowAt
 returns-2 c =
     let a = c .before .before .before .before .before .before .before .before .before .before .args in
-    λ ps. fixed-met ps _ _ _ _ (rangeIn (ranges (a .on) (a .oc .now) (a .oi .now) (a .od .now) (a .os .now) (a .oe .now) (a .ow .now)) (c .before .before .before .hit .given .0 .0)) _ _ (c .before .before .before .before .before .before .before .before .before .namespace .ensures) (c .detail .ensures _ _) (sym (c .before .before .before .before .before .before .before .if1 .taken) ∙ c .before .before .before .before .before .before .before .before .range-allowed .ensures)
+    λ ps. fixed-met ps _ _ _ _ (rangeIn (ranges (a .on) (a .oc .now) (a .oi .now) (a .od .now) (a .os .now) (a .oe .now) (a .ow .now)) (c .before .before .before .hit .given .0 .0)) _ _ (c .before .before .before .before .before .before .before .before .before .namespace .ensures) (c .detail .ensures _ _ refl refl) (sym (c .before .before .before .before .before .before .before .if1 .taken) ∙ c .before .before .before .before .before .before .before .before .range-allowed .ensures)
     (range-obstacle (ranges (a .on) (a .oc .now) (a .oi .now) (a .od .now) (a .os .now) (a .oe .now) (a .ow .now)) (a .need) (a .b) _ (omega arith) (sym (c .before .before .before .hit .given .1) ∙ c .before .before .before .before .before .first-overlap .ensures))
 
 returns-3 : tie.Need-returns-3

@@ -21,6 +21,9 @@ enum-told-5 c = search needs
 enum-told-6 : tie.Need-enum-told-6
 enum-told-6 c = search needs
 
+enum-told-7 : tie.Need-enum-told-7
+enum-told-7 c = search needs
+
 returns : tie.Need-returns
 returns c = rw (c .enum-told .given .1)
 
@@ -28,10 +31,10 @@ returns-2 : tie.Need-returns-2
 returns-2 c = rw (c .enum-told2 .given .1)
 
 returns-3 : tie.Need-returns-3
-returns-3 c = rw (c .enum-told3 .given .1)
+returns-3 c = search needs
 
 returns-4 : tie.Need-returns-4
-returns-4 c = search needs
+returns-4 c = rw (c .enum-told4 .given .1)
 
 returns-5 : tie.Need-returns-5
 returns-5 c = search needs
@@ -39,6 +42,9 @@ returns-5 c = search needs
 returns-6 : tie.Need-returns-6
 returns-6 c = search needs
 
+returns-7 : tie.Need-returns-7
+returns-7 c = search needs
+
 pub place-spec : {M : Type 1} → statement M
 place-spec =
-    tie.close (tie.spec enum-told enum-told-2 enum-told-3 enum-told-4 enum-told-5 enum-told-6 returns returns-2 returns-3 returns-4 returns-5 returns-6)
+    tie.close (tie.spec enum-told enum-told-2 enum-told-3 enum-told-4 enum-told-5 enum-told-6 enum-told-7 returns returns-2 returns-3 returns-4 returns-5 returns-6 returns-7)

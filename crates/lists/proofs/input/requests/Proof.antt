@@ -2,14 +2,15 @@
 use Prim.Native.Nat.{_≤_, _-_}
 use native.Mathlib.Omega.{arith}
 use borrow.Author.Needs.{needs}
+use Rattle.lending.specs.Most.{most}
 use Rattle.lists.proofs.input.requests.Statement.{statement}
 use Rattle.lists.proofs.input.requests.Tie as tie
 
 abbrev Inv-loop : tie.InvT-loop
-Inv-loop conflict list₀ turn₀ list turn = turn ≤ 129
+Inv-loop conflict list₀ turn₀ list turn = turn ≤ most
 
 abbrev μ-loop : tie.MeasureT-loop
-μ-loop conflict list₀ turn₀ list turn = 129 - turn
+μ-loop conflict list₀ turn₀ list turn = most - turn
 
 request-requires : tie.Need-request-requires Inv-loop μ-loop
 request-requires c κs = search needs
@@ -17,11 +18,11 @@ request-requires c κs = search needs
 loop-holds : tie.Need-loop-holds Inv-loop μ-loop
 loop-holds c = omega arith
 
+cast-request : tie.Need-cast-request Inv-loop μ-loop
+cast-request c = search needs
+
 request-requires-2 : tie.Need-request-requires-2 Inv-loop μ-loop
 request-requires-2 c κs = search needs
-
-cast-list : tie.Need-cast-list Inv-loop μ-loop
-cast-list c = search needs
 
 mul-list : tie.Need-mul-list Inv-loop μ-loop
 mul-list c = search needs
@@ -52,5 +53,5 @@ returns-2 c = search needs
 
 pub requests-spec : {M : Type 1} → statement M
 requests-spec =
-    tie.close (tie.spec Inv-loop μ-loop request-requires loop-holds request-requires-2 cast-list mul-list array-set-from-list add-turn loop-less loop-again
+    tie.close (tie.spec Inv-loop μ-loop request-requires loop-holds cast-request request-requires-2 mul-list array-set-from-list add-turn loop-less loop-again
     request-requires-3 array-set-from-list-2 returns returns-2)

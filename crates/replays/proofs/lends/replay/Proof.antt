@@ -5,7 +5,7 @@ use Rattle.tables.specs.Views.{stateView}
 use Rattle.tables.specs.declared.State.{State}
 use Rattle.tables.proofs.State as T
 use Rattle.tables.proofs.State.Laws as T′
-use Rattle.again.specs.Runs.{runs, runsOf, Replayable, Replays}
+use Rattle.replay.specs.Runs.{runs, runsOf, Replayable, Replays}
 use Rattle.replays.proofs.LentWalk.{lentCode, lent-walk}
 use Rattle.replay.proofs.replay as g
 use Rattle.replays.proofs.lends.replay as f

@@ -20,8 +20,8 @@ use Rattle.flat.specs.Flat.{requestSize, requestsFrom, requestsOf, wholeRequest
 use Rattle.flat.proofs.FlatLaws.{requests-length, flat-whole, flat-torn}
 use Rattle.pin.specs.Pin.{pinnedNumbers}
 use Rattle.pin.proofs.BackLaws.{pinned-length, grants-length, requests-pinned}
-use Rattle.again.specs.Again.{blocks, indices, taken, rowsFor, FlatAgain, firstResults, runAgain}
-use Rattle.again.proofs.BlockLaws.{pick-map, AllBelow, picked-below, nth, nth-all, requests-length-blocks, requests-blocks, requests-nth, blocks-records, run-told, rows-for}
+use Rattle.replay.specs.Again.{blocks, indices, taken, rowsFor, FlatAgain, firstResults, runAgain}
+use Rattle.replay.proofs.BlockLaws.{pick-map, AllBelow, picked-below, nth, nth-all, requests-length-blocks, requests-blocks, requests-nth, blocks-records, run-told, rows-for}
 
 -- ---- an accepted plan ends with a whole request
 

@@ -12,9 +12,9 @@ use Rattle.definition.specs.Calls.{State, ownersOf, given, sound, starting, gra
 use Rattle.definition.specs.Plan.{Run, done, stopped, Lent, lent, written, planRun, ended, plan}
 use Rattle.flat.specs.Flat.{requestSize, requestsOf, wholeRequests, flatPlan}
 use Rattle.pin.specs.Pin.{pinnedNumbers}
-use Rattle.again.specs.Again.{blocks, rowsFor, FlatAgain}
-use Rattle.again.specs.Runs.{Runs, runs, mostTaken, firstRun, secondRun, runsAfter, runsOf, Replayable, Replays}
-use Rattle.again.proofs.AgainLaws.{all-taken, flat-replay, flat-replay-rows}
+use Rattle.replay.specs.Again.{blocks, rowsFor, FlatAgain}
+use Rattle.replay.specs.Runs.{Runs, runs, mostTaken, firstRun, secondRun, runsAfter, runsOf, Replayable, Replays}
+use Rattle.replay.proofs.AgainLaws.{all-taken, flat-replay, flat-replay-rows}
 
 -- ---- a run leaves pools and reservations as they were
 

@@ -4,11 +4,11 @@ use Prim.Native.Nat.{ℕ}
 use mathlib.Core.List.{List}
 use lib.ListN.{replicate, length-replicate}
 use lib.Seq.{length-take-le}
-use Rattle.again.specs.Runs.{mostTaken}
-use Rattle.runs.proofs.ReplayedLaws.{stops, goes-on, fits-in}
+use Rattle.replay.specs.Runs.{mostTaken}
+use Rattle.replay.proofs.ReplayedLaws.{stops, goes-on, fits-in}
 use borrow.Author.Needs.{needs}
-use Rattle.runs.proofs.replayed.Statement.{statement}
-use Rattle.runs.proofs.replayed.Tie as tie
+use Rattle.replay.proofs.replayed.Statement.{statement}
+use Rattle.replay.proofs.replayed.Tie as tie
 
 abbrev blank : List ℕ
 blank = replicate mostTaken 0
@@ -69,7 +69,7 @@ returns-2 c =
     let k = c .before .before .before .before .before .before .before .take in
     goes-on (a .requests .now) (a .selection .now) (a .results .now) (a .second .now) (a .s) (c .before .before .before .before .before .before .before .before .before .before .before .before .before .before .before .before .before .before .before .before .before .before .start .result) (p .result) (p .last .1 .1 .0) (c .before .before .before .before .before .before .before .before .before .before .before .before .before .before .before .before .before .before .before .before .before .before .start .ensures) (p .ensures)
     (c .before .before .before .before .before .before .before .before .before .before .before .before .before .before .before .if1 .left) (c .before .before .before .before .before .before .before .before .before .before .before .before .pin .last .0) blank (k .last .1 .1 .0) (k .result) (c .before .before .before .before .before .start2 .result) (c .before .before .plan-by-value2 .result) (c .before .before .plan-by-value2 .last .1 .1 .0)
-    (c .before .before .before .before .before .before .before .before .before .before .before .before .pin .ensures) (length-replicate {A = ℕ} 1548 0) (k .ensures .0) (k .ensures .1) (c .before .before .before .before .before .start2 .ensures) (c .before .before .plan-by-value2 .ensures)
+    (c .before .before .before .before .before .before .before .before .before .before .before .before .pin .ensures) (length-replicate {A = ℕ} mostTaken 0) (k .ensures .0) (k .ensures .1) (c .before .before .before .before .before .start2 .ensures) (c .before .before .plan-by-value2 .ensures)
 
 pub replayed-spec : {M : Type 1} → statement M
 replayed-spec =

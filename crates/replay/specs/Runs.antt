@@ -14,7 +14,7 @@ use Rattle.definition.specs.RequestLaws.{AutoInFixed}
 use Rattle.definition.specs.ReplayLaws.{Pick}
 use Rattle.flat.specs.Flat.{requestSize, flatPlan}
 use Rattle.pin.specs.Pin.{pinnedNumbers}
-use Rattle.again.specs.Again.{blocks, indices, taken, rowsFor}
+use Rattle.replay.specs.Again.{blocks, indices, taken, rowsFor}
 
 -- what is handed back: the state, the requests, the results of the first run and those of the second
 pub record Runs : Type 0 where

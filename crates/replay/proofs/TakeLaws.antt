@@ -7,7 +7,7 @@ use lib.ListN.{length, getD, set, take, drop, length-take, length-drop, length-a
 use lib.Seq.{sets, sets-eq, drop-cons, getD-take, getD-drop, take-nil, drop-nil}
 use Rattle.definition.specs.Plan.{written}
 use Rattle.flat.specs.Flat.{requestSize}
-use Rattle.again.specs.Again.{block, blocks, taken}
+use Rattle.replay.specs.Again.{block, blocks, taken}
 
 -- ---- one number after another
 

@@ -1,4 +1,4 @@
-// Demand 3 for the calls: some of a list's lines taken, in any order. What is asked and promised of two runs stands in specs/, the law in proofs/.
+// Some of a list's lines taken, in any order.
 use flat::REQUEST;
 use pin::lesser;
 ghost use mathlib.Core.Path.{_≡_};
@@ -7,7 +7,7 @@ ghost use lib.ListN.{length, take, drop};
 ghost use lib.Seq.{sets};
 ghost use Rattle.definition.specs.Plan.{written};
 ghost use Rattle.flat.specs.Flat.{requestSize};
-ghost use Rattle.again.specs.Again.{taken};
+ghost use Rattle.replay.specs.Again.{taken};
 
 // Where a line begins in a list of so many numbers: one past the last, at the list's end.
 pub fn begins(i: u64, long: usize) -> usize

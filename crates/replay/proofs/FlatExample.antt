@@ -15,8 +15,8 @@ use Rattle.definition.specs.RequestLaws.{AutoInFixed, insideOne, autoInFixed, i
 use Rattle.definition.specs.ReplayLaws.{now, later, Pick, stop, pick}
 use Rattle.flat.specs.Flat.{requestSize, readable, wantAt, requestIn, requestAt, requestsFrom, requestsOf, wholeRequests, flatPlan}
 use Rattle.pin.specs.Pin.{pinChoiceAt, pinChoices, tellsOf, ownRecord, pinOne, pinFrom, pinnedNumbers}
-use Rattle.again.specs.Again.{blocks, indices, rowsFor, firstResults, runAgain}
-use Rattle.again.proofs.AgainLaws.{flat-replay}
+use Rattle.replay.specs.Again.{blocks, indices, rowsFor, firstResults, runAgain}
+use Rattle.replay.proofs.AgainLaws.{flat-replay}
 
 unfoldable made : List Call → State → State
 made [] s = s

@@ -17,7 +17,7 @@ use Rattle.definition.specs.ReplayLaws.{Take, now, later, Pick, stop, pick}
 use Rattle.flat.specs.Flat.{requestSize, bad, requestAt, requestsFrom, requestsOf}
 use Rattle.flat.proofs.FlatLaws.{request-reads}
 use Rattle.flat.proofs.StoreLaws.{requests-cons, first-number}
-use Rattle.again.specs.Again.{block, blocks, indices, rowsIn, rowsTold, rowsFor}
+use Rattle.replay.specs.Again.{block, blocks, indices, rowsIn, rowsTold, rowsFor}
 
 -- ---- picked indices
 

@@ -5,10 +5,10 @@ use native.Mathlib.Omega.{arith}
 use lib.ListN.{length}
 use borrow.Author.Needs.{needs}
 use Rattle.definition.specs.Plan.{written}
-use Rattle.again.specs.Again.{taken}
-use Rattle.again.proofs.TakeLaws.{Left, LeftLength, turn, left-none, left-length-none, left-all, left-length-all}
-use Rattle.again.proofs.take.Statement.{statement}
-use Rattle.again.proofs.take.Tie as tie
+use Rattle.replay.specs.Again.{taken}
+use Rattle.replay.proofs.TakeLaws.{Left, LeftLength, turn, left-none, left-length-none, left-all, left-length-all}
+use Rattle.replay.proofs.take.take.Statement.{statement}
+use Rattle.replay.proofs.take.take.Tie as tie
 
 abbrev Inv-loop : tie.InvT-loop
 Inv-loop lines selection chosen₀ at₀ j₀ chosen at j = (j ≤ length selection) × (length chosen ≡ length chosen₀) × (at ≤ length chosen₀) × (Left lines selection chosen (length chosen₀) at j ≡ written (taken (length chosen₀) lines selection) chosen₀) × (LeftLength lines selection (length chosen₀) at j ≡ length (taken (length chosen₀) lines selection))

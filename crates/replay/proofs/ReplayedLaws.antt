@@ -1,4 +1,4 @@
--- What the calls answer is two runs (Runs.antt of `again`). Assumes nothing.
+-- What the calls answer is two runs (Runs.antt). Assumes nothing.
 use mathlib.Core.Path.{_≡_, sym, ap, _∙_}
 use mathlib.Core.List.{List}
 use Prim.Native.Nat.{ℕ, _≤_}
@@ -13,9 +13,9 @@ use Rattle.tables.specs.Views.{stateView}
 use Rattle.tables.specs.declared.State.{State}
 use Rattle.flat.specs.Flat.{flatPlan}
 use Rattle.pin.specs.Pin.{pinnedNumbers}
-use Rattle.again.specs.Again.{taken}
-use Rattle.again.specs.Runs.{runs, mostTaken, firstRun, secondRun, runsOf}
-use Rattle.again.proofs.RunLaws.{runs-refused, runs-accepted}
+use Rattle.replay.specs.Again.{taken}
+use Rattle.replay.specs.Runs.{runs, mostTaken, firstRun, secondRun, runsOf}
+use Rattle.replay.proofs.RunLaws.{runs-refused, runs-accepted}
 
 module _ (rq is out out′ : List ℕ) (s s₁ t : State) (res : List ℕ) (started : stateView s₁ ≡ serve kinds start (stateView s)) (planned : lent (stateView t) res ≡ flatPlan rq (stateView s₁) out) where
   first : lent (stateView t) res ≡ firstRun rq (stateView s) out
