@@ -3,7 +3,11 @@
 --     fresh-walk    with the right size what g returns is stored; with another size nothing is touched
 use Rattle.walks.proofs.Prelude.{refl, not, ℕ, _<_, _^_, arith, [], _∷_, List, URA, fullShare, T as Holds, eqb, Name, named, mut, w64, Ty, tyInt, tyBool, tyRef, Written, local, valueLocal, place, deref, copy, int, intBig, eq, op2, rvOpd, assign, call, seq, cond, skip, return, Fn, Val, WT, Fits, hasTy, vint, vptr, SProp, ent, via, guardI, id⊢, Fml, GName, Lft, Share, ftrue, flft, fobs, fbor, Coded, Heap, Env, Calls, Loops, WpFn, Atoms, sem, fact, Given, Item, mean, ⋆, ‵, raw, _⊛_, some, later, _$_, _∵_, !, qed, by, move, keep, drop, use1, split, pick, atRet, await, look, init, store-raw, forget, stop, hop, from, load, lit, bin, of-opd, no-more, assigns, land, first, branches, skips, exec, returns, returns-within, enter, alloc1, alloc0, params1, pass1, pass0, free1, free0, Body, FmC, RattleType, Is, Tells, shows, mem, Kept, Exit, opens, closes, peeks, heard, nothing, spelt, calls-from}
 use Rattle.walks.proofs.Row.{rowOf}
-use Rattle.export.proofs.FaceWalk.{wrongSize}
+use mir.Syntax.{Body as Code}
+
+-- what runs where the size is another
+abbrev wrongSize : Code
+wrongSize = seq (assign (place 0 []) (rvOpd (int w64 1))) return
 
 abbrev pub freshCode : ℕ → Name → Ty → Ty → Fn
 freshCode N g π τ = record {

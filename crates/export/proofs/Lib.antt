@@ -1,5 +1,4 @@
 pub mod SizeLaws
-pub mod FaceWalk
 pub mod PlanWalk
 pub mod FreshWalk
 pub mod FilledLaws

@@ -22,7 +22,7 @@ use Rattle.face.specs.declared.row.Which.{Which}
 use Rattle.face.specs.declared.row.Found.{Found}
 use Rattle.face.proofs.LentLaws.{told-alone}
 
--- ---- the tables of a part, asked by their kinds from 1 to q; c: their rows go so far
+-- ---- the tables of a part, asked by their kinds from 1 to q (on: this part is asked for; c: its tables have so many rows)
 
 abbrev pub chain : (on c : Bool) (kind : ℕ) → (ℕ → List ℕ) → Option (List ℕ) → ℕ → Option (List ℕ)
 chain on c kind row before zero = before
@@ -47,7 +47,7 @@ chained true true (suc (suc (suc (suc (suc (suc (suc (suc k)))))))) row before =
         rw (ne-eqb n 7 (λ e. omega arith), ne-eqb n 6 (λ e. omega arith), ne-eqb n 5 (λ e. omega arith), ne-eqb n 4 (λ e. omega arith), ne-eqb n 3 (λ e. omega arith), ne-eqb n 2 (λ e. omega arith), ne-eqb n 1 (λ e. omega arith), lt-ltb 0 n p, lt-leb n 7 l)
 
 module _ (s : State) (kind i : ℕ) where
-  -- .. of the parts from 1 on, when this part is asked for
+  -- what is found once the tables of a part up to the kind q were asked; and once all of a part were, and those before it
   abbrev pub upTo : (asked part : ℕ) → Option (List ℕ) → ℕ → Option (List ℕ)
   upTo asked part before q = chain (eqb asked part) (ltb i (rowsIn part)) kind (λ k. tellsRow s part k i) before q
 
@@ -59,9 +59,6 @@ module _ (s : State) (kind i : ℕ) where
 
   abbrev pub held : ℕ → Option (List ℕ)
   held asked = upTo asked 3 (fixed asked) 7
-
-  abbrev whole : ℕ → Option (List ℕ) → Option (List ℕ)
-  whole part before = pick (ltb i (rowsIn part) && (ltb 0 kind && leb kind 7)) (tellsRow s part kind i) before
 
   nowhere : (part : ℕ) → rowsIn part ≤ i → none ≡ rowIn s part kind i
   unfolding there

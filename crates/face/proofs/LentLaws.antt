@@ -1,8 +1,7 @@
 -- Calls with lists lent beside the numbers: one law for each way out. Assumes nothing.
-use mathlib.Core.Path.{_≡_, refl, sym, ap, _∙_}
+use mathlib.Core.Path.{_≡_, refl, ap, _∙_}
 use mathlib.Core.List.{List}
 use Prim.Native.Nat.{ℕ, _≤_, _<_, _*_, _/_}
-use lib.ListN.{length}
 use borrow.Author.Tests.{le-leb, lt-leb, eq-eqb, ne-eqb}
 use Rattle.definition.specs.Tables.{planLimit, recordSize}
 use Rattle.definition.specs.Base.{Said}

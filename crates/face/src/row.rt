@@ -40,7 +40,7 @@ fn nothing() -> Found
 
 // ---- one table: it tells the row that is asked for, if that is one of its own; else what was found before it stays
 
-fn is_asked(k: Which, part: u64, kind: u64, rows: usize) -> bool
+fn has_row(k: Which, part: u64, kind: u64, rows: usize) -> bool
     ensures { λ r. ⌜ r ≡ asked k part kind rows ⌝ }
 {
     if k.part == part {
@@ -64,7 +64,7 @@ fn pool_columns<'a>(
 ) -> Found
     ensures { λ r. ⌜ foundOf r ≡ pick (asked k part kind poolLimit) (poolRow (poolView (pool (now (n .entry)) (now (controller .entry)) (now (its .entry)) (now (start .entry)) (now (end .entry)))) (k .row)) (foundOf before) ⌝ }
 {
-    if is_asked(k, part, kind, POOL_ROWS) {
+    if has_row(k, part, kind, POOL_ROWS) {
         let r = tables::pool_at(k.row as usize, controller, its, start, end);
         let numbers = line(
             *n as u64,
@@ -100,7 +100,7 @@ fn range_columns<'a>(
 ) -> Found
     ensures { λ r. ⌜ PickedRange (asked k part kind rowLimit) (rangesView (ranges (now (n .entry)) (now (controller .entry)) (now (its .entry)) (now (device .entry)) (now (start .entry)) (now (end .entry)) (now (owner .entry)))) (k .row) (foundOf before) (foundOf r) ⌝ }
 {
-    if is_asked(k, part, kind, ROWS) {
+    if has_row(k, part, kind, ROWS) {
         let r = tables::range_at(k.row as usize, controller, its, device, start, end, owner);
         let numbers = line(
             *n as u64,
@@ -135,7 +135,7 @@ fn wire_columns<'a>(
 ) -> Found
     ensures { λ r. ⌜ foundOf r ≡ pick (asked k part kind rowLimit) (inputRow (wiresView (wires (now (n .entry)) (now (controller .entry)) (now (input .entry)) (now (trigger .entry)) (now (sharing .entry)) (now (owner .entry)))) (k .row)) (foundOf before) ⌝ }
 {
-    if is_asked(k, part, kind, ROWS) {
+    if has_row(k, part, kind, ROWS) {
         let r = tables::wire_at(k.row as usize, controller, input, trigger, sharing, owner);
         let numbers = line(
             *n as u64,

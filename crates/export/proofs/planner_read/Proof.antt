@@ -1,5 +1,5 @@
 -- `export::planner_read` meets its contract: what is asked for is read out of the numbers, looked for in the lent state, and told. Assumes nothing.
-use Rattle.walks.proofs.Prelude.{_≡_, refl, ap, ℕ, _<_, _^_, [], _∷_, List, none, length, URA, fullShare, T as Holds, eqb, lit<, named, w64, Local, Val, Fits, vint, vbool, vptr, SProp, ent, emp, via, exE, snd∗, guardI, id⊢, GName, Lft, Share, ftrue, flft, Memory, Routine, Heap, WpFn, Tables, Atoms, sem, Fun, fact, factI, AllOutlive, givenOf, tables, tablesOf, Given, Item, atRet, mean, ⋆, ‵, raw, _⊛_, some, _$_, _∵_, !, qed, move, keep, drop, use0, use1, split, join, pick, fsplit, fjoin, feqL, suffices, frame, show, done, load, lit, bin, of-opd, and-then, no-more, addr, hop, fld, from, stop, agg, whole, sub, FmC, fmOf, owns, Is, uint-vals, uint-makes, uint-tells, u64, RefT, ShrRef, ptr-vals, shr-tells, sliceVal, MutSlice, ShrSlice, Room, finally, slice-vals, mut-slice-tells, shr-slice-tells, shr-slice-lawful, plain, owned, heard, nothing, only, Args, onEntry, Meets, tripleOf, Triple, ensured, lasts, entered, cited, says, Stays, stay-none, stay-none-ref, stay-slice, stay-none-slice, walkOf, AllGo, goes-none, goes-none-ref, goes-slice, goes-none-slice, yes}
+use Rattle.walks.proofs.Prelude.{_≡_, refl, ap, ℕ, _<_, _^_, [], _∷_, List, none, length, URA, fullShare, eqb, lit<, named, w64, Local, Val, Fits, vint, vbool, vptr, SProp, ent, emp, via, exE, snd∗, guardI, id⊢, GName, Lft, Share, ftrue, flft, Memory, Routine, Heap, WpFn, Tables, Atoms, sem, Fun, fact, factI, AllOutlive, givenOf, tables, tablesOf, Given, Item, atRet, mean, ⋆, ‵, raw, _⊛_, some, _$_, _∵_, !, qed, move, keep, drop, use0, use1, split, join, pick, fsplit, fjoin, feqL, suffices, frame, show, done, load, lit, bin, of-opd, and-then, no-more, addr, hop, fld, from, stop, agg, whole, sub, FmC, fmOf, owns, Is, uint-vals, uint-makes, uint-tells, u64, RefT, ShrRef, ptr-vals, shr-tells, sliceVal, MutSlice, ShrSlice, Room, finally, slice-vals, mut-slice-tells, shr-slice-tells, shr-slice-lawful, plain, owned, heard, nothing, only, Args, onEntry, Meets, tripleOf, Triple, ensured, lasts, entered, cited, says, Stays, stay-none, stay-none-ref, stay-slice, stay-none-slice, walkOf, AllGo, goes-none, goes-none-ref, goes-slice, goes-none-slice, yes}
 use denote.Struct.Laws as LL
 use Rattle.definition.specs.Base.{Said}
 use Rattle.tables.specs.Views.{stateView}
@@ -10,7 +10,7 @@ use Rattle.lent.specs.declared.Marks.{Marks}
 use Rattle.lent.proofs.Marks as Ma
 use Rattle.lent.proofs.Marks.Laws as Ma′
 use Rattle.walks.proofs.Straight.{Store, env, first, others, given, set, arg, nil}
-use Rattle.walks.proofs.Passing.{Plain, declaredAs, Arg, lent, plainly, passing, refTo}
+use Rattle.walks.proofs.Passing.{declaredAs, Arg, lent, plainly, passing, refTo}
 use Rattle.lent.proofs.Acts.{Acts, framed, framed-left}
 use Rattle.lent.proofs.Steps.{Does, part-reads, local-of, sets, acted, leaves-if, gives, gives-within, entering}
 use Rattle.lent.proofs.peek as p

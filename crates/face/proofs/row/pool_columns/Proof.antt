@@ -8,11 +8,11 @@ use Rattle.face.proofs.ReadLaws.{pool-row-is, asked-below, picked, pass
 use Rattle.face.proofs.row.pool_columns.Statement.{statement}
 use Rattle.face.proofs.row.pool_columns.Tie as tie
 
-is-asked-requires : tie.Need-is-asked-requires
-is-asked-requires c κs = search needs
+has-row-requires : tie.Need-has-row-requires
+has-row-requires c κs = search needs
 
 pool-at-requires : tie.Need-pool-at-requires
-pool-at-requires c κs = asked-below (c .before .before .args .k) (c .before .before .args .part) (c .before .before .args .kind) poolLimit (sym (c .before .is-asked .ensures) ∙ c .if1 .taken)
+pool-at-requires c κs = asked-below (c .before .before .args .k) (c .before .before .args .part) (c .before .before .args .kind) poolLimit (sym (c .before .has-row .ensures) ∙ c .if1 .taken)
 
 cast-line : tie.Need-cast-line
 cast-line c = search needs
@@ -24,10 +24,10 @@ line-requires : tie.Need-line-requires
 line-requires c κs = search needs
 
 returns : tie.Need-returns
-returns c = picked _ (sym (c .before .before .before .before .before .before .is-asked .ensures) ∙ c .before .before .before .before .before .if1 .taken) _ _ _ (ap listOf (c .line .ensures) ∙ pool-row-is (pool (c .before .before .before .before .before .before .before .args .n .now) (c .before .before .before .before .before .before .before .args .controller .now) (c .before .before .before .before .before .before .before .args .its .now) (c .before .before .before .before .before .before .before .args .start .now) (c .before .before .before .before .before .before .before .args .end .now)) _ (asked-below (c .before .before .before .before .before .before .before .args .k) (c .before .before .before .before .before .before .before .args .part) (c .before .before .before .before .before .before .before .args .kind) poolLimit (sym (c .before .before .before .before .before .before .is-asked .ensures) ∙ c .before .before .before .before .before .if1 .taken)) _ (c .before .before .before .before .pool-at .ensures))
+returns c = picked _ (sym (c .before .before .before .before .before .before .has-row .ensures) ∙ c .before .before .before .before .before .if1 .taken) _ _ _ (ap listOf (c .line .ensures) ∙ pool-row-is (pool (c .before .before .before .before .before .before .before .args .n .now) (c .before .before .before .before .before .before .before .args .controller .now) (c .before .before .before .before .before .before .before .args .its .now) (c .before .before .before .before .before .before .before .args .start .now) (c .before .before .before .before .before .before .before .args .end .now)) _ (asked-below (c .before .before .before .before .before .before .before .args .k) (c .before .before .before .before .before .before .before .args .part) (c .before .before .before .before .before .before .before .args .kind) poolLimit (sym (c .before .before .before .before .before .before .has-row .ensures) ∙ c .before .before .before .before .before .if1 .taken)) _ (c .before .before .before .before .pool-at .ensures))
 
 returns-2 : tie.Need-returns-2
-returns-2 c = passed _ (sym (c .before .is-asked .ensures) ∙ c .if1 .left) _ _
+returns-2 c = passed _ (sym (c .before .has-row .ensures) ∙ c .if1 .left) _ _
 
 pub pool-columns-spec : {M : Type 1} → statement M
-pool-columns-spec = tie.close (tie.spec is-asked-requires pool-at-requires cast-line cast-line-2 line-requires returns returns-2)
+pool-columns-spec = tie.close (tie.spec has-row-requires pool-at-requires cast-line cast-line-2 line-requires returns returns-2)

@@ -1,5 +1,5 @@
 -- `face::row::pool_row` meets its contract: the columns and the count of the lent table are handed to `pool_columns`. Assumes nothing.
-use Rattle.walks.proofs.Prelude.{_≡_, refl, ℕ, _<_, _^_, [], _∷_, List, none, URA, named, w64, SProp, emp, id⊢, Lft, Share, Memory, Routine, Heap, WpFn, Tables, Atoms, fmOf, Fun, factI, AllOutlive, givenOf, tables, tablesOf, Given, Item, ‵, owns, flat, Is, uint-vals, uint-tells, ptr-vals, shr-tells, typesAt, Args, Vals, Meets, tripleOf, Triple, entered, cited}
+use Rattle.walks.proofs.Prelude.{_≡_, refl, _<_, _^_, [], _∷_, List, none, URA, named, w64, SProp, emp, id⊢, Lft, Share, Memory, Routine, Heap, WpFn, Tables, Atoms, fmOf, Fun, factI, AllOutlive, givenOf, tables, tablesOf, Given, Item, ‵, owns, flat, Is, uint-vals, uint-tells, ptr-vals, shr-tells, typesAt, Args, Vals, Meets, tripleOf, Triple, entered, cited}
 use denote.Struct.Laws as LL
 use Rattle.definition.specs.Tables.{poolLimit}
 use Rattle.tables.specs.Views.{poolView}

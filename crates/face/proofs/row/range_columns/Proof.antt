@@ -8,11 +8,11 @@ use Rattle.face.proofs.ReadLaws.{range-row-is, asked-below, picked, pas
 use Rattle.face.proofs.row.range_columns.Statement.{statement}
 use Rattle.face.proofs.row.range_columns.Tie as tie
 
-is-asked-requires : tie.Need-is-asked-requires
-is-asked-requires c κs = search needs
+has-row-requires : tie.Need-has-row-requires
+has-row-requires c κs = search needs
 
 range-at-requires : tie.Need-range-at-requires
-range-at-requires c κs = asked-below (c .before .before .args .k) (c .before .before .args .part) (c .before .before .args .kind) rowLimit (sym (c .before .is-asked .ensures) ∙ c .if1 .taken)
+range-at-requires c κs = asked-below (c .before .before .args .k) (c .before .before .args .part) (c .before .before .args .kind) rowLimit (sym (c .before .has-row .ensures) ∙ c .if1 .taken)
 
 cast-line : tie.Need-cast-line
 cast-line c = search needs
@@ -30,10 +30,10 @@ line-requires : tie.Need-line-requires
 line-requires c κs = search needs
 
 returns : tie.Need-returns
-returns c = λ m w. picked _ (sym (c .before .before .before .before .before .before .before .before .is-asked .ensures) ∙ c .before .before .before .before .before .before .before .if1 .taken) _ _ _ (ap listOf (c .line .ensures) ∙ range-row-is (ranges (c .before .before .before .before .before .before .before .before .before .args .n .now) (c .before .before .before .before .before .before .before .before .before .args .controller .now) (c .before .before .before .before .before .before .before .before .before .args .its .now) (c .before .before .before .before .before .before .before .before .before .args .device .now) (c .before .before .before .before .before .before .before .before .before .args .start .now) (c .before .before .before .before .before .before .before .before .before .args .end .now) (c .before .before .before .before .before .before .before .before .before .args .owner .now)) _ (asked-below (c .before .before .before .before .before .before .before .before .before .args .k) (c .before .before .before .before .before .before .before .before .before .args .part) (c .before .before .before .before .before .before .before .before .before .args .kind) rowLimit (sym (c .before .before .before .before .before .before .before .before .is-asked .ensures) ∙ c .before .before .before .before .before .before .before .if1 .taken)) _ (c .before .before .before .before .before .before .range-at .ensures) m w)
+returns c = λ m w. picked _ (sym (c .before .before .before .before .before .before .before .before .has-row .ensures) ∙ c .before .before .before .before .before .before .before .if1 .taken) _ _ _ (ap listOf (c .line .ensures) ∙ range-row-is (ranges (c .before .before .before .before .before .before .before .before .before .args .n .now) (c .before .before .before .before .before .before .before .before .before .args .controller .now) (c .before .before .before .before .before .before .before .before .before .args .its .now) (c .before .before .before .before .before .before .before .before .before .args .device .now) (c .before .before .before .before .before .before .before .before .before .args .start .now) (c .before .before .before .before .before .before .before .before .before .args .end .now) (c .before .before .before .before .before .before .before .before .before .args .owner .now)) _ (asked-below (c .before .before .before .before .before .before .before .before .before .args .k) (c .before .before .before .before .before .before .before .before .before .args .part) (c .before .before .before .before .before .before .before .before .before .args .kind) rowLimit (sym (c .before .before .before .before .before .before .before .before .has-row .ensures) ∙ c .before .before .before .before .before .before .before .if1 .taken)) _ (c .before .before .before .before .before .before .range-at .ensures) m w)
 
 returns-2 : tie.Need-returns-2
-returns-2 c = λ m w. passed _ (sym (c .before .is-asked .ensures) ∙ c .if1 .left) _ _
+returns-2 c = λ m w. passed _ (sym (c .before .has-row .ensures) ∙ c .if1 .left) _ _
 
 pub range-columns-spec : {M : Type 1} → statement M
-range-columns-spec = tie.close (tie.spec is-asked-requires range-at-requires cast-line cast-line-2 cast-line-3 cast-line-4 line-requires returns returns-2)
+range-columns-spec = tie.close (tie.spec has-row-requires range-at-requires cast-line cast-line-2 cast-line-3 cast-line-4 line-requires returns returns-2)

@@ -8,11 +8,11 @@ use Rattle.face.proofs.ReadLaws.{wire-row-is, asked-below, picked, pass
 use Rattle.face.proofs.row.wire_columns.Statement.{statement}
 use Rattle.face.proofs.row.wire_columns.Tie as tie
 
-is-asked-requires : tie.Need-is-asked-requires
-is-asked-requires c κs = search needs
+has-row-requires : tie.Need-has-row-requires
+has-row-requires c κs = search needs
 
 wire-at-requires : tie.Need-wire-at-requires
-wire-at-requires c κs = asked-below (c .before .before .args .k) (c .before .before .args .part) (c .before .before .args .kind) rowLimit (sym (c .before .is-asked .ensures) ∙ c .if1 .taken)
+wire-at-requires c κs = asked-below (c .before .before .args .k) (c .before .before .args .part) (c .before .before .args .kind) rowLimit (sym (c .before .has-row .ensures) ∙ c .if1 .taken)
 
 cast-line : tie.Need-cast-line
 cast-line c = search needs
@@ -30,10 +30,10 @@ line-requires : tie.Need-line-requires
 line-requires c κs = search needs
 
 returns : tie.Need-returns
-returns c = picked _ (sym (c .before .before .before .before .before .before .before .before .is-asked .ensures) ∙ c .before .before .before .before .before .before .before .if1 .taken) _ _ _ (ap listOf (c .line .ensures) ∙ wire-row-is (wires (c .before .before .before .before .before .before .before .before .before .args .n .now) (c .before .before .before .before .before .before .before .before .before .args .controller .now) (c .before .before .before .before .before .before .before .before .before .args .input .now) (c .before .before .before .before .before .before .before .before .before .args .trigger .now) (c .before .before .before .before .before .before .before .before .before .args .sharing .now) (c .before .before .before .before .before .before .before .before .before .args .owner .now)) _ (asked-below (c .before .before .before .before .before .before .before .before .before .args .k) (c .before .before .before .before .before .before .before .before .before .args .part) (c .before .before .before .before .before .before .before .before .before .args .kind) rowLimit (sym (c .before .before .before .before .before .before .before .before .is-asked .ensures) ∙ c .before .before .before .before .before .before .before .if1 .taken)) _ (c .before .before .before .before .before .before .wire-at .ensures))
+returns c = picked _ (sym (c .before .before .before .before .before .before .before .before .has-row .ensures) ∙ c .before .before .before .before .before .before .before .if1 .taken) _ _ _ (ap listOf (c .line .ensures) ∙ wire-row-is (wires (c .before .before .before .before .before .before .before .before .before .args .n .now) (c .before .before .before .before .before .before .before .before .before .args .controller .now) (c .before .before .before .before .before .before .before .before .before .args .input .now) (c .before .before .before .before .before .before .before .before .before .args .trigger .now) (c .before .before .before .before .before .before .before .before .before .args .sharing .now) (c .before .before .before .before .before .before .before .before .before .args .owner .now)) _ (asked-below (c .before .before .before .before .before .before .before .before .before .args .k) (c .before .before .before .before .before .before .before .before .before .args .part) (c .before .before .before .before .before .before .before .before .before .args .kind) rowLimit (sym (c .before .before .before .before .before .before .before .before .has-row .ensures) ∙ c .before .before .before .before .before .before .before .if1 .taken)) _ (c .before .before .before .before .before .before .wire-at .ensures))
 
 returns-2 : tie.Need-returns-2
-returns-2 c = passed _ (sym (c .before .is-asked .ensures) ∙ c .if1 .left) _ _
+returns-2 c = passed _ (sym (c .before .has-row .ensures) ∙ c .if1 .left) _ _
 
 pub wire-columns-spec : {M : Type 1} → statement M
-wire-columns-spec = tie.close (tie.spec is-asked-requires wire-at-requires cast-line cast-line-2 cast-line-3 cast-line-4 line-requires returns returns-2)
+wire-columns-spec = tie.close (tie.spec has-row-requires wire-at-requires cast-line cast-line-2 cast-line-3 cast-line-4 line-requires returns returns-2)
