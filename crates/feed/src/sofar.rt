@@ -5,6 +5,7 @@ use lent::Marks;
 use request::Request;
 use request::Want;
 use request::call::Call;
+use tables::PLAN;
 ghost use mathlib.Core.Path.{_≡_};
 ghost use mathlib.Core.Bool.{_&&_};
 ghost use Prim.Native.Nat.{_<_};
@@ -13,9 +14,6 @@ ghost use Rattle.definition.specs.Tables.{planLimit};
 ghost use Rattle.request.specs.Asked.{requestOf};
 ghost use Rattle.request.specs.Calls.{callOf};
 ghost use Rattle.feed.specs.Sofar.{started, failed, told, headOf, asksOf, nobodys, wantedBy, addedTo, wantedTo, advancedTo};
-
-// As many wants as one text may have.
-const PLAN: usize = 128;
 
 // Where the next line starts; the lines taken and the wants accepted; the five numbers that the last line was answered.
 pub struct Sofar {
@@ -165,7 +163,7 @@ fn added(t: Sofar, next: usize, m: Marks) -> Sofar
     refused(t, next, 10)
 }
 
-// A want, by what its request left: a 129th is 11.
+// A want, by what its request left: one more than a plan has is 11.
 fn wanted(t: Sofar, next: usize, m: Marks) -> Sofar
     requires { ⌜ t .lines < next ⌝ }
     ensures { λ r. ⌜ r ≡ wantedTo t next m ⌝ }

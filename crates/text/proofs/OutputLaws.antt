@@ -69,10 +69,10 @@ module _ (text zs₀ : List ℕ) (t : Sofar) (s : State) (zs : List ℕ) (fed : 
 -- ---- the results list as the code makes it
 
 abbrev pub blank : List ℕ
-blank = replicate 1152 0
+blank = replicate resultsSize 0
 
 pub blank-long : length blank ≡ resultsSize
-blank-long = length-replicate {A = ℕ} 1152 0
+blank-long = length-replicate {A = ℕ} resultsSize 0
 
 -- ---- the buffer
 

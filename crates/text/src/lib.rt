@@ -1,5 +1,9 @@
 // The text call: a plan's text is answered by the bytes of 01's lines.
 use feed::sofar::Sofar;
+use tables::PLAN;
+use tables::RECORD;
+use writers::output::END;
+use writers::output::GOT;
 use writers::output::put_end;
 use writers::output::put_got;
 use writers::output::put_no;
@@ -13,10 +17,14 @@ ghost use Rattle.writers.specs.Put.{Put};
 ghost use Rattle.feed.specs.Step.{resultsSize, Fed};
 ghost use Rattle.text.specs.Respond.{tablesAfter, answeredBy, replied, respondsTo};
 
-// The longest output that any text has, and the longest text.
-pub const OUTPUT: usize = 22553;
+// The longest output that any text has: the longest `got` line for each of the most wants, and `end`.
+pub const OUTPUT: usize = PLAN * GOT + END;
 
+// The longest text.
 pub const TEXT: usize = 32768;
+
+// Numbers of the results of the longest plan.
+const RESULTS: usize = RECORD * PLAN;
 
 // 0 and how many bytes were written; or 11 where the buffer is too short for the longest output, and nothing written.
 pub struct Response {
@@ -41,7 +49,7 @@ pub fn put_gots(out: &mut [u8], n: usize, results: &[u64]) -> usize
     let mut e: usize = 0;
     let mut i: usize = 0;
     while i < n {
-        let from = 9 * i;
+        let from = RECORD * i;
         e = put_got(out, e, &results[from..]);
         i += 1;
     }
@@ -78,7 +86,7 @@ pub fn respond(text: &[u8], out: &mut [u8]) -> Response
             length: e,
         };
     }
-    let mut results = [0u64; 1152];
+    let mut results = [0u64; RESULTS];
     let t = read(text, &mut results);
     let e = answer(out, t, &results);
     Response {

@@ -5,6 +5,7 @@ use Prim.Native.Nat.{ℕ, _*_, _-_}
 use mathlib.Core.List.{List}
 use lib.ListN.{length}
 use borrow.Rule.Slice.PartMut.{putMid}
+use Rattle.definition.specs.Tables.{recordSize}
 use Rattle.steps.specs.Steps.{putFrom}
 use Rattle.steps.proofs.PutLaws.{put-part}
 use Rattle.allocation.specs.Records.{listOf, recordIn}
@@ -40,7 +41,7 @@ returns : tie.Need-returns
 returns c =
     let x = c .before .before .before .before .before .before .before .args in
     let out : List ℕ = x .results .now in
-    let to : ℕ = 9 * x .i in
+    let to : ℕ = recordSize * x .i in
     ap (putMid to (length out - to) out) (c .before .before .write-record .ensures)
     ∙ put-part out (listOf (c .before .before .before .before .record-of .result)) to
     ∙ ap (λ n. putFrom to (listOf n) out) (c .before .before .before .before .record-of .ensures)
@@ -50,7 +51,7 @@ returns-2 : tie.Need-returns-2
 returns-2 c =
     let x = c .before .before .args in
     let out : List ℕ = x .results .now in
-    sym (ap (λ (b : Bool). elim b [ true ↦ putFrom (9 * x .i) (listOf (recordIn (x .r) (x .b))) out | false ↦ out ]) (c .if1 .left))
+    sym (ap (λ (b : Bool). elim b [ true ↦ putFrom (recordSize * x .i) (listOf (recordIn (x .r) (x .b))) out | false ↦ out ]) (c .if1 .left))
 
 pub write-spec : {M : Type 1} → statement M
 write-spec =

@@ -4,6 +4,7 @@ use mathlib.Core.Path.{_≡_}
 use Prim.Native.Nat.{_≤_, _-_, _*_}
 use lib.ListN.{drop, length-drop}
 use borrow.Author.Needs.{needs}
+use Rattle.definition.specs.Tables.{recordSize}
 use Rattle.lines.specs.Output.{gotLine, gotLines}
 use Rattle.writers.specs.Put.{Put}
 use Rattle.writers.proofs.PutLaws.{put-length}
@@ -40,8 +41,8 @@ put-got-requires c κs =
     let a = c .before .before .before .before .before .before .args in
     let l = c .before .before .before .loop in
     let p : Put (a .out .now) 0 (gotLines (l .i) (a .results .now)) (l .e) (l .out) = l .inv .1 in
-    rw (rest-is (a .results .now) (9 * l .i)) (
-      omega (arith, length-drop (9 * l .i) (a .results .now)),
+    rw (rest-is (a .results .now) (recordSize * l .i)) (
+      omega (arith, length-drop (recordSize * l .i) (a .results .now)),
       omega (arith, p .0, gots-room (a .n) (l .i) (a .results .now) (omega arith), put-length (a .out .now) 0 (gotLines (l .i) (a .results .now)) (l .e) (l .out) p),
     )
 
@@ -56,8 +57,8 @@ loop-again c =
     let a = c .before .before .before .before .before .before .before .before .before .args in
     let l = c .before .before .before .before .before .before .loop in
     let p : Put (a .out .now) 0 (gotLines (l .i) (a .results .now)) (l .e) (l .out) = l .inv .1 in
-    let q : Put (l .out) (l .e) (gotLine (drop (9 * l .i) (a .results .now))) (c .before .before .put-got .result) (c .before .before .put-got .last .0) =
-    rw (rest-is (a .results .now) (9 * l .i)) at (c .before .before .put-got .ensures) in
+    let q : Put (l .out) (l .e) (gotLine (drop (recordSize * l .i) (a .results .now))) (c .before .before .put-got .result) (c .before .before .put-got .last .0) =
+    rw (rest-is (a .results .now) (recordSize * l .i)) at (c .before .before .put-got .ensures) in
     (omega arith, gots-turn (a .out .now) (a .results .now) (l .i) (l .e) (c .before .before .put-got .result) (l .out) (c .before .before .put-got .last .0) p q)
 
 same-length : tie.Need-same-length Inv-loop μ-loop

@@ -3,6 +3,7 @@ use native.Mathlib.Omega.{arith}
 use mathlib.Core.Path.{_≡_, ap}
 use lib.ListN.{length}
 use Rattle.lines.proofs.Longest.{output-length}
+use Rattle.feed.specs.Step.{resultsSize}
 use Rattle.text.specs.Respond.{tablesAfter}
 use Rattle.text.proofs.OutputLaws.{output-long, records-inside, output-is, blank, reply-put, reply-short}
 use borrow.Author.Needs.{needs}
@@ -39,7 +40,7 @@ answer-requires : tie.Need-answer-requires
 answer-requires c κs =
     let a = c .before .before .before .before .before .before .before .before .before .args in
     let r = c .before .before .before .read in
-    let long : length (r .last .1 .0) ≡ 1152 = search needs in (
+    let long : length (r .last .1 .0) ≡ resultsSize = search needs in (
       records-inside (a .text .now) blank (r .result) (tablesAfter (a .text .now)) (r .last .1 .0) (r .ensures) long,
       omega (arith, ap length (output-is (a .text .now) blank (r .result) (tablesAfter (a .text .now)) (r .last .1 .0) (r .ensures) long (omega arith)), output-length (a .text .now)),
     )
@@ -51,7 +52,7 @@ returns-3 : tie.Need-returns-3
 returns-3 c =
     let a = c .before .before .before .before .before .before .before .before .before .before .before .before .args in
     let r = c .before .before .before .before .before .before .read in
-    let long : length (r .last .1 .0) ≡ 1152 = search needs in
+    let long : length (r .last .1 .0) ≡ resultsSize = search needs in
     reply-put (a .text .now) (a .out .now) (c .before .before .answer .result) (c .before .before .answer .last .0) (omega arith)
     (rw (output-is (a .text .now) blank (r .result) (tablesAfter (a .text .now)) (r .last .1 .0) (r .ensures) long (omega arith)) (c .before .before .answer .ensures))
 
