@@ -1,3 +1,4 @@
 pub mod PinLaws
 pub mod NarrowLaws
+pub mod ChoiceLaws
 pub mod BackLaws
