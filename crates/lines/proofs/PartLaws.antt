@@ -1,5 +1,5 @@
 -- Laws of parts: one turn of the code that looks for a byte or compares bytes, and what a first part is. Assumes nothing.
-use mathlib.Core.Path.{_≡_, refl, sym, _∙_, ap}
+use mathlib.Core.Path.{_≡_, refl, sym, _∙_, ap, subst}
 use mathlib.Core.Bool.{Bool, true, false, _&&_}
 use mathlib.Core.List.{List, [], _∷_}
 use Prim.Native.Nat.{ℕ, suc, _+_, _-_, _<_, _≤_}
@@ -55,6 +55,10 @@ module _ (c : ℕ) (s : List ℕ) (i : ℕ) where
   pub first-end : length s ≤ i → first c (drop i s) ≡ 0
   unfolding first
   first-end l = rw (drop-of-length-le s {i = i} l)
+
+-- one byte that is not c is passed
+pub first-skips : (c : ℕ) (s : List ℕ) (j k : ℕ) → k ≡ j + 1 → j < length s → (getD s j 0 ≡ c → ⊥) → j + first c (drop j s) ≡ k + first c (drop k s)
+first-skips c s j k e l n = subst (λ (m : ℕ). j + first c (drop j s) ≡ m + first c (drop m s)) (sym e) (omega (arith, first-past c s j l n))
 
 pub first-within : (c : ℕ) (s : List ℕ) → first c s ≤ length s
 unfolding first

@@ -17,10 +17,10 @@ pub const N64: u64 = 18446744073709551615;
 
 pub const AUTO: u64 = 0;
 
-// The numbers of a line's fields, zeros behind them; all zeros where the fields are not good.
+// The numbers of a line's fields, zeros behind them; all zeros where the fields are not good. The numbers stand first: a copy of the row is then a copy of whole words.
 pub struct Row {
-    pub good: bool,
     pub n: [u64; 8],
+    pub good: bool,
 }
 
 // Fields that are not good.
@@ -28,8 +28,8 @@ pub fn bad_row() -> Row
     ensures { λ r. ⌜ r ≡ rowOf none ⌝ }
 {
     Row {
-        good: false,
         n: [0u64; 8],
+        good: false,
     }
 }
 
@@ -65,7 +65,7 @@ pub fn read_numbers(rest: &[u8], most: &[u64]) -> Row
         i += 1;
         if rest.len() <= e {
             if i == m {
-                return Row { good: true, n };
+                return Row { n, good: true };
             }
             return bad_row();
         }

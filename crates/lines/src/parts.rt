@@ -10,6 +10,32 @@ pub fn find(s: &[u8], from: usize, c: u8) -> usize
     requires { ⌜ from ≤ length (now s) ⌝ }
     ensures { λ r. ⌜ r ≡ from + first c (drop from (now (s .entry))) ⌝ }
 {
+    let n = s.len();
+    let mut i = from;
+    // four at a time: a text's bytes are looked at twice, for its lines and for their fields
+    while 4 <= n - i {
+        if s[i] == c {
+            return i;
+        }
+        if s[i + 1] == c {
+            return i + 1;
+        }
+        if s[i + 2] == c {
+            return i + 2;
+        }
+        if s[i + 3] == c {
+            return i + 3;
+        }
+        i += 4;
+    }
+    find_near(s, i, c)
+}
+
+// .. one at a time.
+fn find_near(s: &[u8], from: usize, c: u8) -> usize
+    requires { ⌜ from ≤ length (now s) ⌝ }
+    ensures { λ r. ⌜ r ≡ from + first c (drop from (now (s .entry))) ⌝ }
+{
     let mut i = from;
     while i < s.len() {
         if s[i] == c {
