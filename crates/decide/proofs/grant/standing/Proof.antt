@@ -2,6 +2,7 @@
 use native.Mathlib.Omega.{arith}
 use borrow.Author.Tests.{lt-ltb, le-ltb}
 use borrow.Author.Needs.{needs}
+use Rattle.definition.specs.Tables.{rowLimit}
 use Rattle.decide.proofs.grant.standing.Statement.{statement}
 use Rattle.decide.proofs.grant.standing.Tie as tie
 
@@ -12,13 +13,13 @@ enum-known-chosen-2 : tie.Need-enum-known-chosen-2
 enum-known-chosen-2 c = search needs
 
 returns : tie.Need-returns
-returns c = rw (c .before .before .before .chosen2 .given .1, lt-ltb (c .before .before .before .before .before .args .seen .at) 128 (omega arith))
+returns c = rw (c .before .before .before .chosen2 .given .1, lt-ltb (c .before .before .before .before .before .args .seen .at) rowLimit (omega arith))
 
 returns-2 : tie.Need-returns-2
 returns-2 c = rw (c .before .chosen .given .1)
 
 returns-3 : tie.Need-returns-3
-returns-3 c = rw (c .before .before .before .chosen2 .given .1, le-ltb (c .before .before .before .before .before .args .seen .at) 128 (omega arith))
+returns-3 c = rw (c .before .before .before .chosen2 .given .1, le-ltb (c .before .before .before .before .before .args .seen .at) rowLimit (omega arith))
 
 pub standing-spec : {M : Type 1} → statement M
 standing-spec = tie.close (tie.spec enum-known-chosen enum-known-chosen-2 returns returns-2 returns-3)
