@@ -71,7 +71,7 @@ abbrev pub allRows : List Grant → List Claim
 allRows [] = []
 allRows (g ∷ gs) = g .rows ++ allRows gs
 
-unfoldable pub roomy : List Request → List ℕ → Bool  -- 11: over 128 requests, or a results list shorter than 9 numbers a request
+unfoldable pub roomy : List Request → List ℕ → Bool  -- 11: more requests than a plan may have, or a results list shorter than their records
 roomy rs out = leb (length rs) planLimit && leb (recordSize * length rs) (length out)
 
 abbrev pub atOnce : Answer Run → Run
