@@ -14,7 +14,7 @@ pio-limits-requires : tie.Need-pio-limits-requires
 pio-limits-requires c κs = search needs
 
 range-answer-requires : tie.Need-range-answer-requires
-range-answer-requires c κs = (c .pio-limits .ensures, refl, λ h. let g = ports-says _ _ _ (request-says _ (sym (c .before .good-request .ensures) ∙ h)) in record { size = g .size; align = g .align })
+range-answer-requires c κs = (c .pio-limits .ensures, (refl, λ h. let g = ports-says _ _ _ (request-says _ (sym (c .before .good-request .ensures) ∙ h)) in record { size = g .size; align = g .align }))
 
 returns : tie.Need-returns
 unfolding claims
