@@ -3,7 +3,7 @@ use mathlib.Core.Path.{_≡_}
 use mathlib.Core.Bool.{Bool, true, false}
 use mathlib.Core.List.{List, [], _∷_}
 use Prim.Native.Nat.{ℕ, suc, min}
-use lib.Dec.{T, eqb, leb}
+use lib.Dec.{T as Holds}
 use Rattle.definition.specs.Tables.{top, nature, fits, fitsSpan, Span}
 use Rattle.definition.specs.Pools.{In, Claim, spans, heldRows}
 use Rattle.tables.specs.declared.PoolRow.{PoolRow}
@@ -19,6 +19,13 @@ use Rattle.request.specs.declared.call.Hold.the-variants as H
 use Rattle.request.specs.declared.call.Call.{Call}
 use Rattle.request.specs.declared.call.Call.the-variants as C
 use Rattle.admit.specs.Rows.{poolRow, heldRow, wireRow, noPoolRow, noRow, noWire}
+use Rattle.tables.specs.Views.{sameOf}
+use Rattle.tables.specs.declared.Kind.{Kind}
+use Rattle.tables.specs.declared.Kind.the-variants as K
+use Rattle.admit.specs.declared.To.{To}
+use Rattle.admit.specs.declared.To.the-variants as T
+use Rattle.admit.specs.declared.What.{What}
+use Rattle.admit.specs.declared.What.the-variants as W
 use Rattle.admit.specs.declared.Adds.{Adds}
 use Rattle.admit.specs.declared.Ask.{Ask}
 use Rattle.admit.specs.declared.WireAsk.{WireAsk}
@@ -30,41 +37,41 @@ pick false a b = b
 
 -- ---- calls
 
-abbrev pub ranged : ℕ → ℕ → PoolRow → PoolRow → PoolRow → Adds
-ranged to k a b c = record { to = to; kind = k; first = a; second = b; third = c; row = noRow; wire = noWire }
+abbrev pub ranged : To → What → PoolRow → PoolRow → PoolRow → Adds
+ranged to k a b c = record { to = to; what = k; first = a; second = b; third = c; row = noRow; wire = noWire }
 
-abbrev pub held : ℕ → RangeRow → WireRow → Adds
-held k r w = record { to = 3; kind = k; first = noPoolRow; second = noPoolRow; third = noPoolRow; row = r; wire = w }
+abbrev pub held : What → RangeRow → WireRow → Adds
+held k r w = record { to = T.Held; what = k; first = noPoolRow; second = noPoolRow; third = noPoolRow; row = r; wire = w }
 
-abbrev pub useNumber : Use → ℕ
-useNumber U.Automatic = 1
-useNumber U.Fixed = 2
+abbrev pub useTo : Use → To
+useTo U.Automatic = T.Automatic
+useTo U.Fixed = T.Fixed
 
-abbrev pub once : ℕ → ℕ → PoolRow → Adds
+abbrev pub once : To → What → PoolRow → Adds
 once to k r = ranged to k r r r
 
-abbrev pub poolAdds : ℕ → PoolRange → Adds
-poolAdds to (P.Mmio s e) = once to 1 (poolRow 0 0 s e)
-poolAdds to (P.Pio s e) = once to 2 (poolRow 0 0 s e)
-poolAdds to (P.Host s e) = once to 4 (poolRow 0 0 s e)
-poolAdds to (P.Input c s e) = once to 3 (poolRow c 0 s e)
-poolAdds to (P.Msi c i d e l) = ranged to 8 (poolRow c i (d .start .0) (d .end .0)) (poolRow c i (e .start .0) (e .end .0)) (poolRow c 0 (l .start .0) (l .end .0))
+abbrev pub poolAdds : To → PoolRange → Adds
+poolAdds to (P.Mmio s e) = once to (W.One K.Mmio) (poolRow 0 0 s e)
+poolAdds to (P.Pio s e) = once to (W.One K.Pio) (poolRow 0 0 s e)
+poolAdds to (P.Host s e) = once to (W.One K.Host) (poolRow 0 0 s e)
+poolAdds to (P.Input c s e) = once to (W.One K.Input) (poolRow c 0 s e)
+poolAdds to (P.Msi c i d e l) = ranged to W.Domain (poolRow c i (d .start .0) (d .end .0)) (poolRow c i (e .start .0) (e .end .0)) (poolRow c 0 (l .start .0) (l .end .0))
 
 abbrev pub holdAdds : ℕ → Hold → Adds
-holdAdds o (H.Mmio s e) = held 1 (heldRow 0 0 0 s e o) noWire
-holdAdds o (H.Pio s e) = held 2 (heldRow 0 0 0 s e o) noWire
-holdAdds o (H.Host s e) = held 4 (heldRow 0 0 0 s e o) noWire
-holdAdds o (H.Input c n t s) = held 3 noRow (wireRow c n t s o)
-holdAdds o (H.Devices c i d) = held 5 (heldRow c i 0 (d .start .0) (d .end .0) o) noWire
-holdAdds o (H.Events c i v e) = held 6 (heldRow c i (v .0) (e .start .0) (e .end .0) o) noWire
-holdAdds o (H.Lpis c l) = held 7 (heldRow c 0 0 (l .start .0) (l .end .0) o) noWire
-holdAdds o (H.Pair c n t h) = held 9 (heldRow 0 0 0 h (min (suc h) (top 64)) o) (wireRow c n t 0 o)
+holdAdds o (H.Mmio s e) = held (W.One K.Mmio) (heldRow 0 0 0 s e o) noWire
+holdAdds o (H.Pio s e) = held (W.One K.Pio) (heldRow 0 0 0 s e o) noWire
+holdAdds o (H.Host s e) = held (W.One K.Host) (heldRow 0 0 0 s e o) noWire
+holdAdds o (H.Input c n t s) = held (W.One K.Input) noRow (wireRow c n t s o)
+holdAdds o (H.Devices c i d) = held (W.One K.Device) (heldRow c i 0 (d .start .0) (d .end .0) o) noWire
+holdAdds o (H.Events c i v e) = held (W.One K.Event) (heldRow c i (v .0) (e .start .0) (e .end .0) o) noWire
+holdAdds o (H.Lpis c l) = held (W.One K.Lpi) (heldRow c 0 0 (l .start .0) (l .end .0) o) noWire
+holdAdds o (H.Pair c n t h) = held W.Pair (heldRow 0 0 0 h (min (suc h) (top 64)) o) (wireRow c n t 0 o)
 
 abbrev pub nothing : Adds
-nothing = once 0 0 noPoolRow
+nothing = once T.Nowhere W.Nothing noPoolRow
 
 abbrev pub addsOf : Call → Adds
-addsOf (C.Pool u p) = poolAdds (useNumber u) p
+addsOf (C.Pool u p) = poolAdds (useTo u) p
 addsOf (C.Hold o h) = holdAdds o h
 addsOf C.Start = nothing
 addsOf (C.Want r) = nothing
@@ -90,13 +97,13 @@ startsOf C.Bad = false
 
 abbrev pub Fitting : List (In Span) → Type 0
 Fitting [] = Unit {0}
-Fitting (c ∷ cs) = T (fitsSpan (c .kind) (c .row)) × Fitting cs
+Fitting (c ∷ cs) = Holds (fitsSpan (c .kind) (c .row)) × Fitting cs
 
 abbrev pub FittingRows : List Claim → Type 0
 FittingRows [] = Unit {0}
-FittingRows (c ∷ cs) = (nature (c .kind) .wired ≡ false → T (fits (c .kind) (c .row))) × FittingRows cs
+FittingRows (c ∷ cs) = (nature (c .kind) .wired ≡ false → Holds (fits (c .kind) (c .row))) × FittingRows cs
 
-pub record PoolAsked (to : ℕ) (p : PoolRange) (q : Adds) : Type 0 where
+pub record PoolAsked (to : To) (p : PoolRange) (q : Adds) : Type 0 where
   pub is : q ≡ poolAdds to p
   pub fit : Fitting (spans (poolCall p))
 
@@ -117,21 +124,60 @@ pub record Asked (c : Call) (q : Adds) : Type 0 where
 
 -- ---- the tables of kind k
 
--- a call of this kind has a row for them
-abbrev pub goesTo : ℕ → ℕ → Bool
-goesTo kind k = pick (eqb kind k) true (pick (eqb kind 8) (leb 5 k) (pick (eqb kind 9) (pick (eqb k 3) true (eqb k 4)) false))
+abbrev pub inDomain : Kind → Bool
+inDomain K.Mmio = false
+inDomain K.Pio = false
+inDomain K.Input = false
+inDomain K.Host = false
+inDomain K.Device = true
+inDomain K.Event = true
+inDomain K.Lpi = true
 
-abbrev pub turnOf : ℕ → ℕ → ℕ
-turnOf kind k = pick (eqb kind 8) (pick (eqb k 6) 1 (pick (eqb k 7) 2 0)) 0
+abbrev pub inPair : Kind → Bool
+inPair K.Mmio = false
+inPair K.Pio = false
+inPair K.Input = true
+inPair K.Host = true
+inPair K.Device = false
+inPair K.Event = false
+inPair K.Lpi = false
 
-abbrev pub rangeFor : Adds → ℕ → PoolRow
-rangeFor q k = pick (eqb k 6) (q .second) (pick (eqb k 7) (q .third) (q .first))
+-- there is a row for them
+abbrev pub goesTo : What → Kind → Bool
+goesTo W.Nothing k = false
+goesTo (W.One j) k = sameOf k j
+goesTo W.Domain k = inDomain k
+goesTo W.Pair k = inPair k
 
-abbrev pub sent : Adds → ℕ → ℕ
-sent q k = pick (goesTo (q .kind) k) (q .to) 0
+abbrev pub turnIn : Kind → ℕ
+turnIn K.Mmio = 0
+turnIn K.Pio = 0
+turnIn K.Input = 0
+turnIn K.Host = 0
+turnIn K.Device = 0
+turnIn K.Event = 1
+turnIn K.Lpi = 2
 
-abbrev pub askOf : Adds → ℕ → Ask
+abbrev pub turnOf : What → Kind → ℕ
+turnOf W.Nothing k = 0
+turnOf (W.One j) k = 0
+turnOf W.Domain k = turnIn k
+turnOf W.Pair k = 0
+
+abbrev pub rangeFor : Adds → Kind → PoolRow
+rangeFor q K.Mmio = q .first
+rangeFor q K.Pio = q .first
+rangeFor q K.Input = q .first
+rangeFor q K.Host = q .first
+rangeFor q K.Device = q .first
+rangeFor q K.Event = q .second
+rangeFor q K.Lpi = q .third
+
+abbrev pub sent : Adds → Kind → To
+sent q k = pick (goesTo (q .what) k) (q .to) T.Nowhere
+
+abbrev pub askOf : Adds → Kind → Ask
 askOf q k = record { to = sent q k; range = rangeFor q k; row = q .row }
 
 abbrev pub wireAskOf : Adds → WireAsk
-wireAskOf q = record { to = sent q 3; range = q .first; row = q .wire }
+wireAskOf q = record { to = sent q K.Input; range = q .first; row = q .wire }

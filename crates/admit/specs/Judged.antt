@@ -1,6 +1,6 @@
 -- What comes of the tables' answers, and what is stored. Assumes nothing.
 use mathlib.Core.Path.{_≡_}
-use mathlib.Core.Bool.{Bool, true, false, _&&_}
+use mathlib.Core.Bool.{Bool, true, false, not}
 use Prim.Native.Nat.{ℕ}
 use lib.Dec.{eqb, ltb}
 use Rattle.definition.specs.Tables.{Span, Table, used}
@@ -10,6 +10,12 @@ use Rattle.range.specs.declared.Reply.{Reply}
 use Rattle.store.specs.declared.Put.{Put}
 use Rattle.store.specs.declared.WirePut.{WirePut}
 use Rattle.admit.specs.Adds.{pick, goesTo, turnOf, rangeFor}
+use Rattle.tables.specs.declared.Kind.{Kind}
+use Rattle.tables.specs.declared.Kind.the-variants as K
+use Rattle.admit.specs.declared.To.{To}
+use Rattle.admit.specs.declared.To.the-variants as T
+use Rattle.admit.specs.declared.What.{What}
+use Rattle.admit.specs.declared.What.the-variants as W
 use Rattle.admit.specs.declared.Adds.{Adds}
 use Rattle.admit.specs.declared.Verdict.{Verdict}
 use Rattle.admit.specs.declared.PoolPut.{PoolPut}
@@ -25,29 +31,50 @@ wholly q r = judged q (pick (eqb (r .number) 0) 3 0) r
 abbrev pub inTurn : Adds → Reply → Reply → Reply → Verdict
 inTurn q d e l = pick (eqb (d .number) 0) (pick (eqb (e .number) 0) (pick (eqb (l .number) 0) (judged q 3 l) (judged q 2 l)) (judged q 1 e)) (judged q 0 d)
 
-abbrev pub oneOf : ℕ → Reply → Reply → Reply → Reply → Reply → Reply → Reply → Reply
-oneOf k m p i h d e l = pick (eqb k 1) m (pick (eqb k 2) p (pick (eqb k 3) i (pick (eqb k 4) h (pick (eqb k 5) d (pick (eqb k 6) e l)))))
+abbrev pub oneOf : Kind → Reply → Reply → Reply → Reply → Reply → Reply → Reply → Reply
+oneOf K.Mmio m p i h d e l = m
+oneOf K.Pio m p i h d e l = p
+oneOf K.Input m p i h d e l = i
+oneOf K.Host m p i h d e l = h
+oneOf K.Device m p i h d e l = d
+oneOf K.Event m p i h d e l = e
+oneOf K.Lpi m p i h d e l = l
+
+abbrev pub verdictBy : What → Adds → Reply → Reply → Reply → Reply → Reply → Reply → Reply → Verdict
+verdictBy W.Nothing q m p i h d e l = wholly q (record { number = 0; owner = 0 })
+verdictBy (W.One k) q m p i h d e l = wholly q (oneOf k m p i h d e l)
+verdictBy W.Domain q m p i h d e l = inTurn q d e l
+verdictBy W.Pair q m p i h d e l = wholly q (earlierOf i h)
 
 abbrev pub verdictOf : Adds → Reply → Reply → Reply → Reply → Reply → Reply → Reply → Verdict
-verdictOf q m p i h d e l = pick (eqb (q .kind) 8) (inTurn q d e l) (pick (eqb (q .kind) 9) (wholly q (earlierOf i h)) (wholly q (oneOf (q .kind) m p i h d e l)))
+verdictOf q m p i h d e l = verdictBy (q .what) q m p i h d e l
 
 -- ---- the rows that are stored
 
-abbrev pub staysOf : Verdict → ℕ → ℕ → Bool
-staysOf v to k = pick (eqb (v .adds .to) to) (pick (goesTo (v .adds .kind) k) (ltb (turnOf (v .adds .kind) k) (v .rows)) false) false
+abbrev pub toNumber : To → ℕ
+toNumber T.Nowhere = 0
+toNumber T.Automatic = 1
+toNumber T.Fixed = 2
+toNumber T.Held = 3
+
+abbrev pub sameTo : To → To → Bool
+sameTo a b = eqb (toNumber a) (toNumber b)
+
+abbrev pub staysOf : Verdict → To → Kind → Bool
+staysOf v to k = pick (sameTo (v .adds .to) to) (pick (goesTo (v .adds .what) k) (ltb (turnOf (v .adds .what) k) (v .rows)) false) false
 
 -- no row is for the tables that `to` names
-abbrev pub idleOf : Verdict → ℕ → Bool
-idleOf v to = pick (eqb (v .adds .to) to) false true
+abbrev pub idleOf : Verdict → To → Bool
+idleOf v to = not (sameTo (v .adds .to) to)
 
-abbrev pub poolPutOf : Verdict → ℕ → ℕ → PoolPut
+abbrev pub poolPutOf : Verdict → To → Kind → PoolPut
 poolPutOf v to k = record { go = staysOf v to k; row = rangeFor (v .adds) k }
 
-abbrev pub heldPutOf : Verdict → ℕ → Put
-heldPutOf v k = record { go = staysOf v 3 k; row = v .adds .row }
+abbrev pub heldPutOf : Verdict → Kind → Put
+heldPutOf v k = record { go = staysOf v T.Held k; row = v .adds .row }
 
 abbrev pub wirePutOf : Verdict → WirePut
-wirePutOf v = record { go = staysOf v 3 3; row = v .adds .wire }
+wirePutOf v = record { go = staysOf v T.Held K.Input; row = v .adds .wire }
 
 -- a pool table with the range, or as it was
 abbrev pub enteredView : PoolPut → Table Span → Table Span

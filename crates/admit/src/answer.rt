@@ -1,6 +1,8 @@
 // What the tables of one kind answer, read through references.
 use super::Ask;
+use super::To;
 use super::WireAsk;
+use super::plain;
 use range::Reply;
 use tables::POOL_ROWS;
 use tables::Pool;
@@ -31,22 +33,16 @@ pub fn range_columns<'a>(
     ask: Ask,
 ) -> Reply
     requires { ⌜ Fit (pool (now pn) (now pc) (now pi) (now ps) (now pe)) (pool (now nf) (now fc) (now fi) (now fs) (now fe)) (now hn) ⌝ }
-    ensures { λ r. ⌜ Tells (pool (now (pn .entry)) (now (pc .entry)) (now (pi .entry)) (now (ps .entry)) (now (pe .entry))) (pool (now (nf .entry)) (now (fc .entry)) (now (fi .entry)) (now (fs .entry)) (now (fe .entry))) (ranges (now (hn .entry)) (now (hc .entry)) (now (hi .entry)) (now (hd .entry)) (now (hs .entry)) (now (he .entry)) (now (ho .entry))) ask r ⌝ }
+    ensures { λ r. ⌜ Tells (pool (now (pn .entry)) (now (pc .entry)) (now (pi .entry)) (now (ps .entry)) (now (pe .entry))) (pool (now (nf .entry)) (now (fc .entry)) (now (fi .entry)) (now (fs .entry)) (now (fe .entry))) (ranges (now (hn .entry)) (now (hc .entry)) (now (hi .entry)) (now (hd .entry)) (now (hs .entry)) (now (he .entry)) (now (ho .entry))) ask (ask .to) r ⌝ }
 {
     let range = ask.range;
     let row = ask.row;
-    if ask.to == 1 {
-        return range::refuse_pool(*pn, pc, pi, ps, pe, range);
-    }
-    if ask.to == 2 {
-        return range::refuse_pool(*nf, fc, fi, fs, fe, range);
-    }
-    if ask.to == 3 {
-        return range::refuse_range(*hn, hc, hi, hd, hs, he, ho, row);
-    }
-    Reply {
-        number: 0,
-        owner: 0,
+    let to = ask.to;
+    match to {
+        To::Nowhere => plain(0),
+        To::Automatic => range::refuse_pool(*pn, pc, pi, ps, pe, range),
+        To::Fixed => range::refuse_pool(*nf, fc, fi, fs, fe, range),
+        To::Held => range::refuse_range(*hn, hc, hi, hd, hs, he, ho, row),
     }
 }
 
@@ -70,22 +66,16 @@ pub fn wire_columns<'a>(
     ask: WireAsk,
 ) -> Reply
     requires { ⌜ Fit (pool (now pn) (now pc) (now pi) (now ps) (now pe)) (pool (now nf) (now fc) (now fi) (now fs) (now fe)) (now hn) ⌝ }
-    ensures { λ r. ⌜ TellsWire (pool (now (pn .entry)) (now (pc .entry)) (now (pi .entry)) (now (ps .entry)) (now (pe .entry))) (pool (now (nf .entry)) (now (fc .entry)) (now (fi .entry)) (now (fs .entry)) (now (fe .entry))) (wires (now (hn .entry)) (now (hc .entry)) (now (hx .entry)) (now (ht .entry)) (now (hs .entry)) (now (ho .entry))) ask r ⌝ }
+    ensures { λ r. ⌜ TellsWire (pool (now (pn .entry)) (now (pc .entry)) (now (pi .entry)) (now (ps .entry)) (now (pe .entry))) (pool (now (nf .entry)) (now (fc .entry)) (now (fi .entry)) (now (fs .entry)) (now (fe .entry))) (wires (now (hn .entry)) (now (hc .entry)) (now (hx .entry)) (now (ht .entry)) (now (hs .entry)) (now (ho .entry))) ask (ask .to) r ⌝ }
 {
     let range = ask.range;
     let row = ask.row;
-    if ask.to == 1 {
-        return range::refuse_pool(*pn, pc, pi, ps, pe, range);
-    }
-    if ask.to == 2 {
-        return range::refuse_pool(*nf, fc, fi, fs, fe, range);
-    }
-    if ask.to == 3 {
-        return range::wired::refuse_input(*hn, hc, hx, ht, hs, ho, row);
-    }
-    Reply {
-        number: 0,
-        owner: 0,
+    let to = ask.to;
+    match to {
+        To::Nowhere => plain(0),
+        To::Automatic => range::refuse_pool(*pn, pc, pi, ps, pe, range),
+        To::Fixed => range::refuse_pool(*nf, fc, fi, fs, fe, range),
+        To::Held => range::wired::refuse_input(*hn, hc, hx, ht, hs, ho, row),
     }
 }
 

@@ -1,7 +1,7 @@
 // Rows for the reservations: what a call has an owner hold.
 use super::Adds;
-use super::HELD;
-use super::PAIR;
+use super::To;
+use super::What;
 use super::pools::no_pool_row;
 use range::past;
 use range::wide;
@@ -11,6 +11,7 @@ use request::call::Events;
 use request::call::Hold;
 use request::call::Lpis;
 use tables::DeviceId;
+use tables::Kind;
 use tables::RangeRow;
 use tables::WireRow;
 ghost use mathlib.Core.Path.{_≡_};
@@ -59,13 +60,13 @@ pub fn wire(controller: u32, input: u64, trigger: u32, sharing: u32, owner: u32)
 }
 
 // Rows for the reservations: a range, an input, or one of each.
-fn rows(kind: u64, row: RangeRow, input: WireRow) -> Adds
-    ensures { λ q. ⌜ q ≡ held kind row input ⌝ }
+fn rows(what: What, row: RangeRow, input: WireRow) -> Adds
+    ensures { λ q. ⌜ q ≡ held what row input ⌝ }
 {
     let none = no_pool_row();
     Adds {
-        to: HELD,
-        kind,
+        to: To::Held,
+        what,
         first: none,
         second: none,
         third: none,
@@ -86,7 +87,7 @@ fn of_devices(owner: u32, controller: u32, its: u32, ids: Devices) -> Adds
         wide(ids.end.0),
         owner,
     );
-    rows(5, r, wire(0, 0, 0, 0, 0))
+    rows(What::One(Kind::Device), r, wire(0, 0, 0, 0, 0))
 }
 
 // A range of EventIDs of one DeviceID.
@@ -101,7 +102,7 @@ fn of_events(owner: u32, controller: u32, its: u32, id: DeviceId, ids: Events) -
         wide(ids.end.0),
         owner,
     );
-    rows(6, r, wire(0, 0, 0, 0, 0))
+    rows(What::One(Kind::Event), r, wire(0, 0, 0, 0, 0))
 }
 
 // A range of LPIs of one controller.
@@ -109,7 +110,7 @@ fn of_lpis(owner: u32, controller: u32, ids: Lpis) -> Adds
     ensures { λ q. ⌜ HoldAsked owner (lpisHeld controller ids) q ⌝ }
 {
     let r = row(controller, 0, 0, wide(ids.start.0), wide(ids.end.0), owner);
-    rows(7, r, wire(0, 0, 0, 0, 0))
+    rows(What::One(Kind::Lpi), r, wire(0, 0, 0, 0, 0))
 }
 
 // An input, Exclusive, with a host IRQ.
@@ -117,7 +118,7 @@ fn of_pair(owner: u32, controller: u32, input: u64, trigger: u32, irq: u64) -> A
     ensures { λ q. ⌜ HoldAsked owner (pairHeld controller input trigger irq) q ⌝ }
 {
     let r = row(0, 0, 0, irq, past(irq), owner);
-    rows(PAIR, r, wire(controller, input, trigger, 0, owner))
+    rows(What::Pair, r, wire(controller, input, trigger, 0, owner))
 }
 
 // Something held by an owner.
@@ -125,15 +126,23 @@ pub fn of_hold(owner: u32, h: Hold) -> Adds
     ensures { λ q. ⌜ HoldAsked owner h q ⌝ }
 {
     match h {
-        Hold::Mmio(a, b) => rows(1, row(0, 0, 0, a, b, owner), wire(0, 0, 0, 0, 0)),
+        Hold::Mmio(a, b) => rows(
+            What::One(Kind::Mmio),
+            row(0, 0, 0, a, b, owner),
+            wire(0, 0, 0, 0, 0),
+        ),
         Hold::Pio(a, b) => rows(
-            2,
+            What::One(Kind::Pio),
             row(0, 0, 0, wide16(a), wide16(b), owner),
             wire(0, 0, 0, 0, 0),
         ),
-        Hold::Host(a, b) => rows(4, row(0, 0, 0, a, b, owner), wire(0, 0, 0, 0, 0)),
+        Hold::Host(a, b) => rows(
+            What::One(Kind::Host),
+            row(0, 0, 0, a, b, owner),
+            wire(0, 0, 0, 0, 0),
+        ),
         Hold::Input(c, n, trigger, sharing) => rows(
-            3,
+            What::One(Kind::Input),
             no_row(),
             wire(c, n, trigger, sharing, owner),
         ),

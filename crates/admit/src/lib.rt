@@ -3,11 +3,10 @@ use holds::of_hold;
 use pools::no_pool_row;
 use pools::of_pool;
 use pools::ranges;
-use pools::use_number;
+use pools::use_to;
 use range::Reply;
 use request::call::Call;
-use store::Put;
-use store::WirePut;
+use tables::Kind;
 use tables::Pool;
 use tables::PoolRow;
 use tables::RangeRow;
@@ -17,29 +16,38 @@ ghost use mathlib.Core.Bool.{not};
 ghost use lib.Dec.{T};
 ghost use Rattle.definition.specs.Tables.{poolLimit, sameSpan, blankSpan, tidy};
 ghost use Rattle.tables.specs.Views.{poolView};
-ghost use Rattle.admit.specs.Adds.{nothing, goesTo, turnOf, rangeFor, askOf, wireAskOf, passesOf, startsOf, Asked};
-ghost use Rattle.admit.specs.Judged.{idleOf, oneOf, wholly, inTurn, verdictOf, staysOf, poolPutOf, heldPutOf, wirePutOf, enteredView};
+ghost use Rattle.admit.specs.Adds.{nothing, inDomain, inPair, goesTo, turnIn, turnOf, rangeFor, passesOf, startsOf, Asked};
+ghost use Rattle.admit.specs.Judged.{oneOf, wholly, inTurn, verdictOf, enteredView};
 
 pub mod answer;
+pub mod asking;
+pub mod auto;
+pub mod enter;
+pub mod fixed;
 pub mod holds;
 pub mod pools;
+pub mod put;
 
-// Where a call's rows go: to the automatic pools, the fixed pools, the reservations. 0 is nowhere.
-pub const AUTOMATIC: u64 = 1;
+// Where a call's rows go: to the automatic pools, to the fixed pools, to the reservations.
+pub enum To {
+    Nowhere,
+    Automatic,
+    Fixed,
+    Held,
+}
 
-pub const FIXED: u64 = 2;
+// What a call has rows for: nothing, the table of one kind, those of an MSI domain (devices, events, LPIs), those of a pair (an input and a host IRQ).
+pub enum What {
+    Nothing,
+    One(Kind),
+    Domain,
+    Pair,
+}
 
-pub const HELD: u64 = 3;
-
-// The tables, as kinds: MMIO 1, ports 2, inputs 3, host IRQs 4, devices 5, events 6, LPIs 7. An MSI domain is for 5, 6 and 7, a pair for 3 and 4.
-pub const DOMAIN: u64 = 8;
-
-pub const PAIR: u64 = 9;
-
-// What a call adds: the kind, and the rows for its tables. Of `first`, `second` and `third` a kind other than an MSI domain has the first alone.
+// What a call adds: the rows for its tables. Of `first`, `second` and `third` a call that is no MSI domain has the first alone.
 pub struct Adds {
-    pub to: u64,
-    pub kind: u64,
+    pub to: To,
+    pub what: What,
     pub first: PoolRow,
     pub second: PoolRow,
     pub third: PoolRow,
@@ -47,16 +55,16 @@ pub struct Adds {
     pub wire: WireRow,
 }
 
-// What the tables of one kind are asked: nothing where `to` is 0, else whether the table that it names takes the row.
+// What the tables of one kind are asked: whether the table that `to` names takes the row.
 pub struct Ask {
-    pub to: u64,
+    pub to: To,
     pub range: PoolRow,
     pub row: RangeRow,
 }
 
 // .. those of inputs.
 pub struct WireAsk {
-    pub to: u64,
+    pub to: To,
     pub range: PoolRow,
     pub row: WireRow,
 }
@@ -81,15 +89,15 @@ fn nothing() -> Adds
     ensures { λ q. ⌜ q ≡ nothing ⌝ }
 {
     let none = no_pool_row();
-    ranges(0, 0, none, none, none)
+    ranges(To::Nowhere, What::Nothing, none, none, none)
 }
 
-// What a call adds; one that adds nothing has the kind 0.
+// What a call adds.
 pub fn asked(c: Call) -> Adds
     ensures { λ q. ⌜ Asked c q ⌝ }
 {
     match c {
-        Call::Pool(u, p) => of_pool(use_number(u), p),
+        Call::Pool(u, p) => of_pool(use_to(u), p),
         Call::Hold(owner, h) => of_hold(owner, h),
         Call::Start => nothing(),
         Call::Want(_) => nothing(),
@@ -97,85 +105,90 @@ pub fn asked(c: Call) -> Adds
     }
 }
 
-// ---- what a kind's tables are asked
+// ---- which tables
 
-// Whether a call of this kind has a row for the tables of kind `k`.
-pub fn goes(kind: u64, k: u64) -> bool
-    ensures { λ b. ⌜ b ≡ goesTo kind k ⌝ }
+// Whether an MSI domain has a row for the tables of a kind.
+fn in_domain(k: Kind) -> bool
+    ensures { λ b. ⌜ b ≡ inDomain k ⌝ }
 {
-    if kind == k {
-        return true;
+    match k {
+        Kind::Mmio => false,
+        Kind::Pio => false,
+        Kind::Input => false,
+        Kind::Host => false,
+        Kind::Device => true,
+        Kind::Event => true,
+        Kind::Lpi => true,
     }
-    if kind == DOMAIN {
-        return 5 <= k;
+}
+
+// .. and a pair.
+fn in_pair(k: Kind) -> bool
+    ensures { λ b. ⌜ b ≡ inPair k ⌝ }
+{
+    match k {
+        Kind::Mmio => false,
+        Kind::Pio => false,
+        Kind::Input => true,
+        Kind::Host => true,
+        Kind::Device => false,
+        Kind::Event => false,
+        Kind::Lpi => false,
     }
-    if kind == PAIR {
-        if k == 3 {
-            return true;
-        }
-        return k == 4;
+}
+
+// Whether there is a row for the tables of kind `k`.
+pub fn goes(what: What, k: Kind) -> bool
+    ensures { λ b. ⌜ b ≡ goesTo what k ⌝ }
+{
+    match what {
+        What::Nothing => false,
+        What::One(j) => tables::same_kind(k, j),
+        What::Domain => in_domain(k),
+        What::Pair => in_pair(k),
     }
-    false
 }
 
 // In an MSI domain devices come first, then events, then LPIs.
-pub fn turn(kind: u64, k: u64) -> u64
-    ensures { λ n. ⌜ n ≡ turnOf kind k ⌝ }
+fn turn_in(k: Kind) -> u64
+    ensures { λ n. ⌜ n ≡ turnIn k ⌝ }
 {
-    if kind == DOMAIN {
-        if k == 6 {
-            return 1;
-        }
-        if k == 7 {
-            return 2;
-        }
+    match k {
+        Kind::Mmio => 0,
+        Kind::Pio => 0,
+        Kind::Input => 0,
+        Kind::Host => 0,
+        Kind::Device => 0,
+        Kind::Event => 1,
+        Kind::Lpi => 2,
     }
-    0
+}
+
+// The turn of the row for the tables of kind `k`.
+pub fn turn(what: What, k: Kind) -> u64
+    ensures { λ n. ⌜ n ≡ turnOf what k ⌝ }
+{
+    match what {
+        What::Nothing => 0,
+        What::One(_) => 0,
+        What::Domain => turn_in(k),
+        What::Pair => 0,
+    }
 }
 
 // The range for the pools of a kind.
-pub fn range_for(q: Adds, k: u64) -> PoolRow
+pub fn range_for(q: Adds, k: Kind) -> PoolRow
     ensures { λ r. ⌜ r ≡ rangeFor q k ⌝ }
 {
-    if k == 6 {
-        return q.second;
+    match k {
+        Kind::Mmio => q.first,
+        Kind::Pio => q.first,
+        Kind::Input => q.first,
+        Kind::Host => q.first,
+        Kind::Device => q.first,
+        Kind::Event => q.second,
+        Kind::Lpi => q.third,
     }
-    if k == 7 {
-        return q.third;
-    }
-    q.first
-}
-
-// The tables of a kind of ranges.
-pub fn ask_range(q: Adds, k: u64) -> Ask
-    ensures { λ a. ⌜ a ≡ askOf q k ⌝ }
-{
-    let range = range_for(q, k);
-    let row = q.row;
-    if goes(q.kind, k) {
-        return Ask {
-            to: q.to,
-            range,
-            row,
-        };
-    }
-    Ask { to: 0, range, row }
-}
-
-// The tables of inputs.
-pub fn ask_wire(q: Adds) -> WireAsk
-    ensures { λ a. ⌜ a ≡ wireAskOf q ⌝ }
-{
-    let range = q.first;
-    let row = q.wire;
-    if goes(q.kind, 3) {
-        return WireAsk {
-            to: q.to,
-            range,
-            row,
-        };
-    }
-    WireAsk { to: 0, range, row }
 }
 
 // ---- what comes of the answers
@@ -229,7 +242,7 @@ pub fn in_turn(q: Adds, device: Reply, event: Reply, lpi: Reply) -> Verdict
 
 // The answer of the one table that is asked.
 pub fn one(
-    kind: u64,
+    k: Kind,
     mmio: Reply,
     pio: Reply,
     input: Reply,
@@ -238,27 +251,17 @@ pub fn one(
     event: Reply,
     lpi: Reply,
 ) -> Reply
-    ensures { λ r. ⌜ r ≡ oneOf kind mmio pio input host device event lpi ⌝ }
+    ensures { λ r. ⌜ r ≡ oneOf k mmio pio input host device event lpi ⌝ }
 {
-    if kind == 1 {
-        return mmio;
+    match k {
+        Kind::Mmio => mmio,
+        Kind::Pio => pio,
+        Kind::Input => input,
+        Kind::Host => host,
+        Kind::Device => device,
+        Kind::Event => event,
+        Kind::Lpi => lpi,
     }
-    if kind == 2 {
-        return pio;
-    }
-    if kind == 3 {
-        return input;
-    }
-    if kind == 4 {
-        return host;
-    }
-    if kind == 5 {
-        return device;
-    }
-    if kind == 6 {
-        return event;
-    }
-    lpi
 }
 
 // What comes of the answers of all tables: of a pair the earlier, and both rows or neither.
@@ -274,71 +277,16 @@ pub fn judge(
 ) -> Verdict
     ensures { λ v. ⌜ v ≡ verdictOf q mmio pio input host device event lpi ⌝ }
 {
-    if q.kind == DOMAIN {
-        return in_turn(q, device, event, lpi);
+    let what = q.what;
+    match what {
+        What::Nothing => whole(q, plain(0)),
+        What::One(k) => whole(q, one(k, mmio, pio, input, host, device, event, lpi)),
+        What::Domain => in_turn(q, device, event, lpi),
+        What::Pair => whole(q, range::earlier(input, host)),
     }
-    if q.kind == PAIR {
-        return whole(q, range::earlier(input, host));
-    }
-    whole(q, one(q.kind, mmio, pio, input, host, device, event, lpi))
 }
 
 // ---- what is stored
-
-// Whether the row of kind `k` is stored where it is to go.
-pub fn stays(v: Verdict, to: u64, k: u64) -> bool
-    ensures { λ b. ⌜ b ≡ staysOf v to k ⌝ }
-{
-    let q = v.adds;
-    if q.to != to {
-        return false;
-    }
-    if !goes(q.kind, k) {
-        return false;
-    }
-    turn(q.kind, k) < v.rows
-}
-
-// The range for a pool table.
-pub fn pool_put(v: Verdict, to: u64, k: u64) -> PoolPut
-    ensures { λ p. ⌜ p ≡ poolPutOf v to k ⌝ }
-{
-    let go = stays(v, to, k);
-    let q = v.adds;
-    let row = range_for(q, k);
-    PoolPut { go, row }
-}
-
-// The row for a reservation table of ranges.
-pub fn held_put(v: Verdict, k: u64) -> Put
-    ensures { λ p. ⌜ p ≡ heldPutOf v k ⌝ }
-{
-    let go = stays(v, HELD, k);
-    let q = v.adds;
-    let row = q.row;
-    Put { go, row }
-}
-
-// .. of inputs.
-pub fn wire_put(v: Verdict) -> WirePut
-    ensures { λ p. ⌜ p ≡ wirePutOf v ⌝ }
-{
-    let go = stays(v, HELD, 3);
-    let q = v.adds;
-    let row = q.wire;
-    WirePut { go, row }
-}
-
-// Whether the verdict has no row for the tables that `to` names.
-pub fn idle(v: Verdict, to: u64) -> bool
-    ensures { λ b. ⌜ b ≡ idleOf v to ⌝ }
-{
-    let q = v.adds;
-    if q.to == to {
-        return false;
-    }
-    true
-}
 
 // Whether a pool table has no range coming.
 pub fn rests(put: PoolPut) -> bool

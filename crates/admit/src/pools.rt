@@ -1,8 +1,7 @@
 // Ranges for the pools: what a call adds to those of a use.
-use super::AUTOMATIC;
 use super::Adds;
-use super::DOMAIN;
-use super::FIXED;
+use super::To;
+use super::What;
 use super::holds::no_row;
 use super::holds::wire;
 use range::wide;
@@ -12,11 +11,12 @@ use request::call::Events;
 use request::call::Lpis;
 use request::call::PoolRange;
 use request::call::Use;
+use tables::Kind;
 use tables::PoolRow;
 ghost use mathlib.Core.Path.{_≡_};
 ghost use Rattle.request.specs.declared.call.PoolRange.the-variants.{Msi as msiRange};
 ghost use Rattle.admit.specs.Rows.{IsPoolRow, noPoolRow};
-ghost use Rattle.admit.specs.Adds.{ranged, useNumber, PoolAsked};
+ghost use Rattle.admit.specs.Adds.{ranged, useTo, PoolAsked};
 
 // A row of the numbers given.
 pub fn row(controller: u32, its: u32, start: u64, end: u64) -> PoolRow
@@ -42,14 +42,14 @@ pub fn no_pool_row() -> PoolRow
 }
 
 // Ranges for the pools: one of a kind, or the three of an MSI domain.
-pub fn ranges(to: u64, kind: u64, first: PoolRow, second: PoolRow, third: PoolRow) -> Adds
-    ensures { λ q. ⌜ q ≡ ranged to kind first second third ⌝ }
+pub fn ranges(to: To, what: What, first: PoolRow, second: PoolRow, third: PoolRow) -> Adds
+    ensures { λ q. ⌜ q ≡ ranged to what first second third ⌝ }
 {
     let row = no_row();
     let none = wire(0, 0, 0, 0, 0);
     Adds {
         to,
-        kind,
+        what,
         first,
         second,
         third,
@@ -58,19 +58,19 @@ pub fn ranges(to: u64, kind: u64, first: PoolRow, second: PoolRow, third: PoolRo
     }
 }
 
-// The number of a use.
-pub fn use_number(u: Use) -> u64
-    ensures { λ n. ⌜ n ≡ useNumber u ⌝ }
+// Where the ranges of a use go.
+pub fn use_to(u: Use) -> To
+    ensures { λ t. ⌜ t ≡ useTo u ⌝ }
 {
     match u {
-        Use::Automatic => AUTOMATIC,
-        Use::Fixed => FIXED,
+        Use::Automatic => To::Automatic,
+        Use::Fixed => To::Fixed,
     }
 }
 
 // An MSI domain: devices, events, LPIs.
 fn of_domain(
-    to: u64,
+    to: To,
     controller: u32,
     its: u32,
     devices: Devices,
@@ -82,29 +82,29 @@ fn of_domain(
     let first = row(controller, its, wide(devices.start.0), wide(devices.end.0));
     let second = row(controller, its, wide(events.start.0), wide(events.end.0));
     let third = row(controller, 0, wide(lpis.start.0), wide(lpis.end.0));
-    ranges(to, DOMAIN, first, second, third)
+    ranges(to, What::Domain, first, second, third)
 }
 
 // A range for the pools of a use.
-pub fn of_pool(to: u64, p: PoolRange) -> Adds
+pub fn of_pool(to: To, p: PoolRange) -> Adds
     ensures { λ q. ⌜ PoolAsked to p q ⌝ }
 {
     match p {
         PoolRange::Mmio(start, end) => {
             let r = row(0, 0, start, end);
-            ranges(to, 1, r, r, r)
+            ranges(to, What::One(Kind::Mmio), r, r, r)
         }
         PoolRange::Pio(start, end) => {
             let r = row(0, 0, wide16(start), wide16(end));
-            ranges(to, 2, r, r, r)
+            ranges(to, What::One(Kind::Pio), r, r, r)
         }
         PoolRange::Host(start, end) => {
             let r = row(0, 0, start, end);
-            ranges(to, 4, r, r, r)
+            ranges(to, What::One(Kind::Host), r, r, r)
         }
         PoolRange::Input(controller, start, end) => {
             let r = row(controller, 0, start, end);
-            ranges(to, 3, r, r, r)
+            ranges(to, What::One(Kind::Input), r, r, r)
         }
         PoolRange::Msi(controller, its, devices, events, lpis) => of_domain(
             to,

@@ -7,12 +7,15 @@ use Rattle.definition.specs.Tables.{Span, Table, poolLimit, mmio, pio, input, h
 use Rattle.tables.specs.Below.{listed}
 use Rattle.tables.specs.Views.{pool, spanOf, poolAt, poolView}
 use Rattle.tables.specs.Sized.{SizedPool}
+use Rattle.tables.specs.declared.Kind.{Kind}
+use Rattle.tables.specs.declared.Kind.the-variants as K
 use Rattle.tables.specs.declared.Pool.{Pool}
 use Rattle.tables.specs.declared.Pools.{Pools}
 use Rattle.tables.proofs.Pool as Po
 use Rattle.tables.proofs.Pools as Ps
 use Rattle.store.proofs.Item.{column-length}
 use Rattle.admit.specs.Judged.{poolPutOf, enteredView}
+use Rattle.admit.specs.declared.To.{To}
 use Rattle.admit.specs.declared.Verdict.{Verdict}
 use Rattle.applied.specs.Kept.{PoolsKept}
 use Rattle.applied.proofs.Pieces.{pools}
@@ -51,33 +54,33 @@ sized d is = record {
   end = column-length w64 (d .end) (is .1 .1 .1 .1 .1 .1 .0);
 }
 
-abbrev pub entering : Verdict → ℕ → ℕ → Pool → Pool
+abbrev pub entering : Verdict → To → Kind → Pool → Pool
 entering v to k x = poolFrom (enteredView (poolPutOf v to k) (poolView x))
 
-abbrev pub poolsFrom : Verdict → ℕ → Pools → Pools
+abbrev pub poolsFrom : Verdict → To → Pools → Pools
 poolsFrom v to p =
-    pools (entering v to 1 (p .mmio)) (entering v to 2 (p .pio)) (entering v to 3 (p .input)) (entering v to 4 (p .host)) (entering v to 5 (p .device)) (entering v to 6 (p .event)) (entering v to 7 (p .lpi))
+    pools (entering v to K.Mmio (p .mmio)) (entering v to K.Pio (p .pio)) (entering v to K.Input (p .input)) (entering v to K.Host (p .host)) (entering v to K.Device (p .device)) (entering v to K.Event (p .event)) (entering v to K.Lpi (p .lpi))
 
-pub pools-told : (v : Verdict) (to : ℕ) (p d : Pools) {vs : List Val} → Is Ps.the-row d vs → PoolsKept v to p d → d ≡ poolsFrom v to p
+pub pools-told : (v : Verdict) (to : To) (p d : Pools) {vs : List Val} → Is Ps.the-row d vs → PoolsKept v to p d → d ≡ poolsFrom v to p
 pools-told v to p d is k = λ i. pools (e₀ i) (e₁ i) (e₂ i) (e₃ i) (e₄ i) (e₅ i) (e₆ i)
   where
-    e₀ : d .mmio ≡ entering v to 1 (p .mmio)
+    e₀ : d .mmio ≡ entering v to K.Mmio (p .mmio)
     e₀ = pool-told (d .mmio) (sized (d .mmio) (is .1 .1 .0)) _ (k mmio)
 
-    e₁ : d .pio ≡ entering v to 2 (p .pio)
+    e₁ : d .pio ≡ entering v to K.Pio (p .pio)
     e₁ = pool-told (d .pio) (sized (d .pio) (is .1 .1 .1 .0)) _ (k pio)
 
-    e₂ : d .input ≡ entering v to 3 (p .input)
+    e₂ : d .input ≡ entering v to K.Input (p .input)
     e₂ = pool-told (d .input) (sized (d .input) (is .1 .1 .1 .1 .0)) _ (k input)
 
-    e₃ : d .host ≡ entering v to 4 (p .host)
+    e₃ : d .host ≡ entering v to K.Host (p .host)
     e₃ = pool-told (d .host) (sized (d .host) (is .1 .1 .1 .1 .1 .0)) _ (k host)
 
-    e₄ : d .device ≡ entering v to 5 (p .device)
+    e₄ : d .device ≡ entering v to K.Device (p .device)
     e₄ = pool-told (d .device) (sized (d .device) (is .1 .1 .1 .1 .1 .1 .0)) _ (k device)
 
-    e₅ : d .event ≡ entering v to 6 (p .event)
+    e₅ : d .event ≡ entering v to K.Event (p .event)
     e₅ = pool-told (d .event) (sized (d .event) (is .1 .1 .1 .1 .1 .1 .1 .0)) _ (k event)
 
-    e₆ : d .lpi ≡ entering v to 7 (p .lpi)
+    e₆ : d .lpi ≡ entering v to K.Lpi (p .lpi)
     e₆ = pool-told (d .lpi) (sized (d .lpi) (is .1 .1 .1 .1 .1 .1 .1 .1 .0)) _ (k lpi)

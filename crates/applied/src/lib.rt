@@ -10,12 +10,13 @@ use tables::Pool;
 use tables::Pools;
 use tables::State;
 ghost use mathlib.Core.Path.{_≡_};
-ghost use lib.Dec.{T};
+ghost use lib.Dec.{T as Holds};
 ghost use Rattle.definition.specs.Tables.{kinds};
 ghost use Rattle.definition.specs.Calls.{given, saying, starting};
 ghost use Rattle.tables.specs.Views.{poolView, stateView};
 ghost use Rattle.range.specs.Answers.{heard};
 ghost use Rattle.request.specs.Calls.{callOf};
+ghost use Rattle.admit.specs.declared.To.the-variants as T;
 ghost use Rattle.admit.specs.Looks.{Tidy};
 ghost use Rattle.admit.specs.Judged.{enteredView};
 ghost use Rattle.applied.specs.Kept.{TidyPools, heldWith, HeldFree, withHeld, withOwners, PoolsKept, Tells, Kept, Ready, Decides};
@@ -37,35 +38,35 @@ pub fn enter(t: &mut Pool, put: PoolPut)
 // The ranges for the automatic pools. A verdict that has none for them touches no table.
 pub fn auto(p: &mut Pools, v: Verdict)
     requires { ⌜ TidyPools (now p) ⌝ }
-    ensures { λ _. ⌜ PoolsKept v 1 (now (p .entry)) (now (p .exit)) ⌝ }
+    ensures { λ _. ⌜ PoolsKept v T.Automatic (now (p .entry)) (now (p .exit)) ⌝ }
 {
-    if admit::idle(v, 1) {
+    if admit::auto::idle(v) {
         return;
     }
-    enter(&mut p.mmio, admit::pool_put(v, 1, 1));
-    enter(&mut p.pio, admit::pool_put(v, 1, 2));
-    enter(&mut p.input, admit::pool_put(v, 1, 3));
-    enter(&mut p.host, admit::pool_put(v, 1, 4));
-    enter(&mut p.device, admit::pool_put(v, 1, 5));
-    enter(&mut p.event, admit::pool_put(v, 1, 6));
-    enter(&mut p.lpi, admit::pool_put(v, 1, 7));
+    enter(&mut p.mmio, admit::auto::mmio(v));
+    enter(&mut p.pio, admit::auto::pio(v));
+    enter(&mut p.input, admit::auto::input(v));
+    enter(&mut p.host, admit::auto::host(v));
+    enter(&mut p.device, admit::auto::device(v));
+    enter(&mut p.event, admit::auto::event(v));
+    enter(&mut p.lpi, admit::auto::lpi(v));
 }
 
 // .. for the fixed pools.
 pub fn fixed(p: &mut Pools, v: Verdict)
     requires { ⌜ TidyPools (now p) ⌝ }
-    ensures { λ _. ⌜ PoolsKept v 2 (now (p .entry)) (now (p .exit)) ⌝ }
+    ensures { λ _. ⌜ PoolsKept v T.Fixed (now (p .entry)) (now (p .exit)) ⌝ }
 {
-    if admit::idle(v, 2) {
+    if admit::fixed::idle(v) {
         return;
     }
-    enter(&mut p.mmio, admit::pool_put(v, 2, 1));
-    enter(&mut p.pio, admit::pool_put(v, 2, 2));
-    enter(&mut p.input, admit::pool_put(v, 2, 3));
-    enter(&mut p.host, admit::pool_put(v, 2, 4));
-    enter(&mut p.device, admit::pool_put(v, 2, 5));
-    enter(&mut p.event, admit::pool_put(v, 2, 6));
-    enter(&mut p.lpi, admit::pool_put(v, 2, 7));
+    enter(&mut p.mmio, admit::fixed::mmio(v));
+    enter(&mut p.pio, admit::fixed::pio(v));
+    enter(&mut p.input, admit::fixed::input(v));
+    enter(&mut p.host, admit::fixed::host(v));
+    enter(&mut p.device, admit::fixed::device(v));
+    enter(&mut p.event, admit::fixed::event(v));
+    enter(&mut p.lpi, admit::fixed::lpi(v));
 }
 
 // The rows for the reservations, each at the end of its table, in place.
@@ -73,13 +74,13 @@ pub fn held(s: &mut State, v: Verdict)
     requires { ⌜ HeldFree v (now s .held) ⌝ }
     ensures { λ _. ⌜ now (s .exit) ≡ withHeld (heldWith v (now (s .entry) .held)) (now (s .entry)) ⌝ }
 {
-    store::range(&mut s.held.mmio, admit::held_put(v, 1));
-    store::range(&mut s.held.pio, admit::held_put(v, 2));
-    store::wire(&mut s.held.input, admit::wire_put(v));
-    store::range(&mut s.held.host, admit::held_put(v, 4));
-    store::range(&mut s.held.device, admit::held_put(v, 5));
-    store::range(&mut s.held.event, admit::held_put(v, 6));
-    store::range(&mut s.held.lpi, admit::held_put(v, 7));
+    store::range(&mut s.held.mmio, admit::put::mmio(v));
+    store::range(&mut s.held.pio, admit::put::pio(v));
+    store::wire(&mut s.held.input, admit::put::input(v));
+    store::range(&mut s.held.host, admit::put::host(v));
+    store::range(&mut s.held.device, admit::put::device(v));
+    store::range(&mut s.held.event, admit::put::event(v));
+    store::range(&mut s.held.lpi, admit::put::lpi(v));
 }
 
 // An answer as numbers to be stored beside the tables, with no row.
@@ -142,7 +143,7 @@ pub fn start(s: &mut State)
 
 // What comes of the call: nothing is stored yet.
 pub fn look(s: &State, c: Call) -> Verdict
-    requires { ⌜ T (given kinds (stateView (now s))) ⌝ }
+    requires { ⌜ Holds (given kinds (stateView (now s))) ⌝ }
     ensures { λ v. ⌜ Decides (now (s .entry)) c v ⌝ }
 {
     let q = admit::asked(c);
@@ -150,50 +151,50 @@ pub fn look(s: &State, c: Call) -> Verdict
         &s.auto.mmio,
         &s.fixed.mmio,
         &s.held.mmio,
-        admit::ask_range(q, 1),
+        admit::asking::mmio(q),
     );
     let pio = admit::answer::range(
         &s.auto.pio,
         &s.fixed.pio,
         &s.held.pio,
-        admit::ask_range(q, 2),
+        admit::asking::pio(q),
     );
     let input = admit::answer::wire(
         &s.auto.input,
         &s.fixed.input,
         &s.held.input,
-        admit::ask_wire(q),
+        admit::asking::input(q),
     );
     let host = admit::answer::range(
         &s.auto.host,
         &s.fixed.host,
         &s.held.host,
-        admit::ask_range(q, 4),
+        admit::asking::host(q),
     );
     let device = admit::answer::range(
         &s.auto.device,
         &s.fixed.device,
         &s.held.device,
-        admit::ask_range(q, 5),
+        admit::asking::device(q),
     );
     let event = admit::answer::range(
         &s.auto.event,
         &s.fixed.event,
         &s.held.event,
-        admit::ask_range(q, 6),
+        admit::asking::event(q),
     );
     let lpi = admit::answer::range(
         &s.auto.lpi,
         &s.fixed.lpi,
         &s.held.lpi,
-        admit::ask_range(q, 7),
+        admit::asking::lpi(q),
     );
     admit::judge(q, mmio, pio, input, host, device, event, lpi)
 }
 
 // One call on a state whose pools and reservations are sound. A request, and what cannot be read, leave it as it is.
 pub fn apply(s: &mut State, c: Call)
-    requires { ⌜ T (given kinds (stateView (now s))) ⌝ }
+    requires { ⌜ Holds (given kinds (stateView (now s))) ⌝ }
     ensures { λ _. ⌜ stateView (now (s .exit)) ≡ applyOf (callOf c) (stateView (now (s .entry))) ⌝ }
 {
     if admit::passes(c) {

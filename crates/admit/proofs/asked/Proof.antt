@@ -6,8 +6,8 @@ use Rattle.admit.proofs.asked.Tie as tie
 enum-known-c : tie.Need-enum-known-c
 enum-known-c c = search needs
 
-use-number-requires : tie.Need-use-number-requires
-use-number-requires c κs = search needs
+use-to-requires : tie.Need-use-to-requires
+use-to-requires c κs = search needs
 
 of-pool-requires : tie.Need-of-pool-requires
 of-pool-requires c κs = search needs
@@ -37,7 +37,7 @@ nothing-requires-3 : tie.Need-nothing-requires-3
 nothing-requires-3 c κs = search needs
 
 returns : tie.Need-returns
-returns c = rw (c .before .before .before .c .given .1) (record { is = rw (c .of-pool .ensures .is, c .before .use-number .ensures); fit = c .of-pool .ensures .fit })
+returns c = rw (c .before .before .before .c .given .1) (record { is = rw (c .of-pool .ensures .is, c .before .use-to .ensures); fit = c .of-pool .ensures .fit })
 
 returns-2 : tie.Need-returns-2
 returns-2 c = rw (c .before .before .c2 .given .1) (record { is = c .of-hold .ensures .is; fit = c .of-hold .ensures .fit })
@@ -53,5 +53,5 @@ returns-5 c = rw (c .before .enum-told3 .given .1) (record { is = c .nothing3 .e
 
 pub asked-spec : {M : Type 1} → statement M
 asked-spec =
-    tie.close (tie.spec enum-known-c use-number-requires of-pool-requires enum-known-c-2 of-hold-requires enum-told nothing-requires enum-told-2 nothing-requires-2
+    tie.close (tie.spec enum-known-c use-to-requires of-pool-requires enum-known-c-2 of-hold-requires enum-told nothing-requires enum-told-2 nothing-requires-2
     enum-told-3 nothing-requires-3 returns returns-2 returns-3 returns-4 returns-5)

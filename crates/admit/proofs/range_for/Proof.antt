@@ -1,17 +1,49 @@
--- By the kind's number. Assumes nothing.
-use borrow.Author.Tests.{eq-eqb, ne-eqb}
-use native.Mathlib.Omega.{arith}
+-- By the kind. Assumes nothing.
+use borrow.Author.Needs.{needs}
 use Rattle.admit.proofs.range_for.Statement.{statement}
 use Rattle.admit.proofs.range_for.Tie as tie
 
+enum-told : tie.Need-enum-told
+enum-told c = search needs
+
+enum-told-2 : tie.Need-enum-told-2
+enum-told-2 c = search needs
+
+enum-told-3 : tie.Need-enum-told-3
+enum-told-3 c = search needs
+
+enum-told-4 : tie.Need-enum-told-4
+enum-told-4 c = search needs
+
+enum-told-5 : tie.Need-enum-told-5
+enum-told-5 c = search needs
+
+enum-told-6 : tie.Need-enum-told-6
+enum-told-6 c = search needs
+
+enum-told-7 : tie.Need-enum-told-7
+enum-told-7 c = search needs
+
 returns : tie.Need-returns
-returns c = let x = c .before .before .args in rw (eq-eqb (x .k) 6 (omega arith))
+returns c = rw (c .before .enum-told .given .1)
 
 returns-2 : tie.Need-returns-2
-returns-2 c = let x = c .before .before .before .args in rw (ne-eqb (x .k) 6 (λ e. omega arith), eq-eqb (x .k) 7 (omega arith))
+returns-2 c = rw (c .before .enum-told2 .given .1)
 
 returns-3 : tie.Need-returns-3
-returns-3 c = let x = c .before .before .before .args in rw (ne-eqb (x .k) 6 (λ e. omega arith), ne-eqb (x .k) 7 (λ e. omega arith))
+returns-3 c = rw (c .before .enum-told3 .given .1)
+
+returns-4 : tie.Need-returns-4
+returns-4 c = rw (c .before .enum-told4 .given .1)
+
+returns-5 : tie.Need-returns-5
+returns-5 c = rw (c .before .enum-told5 .given .1)
+
+returns-6 : tie.Need-returns-6
+returns-6 c = rw (c .before .enum-told6 .given .1)
+
+returns-7 : tie.Need-returns-7
+returns-7 c = rw (c .before .enum-told7 .given .1)
 
 pub range-for-spec : {M : Type 1} → statement M
-range-for-spec = tie.close (tie.spec returns returns-2 returns-3)
+range-for-spec = tie.close (tie.spec enum-told enum-told-2 enum-told-3 enum-told-4 enum-told-5 enum-told-6 enum-told-7 returns returns-2 returns-3 returns-4 returns-5 returns-6 returns-7)

@@ -1,20 +1,34 @@
--- By the kind's number. Assumes nothing.
-use borrow.Author.Tests.{eq-eqb, ne-eqb}
-use native.Mathlib.Omega.{arith}
+-- By what there are rows for. Assumes nothing.
+use borrow.Author.Needs.{needs}
 use Rattle.admit.proofs.turn.Statement.{statement}
 use Rattle.admit.proofs.turn.Tie as tie
 
+enum-told : tie.Need-enum-told
+enum-told c = search needs
+
+enum-told-2 : tie.Need-enum-told-2
+enum-told-2 c = search needs
+
+enum-told-3 : tie.Need-enum-told-3
+enum-told-3 c = search needs
+
+turn-in-requires : tie.Need-turn-in-requires
+turn-in-requires c κs = search needs
+
+enum-told-4 : tie.Need-enum-told-4
+enum-told-4 c = search needs
+
 returns : tie.Need-returns
-returns c = let x = c .before .before .args in rw (eq-eqb (x .kind) 8 (omega arith), eq-eqb (x .k) 6 (omega arith))
+returns c = rw (c .enum-told .given .1)
 
 returns-2 : tie.Need-returns-2
-returns-2 c = let x = c .before .before .before .args in rw (eq-eqb (x .kind) 8 (omega arith), ne-eqb (x .k) 6 (λ e. omega arith), eq-eqb (x .k) 7 (omega arith))
+returns-2 c = rw (c .enum-told2 .given .1)
 
 returns-3 : tie.Need-returns-3
-returns-3 c = let x = c .before .before .before .args in rw (eq-eqb (x .kind) 8 (omega arith), ne-eqb (x .k) 6 (λ e. omega arith), ne-eqb (x .k) 7 (λ e. omega arith))
+returns-3 c = rw (c .before .enum-told3 .given .1, c .turn-in .ensures)
 
 returns-4 : tie.Need-returns-4
-returns-4 c = let x = c .before .args in rw (ne-eqb (x .kind) 8 (λ e. omega arith))
+returns-4 c = rw (c .enum-told4 .given .1)
 
 pub turn-spec : {M : Type 1} → statement M
-turn-spec = tie.close (tie.spec returns returns-2 returns-3 returns-4)
+turn-spec = tie.close (tie.spec enum-told enum-told-2 enum-told-3 turn-in-requires enum-told-4 returns returns-2 returns-3 returns-4)

@@ -13,6 +13,8 @@ use Rattle.range.specs.Answers.{heard}
 use Rattle.range.specs.declared.Reply.{Reply}
 use Rattle.range.proofs.Reply as Re
 use Rattle.range.proofs.Reply.Laws as Re′
+use Rattle.admit.specs.declared.To.{To}
+use Rattle.admit.specs.declared.To.the-variants as U
 use Rattle.admit.specs.declared.Verdict.{Verdict}
 use Rattle.admit.proofs.Verdict as Ve
 use Rattle.admit.proofs.Verdict.Laws as Ve′
@@ -57,8 +59,8 @@ module _ {M : Type 1} (𝓤 : URA M) (H : Heap 𝓤) (A : Atoms 𝓤) (at-mem : 
     abbrev group : Plain 𝓤 H A
     group = plainOf 𝓤 H A W Ps.the-type Ps′.the-laws Ps′.the-plain
 
-    -- the pools of the use numbered to, group j of the state, by the function f
-    fills : (f : Name) (j to : ℕ) (s s′ : State) (g : Pools) → Leaves W b (𝓣 .C) f Ps.the-row g (PoolsKept v to g) (o + offset T′.mir j) (valV v ∷ []) → Piece 𝓤 H A W Ps.the-row (partAt T.the-row fullShare s b o) (partAt T.the-row fullShare s′ b o) g (poolsFrom v to g) b (o + offset T′.mir j)
+    -- the pools that `to` names, group j of the state, by the function f
+    fills : (f : Name) (j : ℕ) (to : To) (s s′ : State) (g : Pools) → Leaves W b (𝓣 .C) f Ps.the-row g (PoolsKept v to g) (o + offset T′.mir j) (valV v ∷ []) → Piece 𝓤 H A W Ps.the-row (partAt T.the-row fullShare s b o) (partAt T.the-row fullShare s′ b o) g (poolsFrom v to g) b (o + offset T′.mir j)
         → Acts 𝓤 H A W (𝓣 .C) f (vptr b (o + offset T′.mir j) ∷ valV v ∷ []) (Held s) (Unit {0}) (λ u. Held s′) (λ u. vunit) (λ u. PoolsKept v to g (poolsFrom v to g))
     fills f j to s s′ g leaves piece =
         lends W T.the-row κ q b o γ (𝓣 .C) (fmOf 𝓤 H (W .laws) 𝓣) Ps.the-row (o + offset T′.mir j) s s′ g (poolsFrom v to g) piece f (valV v ∷ []) (PoolsKept v to g) (PoolsKept v to g (poolsFrom v to g))
@@ -67,21 +69,21 @@ module _ {M : Type 1} (𝓤 : URA M) (H : Heap 𝓤) (A : Atoms 𝓤) (at-mem : 
     owns-v : (ν : ℕ) → ent 𝓤 (emp 𝓤) (sem 𝓤 H A (owns (Ve.the-row ∷ []) (v, tt) (valV v ∷ [], tt)))
     owns-v ν = qed W [] ∵ nothing ! $ owned ! Ve.the-row (Is Ve.the-row) (LL.makes Ve.the-type Ve′.the-plain 𝓤 H A) v _ v-is $ fjoin ! $ done !
 
-    autos : (g : Pools) → TidyPools g → Leaves W b (𝓣 .C) a.Symbol.name Ps.the-row g (PoolsKept v 1 g) (o + offset T′.mir 0) (valV v ∷ [])
+    autos : (g : Pools) → TidyPools g → Leaves W b (𝓣 .C) a.Symbol.name Ps.the-row g (PoolsKept v U.Automatic g) (o + offset T′.mir 0) (valV v ∷ [])
     autos g tidy =
         leaves-by 𝓤 H A W (𝓣 .C) (fmOf 𝓤 H (W .laws) 𝓣) a.Symbol.name Ps.the-row (plain (λ _. Ve.the-row) ∷ []) (yes, tt) (a.clauses 𝓤 H A at-mem run) known-a b (o + offset T′.mir 0) g (valV v ∷ []) (λ ν. (v, tt)) (λ ν. (valV v ∷ [], tt)) (λ ν. refl)
-        owns-v (λ ν δ. tt) (λ ν δ. factI 𝓤 (TidyPools g) (emp 𝓤) tidy) (PoolsKept v 1 g) (λ ν δ ws. id⊢ 𝓤 _)
+        owns-v (λ ν δ. tt) (λ ν δ. factI 𝓤 (TidyPools g) (emp 𝓤) tidy) (PoolsKept v U.Automatic g) (λ ν δ ws. id⊢ 𝓤 _)
 
-    fixes : (g : Pools) → TidyPools g → Leaves W b (𝓣 .C) x.Symbol.name Ps.the-row g (PoolsKept v 2 g) (o + offset T′.mir 1) (valV v ∷ [])
+    fixes : (g : Pools) → TidyPools g → Leaves W b (𝓣 .C) x.Symbol.name Ps.the-row g (PoolsKept v U.Fixed g) (o + offset T′.mir 1) (valV v ∷ [])
     fixes g tidy =
         leaves-by 𝓤 H A W (𝓣 .C) (fmOf 𝓤 H (W .laws) 𝓣) x.Symbol.name Ps.the-row (plain (λ _. Ve.the-row) ∷ []) (yes, tt) (x.clauses 𝓤 H A at-mem run) known-x b (o + offset T′.mir 1) g (valV v ∷ []) (λ ν. (v, tt)) (λ ν. (valV v ∷ [], tt)) (λ ν. refl)
-        owns-v (λ ν δ. tt) (λ ν δ. factI 𝓤 (TidyPools g) (emp 𝓤) tidy) (PoolsKept v 2 g) (λ ν δ ws. id⊢ 𝓤 _)
+        owns-v (λ ν δ. tt) (λ ν δ. factI 𝓤 (TidyPools g) (emp 𝓤) tidy) (PoolsKept v U.Fixed g) (λ ν δ ws. id⊢ 𝓤 _)
 
     abbrev s₁ : State → State
-    s₁ s = withAuto (poolsFrom v 1 (s .auto)) s
+    s₁ s = withAuto (poolsFrom v U.Automatic (s .auto)) s
 
     abbrev s₂ : State → State
-    s₂ s = withFixed (poolsFrom v 2 (s .fixed)) (s₁ s)
+    s₂ s = withFixed (poolsFrom v U.Fixed (s .fixed)) (s₁ s)
 
     holds : (s : State) → Ready v s → Acts 𝓤 H A W (𝓣 .C) e.Symbol.name (vptr b o ∷ valV v ∷ []) (Held (s₂ s)) (State × Unit {0}) (λ z. Held (z .0)) (λ z. vunit) (After (λ d. d ≡ withHeld (heldWith v (s .held)) (s₂ s)))
     holds s ready =
@@ -100,12 +102,12 @@ module _ {M : Type 1} (𝓤 : URA M) (H : Heap 𝓤) (A : Atoms 𝓤) (at-mem : 
 
     walk : (s : State) → Ready v s → (Kf : Val → SProp 𝓤) → ((d : State) → Kept v s d → ent 𝓤 (mean 𝓤 H A (Held d)) (Kf vunit)) → ent 𝓤 (mean 𝓤 H A (Held s)) (WpFn 𝓤 H (𝓣 .C) (𝓣 .Λ) f.Code.function (vptr b o ∷ valV v ∷ []) Kf)
     walk s ready Kf exits = entering W (𝓣 .C) (𝓣 .Λ) (Held s) f.Code.function (first ls) (others ls) (vptr b o ∷ valV v ∷ []) Kf refl ((tt, tt), (LL.lawful Ve.the-type Ve′.the-laws 𝓤 H A W .typed v _ v-is .0, tt)) (λ l.
-        points W (𝓣 .C) (𝓣 .Λ) ls l refl refl tt tt (tt, tt) (acted W (𝓣 .C) (𝓣 .Λ) ls l (fmOf 𝓤 H (W .laws) 𝓣) (Unit {0}) (λ u. Held (s₁ s)) (λ u. vunit) (λ u. PoolsKept v 1 (s .auto) (poolsFrom v 1 (s .auto))) (arg refl tt (arg refl tt nil)) (fills a.Symbol.name 0 1 s (s₁ s) (s .auto) (autos (s .auto) (ready .auto)) (out-auto 𝓤 H A W b o s (poolsFrom v 1 (s .auto)))) tt (λ u y. (tt, tt)) (λ u k₁.
-        points W (𝓣 .C) (𝓣 .Λ) ls l refl refl tt tt (tt, tt) (acted W (𝓣 .C) (𝓣 .Λ) ls l (fmOf 𝓤 H (W .laws) 𝓣) (Unit {0}) (λ u. Held (s₂ s)) (λ u. vunit) (λ u. PoolsKept v 2 (s .fixed) (poolsFrom v 2 (s .fixed))) (arg refl tt (arg refl tt nil)) (fills x.Symbol.name 1 2 (s₁ s) (s₂ s) (s .fixed) (fixes (s .fixed) (ready .fixed)) (out-fixed 𝓤 H A W b o (s₁ s) (poolsFrom v 2 (s .fixed)))) tt (λ u y. (tt, tt)) (λ u k₂.
+        points W (𝓣 .C) (𝓣 .Λ) ls l refl refl tt tt (tt, tt) (acted W (𝓣 .C) (𝓣 .Λ) ls l (fmOf 𝓤 H (W .laws) 𝓣) (Unit {0}) (λ u. Held (s₁ s)) (λ u. vunit) (λ u. PoolsKept v U.Automatic (s .auto) (poolsFrom v U.Automatic (s .auto))) (arg refl tt (arg refl tt nil)) (fills a.Symbol.name 0 U.Automatic s (s₁ s) (s .auto) (autos (s .auto) (ready .auto)) (out-auto 𝓤 H A W b o s (poolsFrom v U.Automatic (s .auto)))) tt (λ u y. (tt, tt)) (λ u k₁.
+        points W (𝓣 .C) (𝓣 .Λ) ls l refl refl tt tt (tt, tt) (acted W (𝓣 .C) (𝓣 .Λ) ls l (fmOf 𝓤 H (W .laws) 𝓣) (Unit {0}) (λ u. Held (s₂ s)) (λ u. vunit) (λ u. PoolsKept v U.Fixed (s .fixed) (poolsFrom v U.Fixed (s .fixed))) (arg refl tt (arg refl tt nil)) (fills x.Symbol.name 1 U.Fixed (s₁ s) (s₂ s) (s .fixed) (fixes (s .fixed) (ready .fixed)) (out-fixed 𝓤 H A W b o (s₁ s) (poolsFrom v U.Fixed (s .fixed)))) tt (λ u y. (tt, tt)) (λ u k₂.
         points W (𝓣 .C) (𝓣 .Λ) ls l refl refl tt tt (tt, tt) (acted W (𝓣 .C) (𝓣 .Λ) ls l (fmOf 𝓤 H (W .laws) 𝓣) (State × Unit {0}) (λ z. Held (z .0)) (λ z. vunit) (After (λ d. d ≡ withHeld (heldWith v (s .held)) (s₂ s))) (arg refl tt (arg refl tt nil)) (holds s ready) tt (λ z y. (tt, tt)) (λ z₃ k₃.
         points W (𝓣 .C) (𝓣 .Λ) ls l refl refl tt tt (tt, tt) (acted W (𝓣 .C) (𝓣 .Λ) ls l (fmOf 𝓤 H (W .laws) 𝓣) (Unit {0}) (λ u. Held (z₃ .0)) (λ u. valR (v .reply)) (λ u. Is Re.the-row (v .reply) (valR (v .reply) ∷ [])) (arg refl tt nil) (plainly 𝓤 H A W (𝓣 .C) (fmOf 𝓤 H (W .laws) 𝓣) (Held (z₃ .0)) p.Symbol.name (valV v ∷ []) (valR (v .reply)) (Is Re.the-row (v .reply) (valR (v .reply) ∷ [])) replies) tt (λ u y. LL.lawful Re.the-type Re′.the-laws 𝓤 H A W .typed (v .reply) _ y .0) (λ u r-is.
         acted W (𝓣 .C) (𝓣 .Λ) ls l (fmOf 𝓤 H (W .laws) 𝓣) (State × Unit {0}) (λ z. Held (z .0)) (λ z. vunit) (After (λ d. stateView d ≡ saying (heard (v .reply)) (stateView (z₃ .0)))) (arg refl tt (arg refl tt nil)) (says (z₃ .0) r-is) tt (λ z y. (tt, tt)) (λ z₄ k₄.
-        sets W (𝓣 .C) (𝓣 .Λ) ls l vunit (of-opd ! (unit-lit !)) tt (tt, tt) (gives W (𝓣 .C) (𝓣 .Λ) ls l Kf vunit refl tt (exits (z₄ .0) (kept-all v s (z₃ .0) (z₄ .0) (poolsFrom v 1 (s .auto)) (poolsFrom v 2 (s .fixed)) k₁ k₂ (k₃ .1) (k₄ .1))))))))))))))
+        sets W (𝓣 .C) (𝓣 .Λ) ls l vunit (of-opd ! (unit-lit !)) tt (tt, tt) (gives W (𝓣 .C) (𝓣 .Λ) ls l Kf vunit refl tt (exits (z₄ .0) (kept-all v s (z₃ .0) (z₄ .0) (poolsFrom v U.Automatic (s .auto)) (poolsFrom v U.Fixed (s .fixed)) k₁ k₂ (k₃ .1) (k₄ .1))))))))))))))
 
   f-meets : Meets 𝓤 H A f.signature (WpFn 𝓤 H (𝓣 .C) (𝓣 .Λ) f.Code.function) (f.spec 𝓤 H A at-mem run)
   f-meets =

@@ -22,6 +22,7 @@ use Rattle.request.proofs.call.Call.Laws as R′
 use Rattle.range.specs.declared.Reply.{Reply}
 use Rattle.range.proofs.Reply as S
 use Rattle.range.proofs.Reply.Laws as S′
+use Rattle.tables.specs.declared.Kind.the-variants as Kd
 use Rattle.admit.specs.Adds.{askOf, wireAskOf, Asked}
 use Rattle.admit.specs.Judged.{verdictOf}
 use Rattle.admit.specs.Looks.{Fit, Sees, SeesWire}
@@ -37,8 +38,13 @@ use Rattle.admit.proofs.WireAsk.Laws as X′
 use Rattle.admit.proofs.Verdict as F
 use Rattle.admit.proofs.Verdict.Laws as F′
 use Rattle.admit.proofs.asked as asked
-use Rattle.admit.proofs.ask_range as ask
-use Rattle.admit.proofs.ask_wire as ask-wire
+use Rattle.admit.proofs.asking.mmio as q₀
+use Rattle.admit.proofs.asking.pio as q₁
+use Rattle.admit.proofs.asking.host as q₂
+use Rattle.admit.proofs.asking.device as q₃
+use Rattle.admit.proofs.asking.event as q₄
+use Rattle.admit.proofs.asking.lpi as q₅
+use Rattle.admit.proofs.asking.input as ask-wire
 use Rattle.admit.proofs.answer.range as range
 use Rattle.admit.proofs.answer.wire as wire
 use Rattle.admit.proofs.judge as judge
@@ -57,7 +63,12 @@ Sound h = Holds (given-state kinds (stateView h))
 -- what is known of the callees
 record Known {M : Type 1} (𝓤 : URA M) (H : Heap 𝓤) (A : Atoms 𝓤) (at-mem : Memory → SProp 𝓤) (run : Routine → Fun 𝓤) (C : Calls 𝓤 H) : Type 1 where
   k-asked : Triple 𝓤 (C asked.Symbol.name) (tripleOf 𝓤 H A asked.signature (asked.spec 𝓤 H A at-mem run))
-  k-ask : Triple 𝓤 (C ask.Symbol.name) (tripleOf 𝓤 H A ask.signature (ask.spec 𝓤 H A at-mem run))
+  k₀ : Triple 𝓤 (C q₀.Symbol.name) (tripleOf 𝓤 H A q₀.signature (q₀.spec 𝓤 H A at-mem run))
+  k₁ : Triple 𝓤 (C q₁.Symbol.name) (tripleOf 𝓤 H A q₁.signature (q₁.spec 𝓤 H A at-mem run))
+  k₂ : Triple 𝓤 (C q₂.Symbol.name) (tripleOf 𝓤 H A q₂.signature (q₂.spec 𝓤 H A at-mem run))
+  k₃ : Triple 𝓤 (C q₃.Symbol.name) (tripleOf 𝓤 H A q₃.signature (q₃.spec 𝓤 H A at-mem run))
+  k₄ : Triple 𝓤 (C q₄.Symbol.name) (tripleOf 𝓤 H A q₄.signature (q₄.spec 𝓤 H A at-mem run))
+  k₅ : Triple 𝓤 (C q₅.Symbol.name) (tripleOf 𝓤 H A q₅.signature (q₅.spec 𝓤 H A at-mem run))
   k-ask-wire : Triple 𝓤 (C ask-wire.Symbol.name) (tripleOf 𝓤 H A ask-wire.signature (ask-wire.spec 𝓤 H A at-mem run))
   k-range : Triple 𝓤 (C range.Symbol.name) (tripleOf 𝓤 H A range.signature (range.spec 𝓤 H A at-mem run))
   k-wire : Triple 𝓤 (C wire.Symbol.name) (tripleOf 𝓤 H A wire.signature (wire.spec 𝓤 H A at-mem run))
@@ -121,10 +132,35 @@ module _ {M : Type 1} (𝓤 : URA M) (H : Heap 𝓤) (A : Atoms 𝓤) (W : Given
         (EE.makes R.the-type R′.the-plain 𝓤 H A, tt) (r-is, tt) (id⊢ 𝓤 (emp 𝓤)) (λ d e. id⊢ 𝓤 _)
 
     module _ (y : Adds) (y-is : Is Q.the-row y (Qu .val y ∷ [])) where
-      ask-made : (k : ℕ) → Holds (ltb k (2 ^ 64)) → Gives 𝓤 H A W (𝓣 .C) hold ask.Symbol.name (Qu .val y ∷ vint w64 k ∷ []) (valueAs As) (λ d. d ≡ askOf y k)
-      ask-made k low =
-          covered 𝓤 H A W (𝓣 .C) (fmOf 𝓤 H (W .laws) 𝓣) hold ask.Symbol.name As (λ d. d ≡ askOf y k) (ask.signature .params) (ask.ended .kept) (ask.clauses 𝓤 H A at-mem run) (known .k-ask) (y, (k, tt)) (Qu .val y ∷ [], (vint w64 k ∷ [], tt)) tt
-          (make-query, (uint-makes 𝓤 H A W w64, tt)) (y-is, ((refl, ltb→lt k (2 ^ 64) low), tt)) (id⊢ 𝓤 (emp 𝓤)) (λ d e. id⊢ 𝓤 _)
+      mmio-made : Gives 𝓤 H A W (𝓣 .C) hold q₀.Symbol.name (Qu .val y ∷ []) (valueAs As) (λ d. d ≡ askOf y Kd.Mmio)
+      mmio-made =
+          covered 𝓤 H A W (𝓣 .C) (fmOf 𝓤 H (W .laws) 𝓣) hold q₀.Symbol.name As (λ d. d ≡ askOf y Kd.Mmio) (q₀.signature .params) (q₀.ended .kept) (q₀.clauses 𝓤 H A at-mem run) (known .k₀) (y, tt) (Qu .val y ∷ [], tt) tt
+          (make-query, tt) (y-is, tt) (id⊢ 𝓤 (emp 𝓤)) (λ d e. id⊢ 𝓤 _)
+
+      pio-made : Gives 𝓤 H A W (𝓣 .C) hold q₁.Symbol.name (Qu .val y ∷ []) (valueAs As) (λ d. d ≡ askOf y Kd.Pio)
+      pio-made =
+          covered 𝓤 H A W (𝓣 .C) (fmOf 𝓤 H (W .laws) 𝓣) hold q₁.Symbol.name As (λ d. d ≡ askOf y Kd.Pio) (q₁.signature .params) (q₁.ended .kept) (q₁.clauses 𝓤 H A at-mem run) (known .k₁) (y, tt) (Qu .val y ∷ [], tt) tt
+          (make-query, tt) (y-is, tt) (id⊢ 𝓤 (emp 𝓤)) (λ d e. id⊢ 𝓤 _)
+
+      host-made : Gives 𝓤 H A W (𝓣 .C) hold q₂.Symbol.name (Qu .val y ∷ []) (valueAs As) (λ d. d ≡ askOf y Kd.Host)
+      host-made =
+          covered 𝓤 H A W (𝓣 .C) (fmOf 𝓤 H (W .laws) 𝓣) hold q₂.Symbol.name As (λ d. d ≡ askOf y Kd.Host) (q₂.signature .params) (q₂.ended .kept) (q₂.clauses 𝓤 H A at-mem run) (known .k₂) (y, tt) (Qu .val y ∷ [], tt) tt
+          (make-query, tt) (y-is, tt) (id⊢ 𝓤 (emp 𝓤)) (λ d e. id⊢ 𝓤 _)
+
+      device-made : Gives 𝓤 H A W (𝓣 .C) hold q₃.Symbol.name (Qu .val y ∷ []) (valueAs As) (λ d. d ≡ askOf y Kd.Device)
+      device-made =
+          covered 𝓤 H A W (𝓣 .C) (fmOf 𝓤 H (W .laws) 𝓣) hold q₃.Symbol.name As (λ d. d ≡ askOf y Kd.Device) (q₃.signature .params) (q₃.ended .kept) (q₃.clauses 𝓤 H A at-mem run) (known .k₃) (y, tt) (Qu .val y ∷ [], tt) tt
+          (make-query, tt) (y-is, tt) (id⊢ 𝓤 (emp 𝓤)) (λ d e. id⊢ 𝓤 _)
+
+      event-made : Gives 𝓤 H A W (𝓣 .C) hold q₄.Symbol.name (Qu .val y ∷ []) (valueAs As) (λ d. d ≡ askOf y Kd.Event)
+      event-made =
+          covered 𝓤 H A W (𝓣 .C) (fmOf 𝓤 H (W .laws) 𝓣) hold q₄.Symbol.name As (λ d. d ≡ askOf y Kd.Event) (q₄.signature .params) (q₄.ended .kept) (q₄.clauses 𝓤 H A at-mem run) (known .k₄) (y, tt) (Qu .val y ∷ [], tt) tt
+          (make-query, tt) (y-is, tt) (id⊢ 𝓤 (emp 𝓤)) (λ d e. id⊢ 𝓤 _)
+
+      lpi-made : Gives 𝓤 H A W (𝓣 .C) hold q₅.Symbol.name (Qu .val y ∷ []) (valueAs As) (λ d. d ≡ askOf y Kd.Lpi)
+      lpi-made =
+          covered 𝓤 H A W (𝓣 .C) (fmOf 𝓤 H (W .laws) 𝓣) hold q₅.Symbol.name As (λ d. d ≡ askOf y Kd.Lpi) (q₅.signature .params) (q₅.ended .kept) (q₅.clauses 𝓤 H A at-mem run) (known .k₅) (y, tt) (Qu .val y ∷ [], tt) tt
+          (make-query, tt) (y-is, tt) (id⊢ 𝓤 (emp 𝓤)) (λ d e. id⊢ 𝓤 _)
 
       wire-made : Gives 𝓤 H A W (𝓣 .C) hold ask-wire.Symbol.name (Qu .val y ∷ []) (valueAs Xs) (λ d. d ≡ wireAskOf y)
       wire-made =
@@ -160,20 +196,20 @@ module _ {M : Type 1} (𝓤 : URA M) (H : Heap 𝓤) (A : Atoms 𝓤) (W : Given
     walk : Runs W (𝓣 .C) hold (f.Code.function .locals) (After 𝓤 H A W (f.signature .params) (f.ended .kept) Fo (f.clauses 𝓤 H A at-mem run) κ q bounds a vss tt) (none ∷ given W (flat (typesAt (f.signature .params) (κ, tt)) vss)) (f.Code.function .body)
     walk =
         get (valueAs Qu) Takes (arg refl tt nil) query-made tt refl (λ y y-is y-asks.
-        point {b = b} {o = o} {a = (o + auto-at) + pool-at mmio} refl refl tt tt (tt, tt) (point {b = b} {o = o} {a = (o + fixed-at) + pool-at mmio} refl refl tt tt (tt, tt) (point {b = b} {o = o} {a = (o + held-at) + holder-at mmio} refl refl tt tt (tt, tt) (make (valueAs As) (askOf y 1) (arg refl tt (num tt nil)) (ask-made y y-is 1 tt) tt refl (λ x-is.
-        get (valueAs Se) (Sees (h .auto .mmio) (h .fixed .mmio) (h .held .mmio) (askOf y 1)) (arg refl tt (arg refl tt (arg refl tt (arg refl tt nil)))) (range-seen mmio (λ p. p .mmio) (λ p. p .mmio) (mmio-pool 𝓤 H A W) (mmio-holder 𝓤 H A W) (askOf y 1) x-is (fit-mmio h ok)) tt refl (λ m m-is m-seen.
-        point {b = b} {o = o} {a = (o + auto-at) + pool-at pio} refl refl tt tt (tt, tt) (point {b = b} {o = o} {a = (o + fixed-at) + pool-at pio} refl refl tt tt (tt, tt) (point {b = b} {o = o} {a = (o + held-at) + holder-at pio} refl refl tt tt (tt, tt) (make (valueAs As) (askOf y 2) (arg refl tt (num tt nil)) (ask-made y y-is 2 tt) tt refl (λ x-is.
-        get (valueAs Se) (Sees (h .auto .pio) (h .fixed .pio) (h .held .pio) (askOf y 2)) (arg refl tt (arg refl tt (arg refl tt (arg refl tt nil)))) (range-seen pio (λ p. p .pio) (λ p. p .pio) (pio-pool 𝓤 H A W) (pio-holder 𝓤 H A W) (askOf y 2) x-is (fit-pio h ok)) tt refl (λ p p-is p-seen.
+        point {b = b} {o = o} {a = (o + auto-at) + pool-at mmio} refl refl tt tt (tt, tt) (point {b = b} {o = o} {a = (o + fixed-at) + pool-at mmio} refl refl tt tt (tt, tt) (point {b = b} {o = o} {a = (o + held-at) + holder-at mmio} refl refl tt tt (tt, tt) (make (valueAs As) (askOf y Kd.Mmio) (arg refl tt nil) (mmio-made y y-is) tt refl (λ x-is.
+        get (valueAs Se) (Sees (h .auto .mmio) (h .fixed .mmio) (h .held .mmio) (askOf y Kd.Mmio)) (arg refl tt (arg refl tt (arg refl tt (arg refl tt nil)))) (range-seen mmio (λ p. p .mmio) (λ p. p .mmio) (mmio-pool 𝓤 H A W) (mmio-holder 𝓤 H A W) (askOf y Kd.Mmio) x-is (fit-mmio h ok)) tt refl (λ m m-is m-seen.
+        point {b = b} {o = o} {a = (o + auto-at) + pool-at pio} refl refl tt tt (tt, tt) (point {b = b} {o = o} {a = (o + fixed-at) + pool-at pio} refl refl tt tt (tt, tt) (point {b = b} {o = o} {a = (o + held-at) + holder-at pio} refl refl tt tt (tt, tt) (make (valueAs As) (askOf y Kd.Pio) (arg refl tt nil) (pio-made y y-is) tt refl (λ x-is.
+        get (valueAs Se) (Sees (h .auto .pio) (h .fixed .pio) (h .held .pio) (askOf y Kd.Pio)) (arg refl tt (arg refl tt (arg refl tt (arg refl tt nil)))) (range-seen pio (λ p. p .pio) (λ p. p .pio) (pio-pool 𝓤 H A W) (pio-holder 𝓤 H A W) (askOf y Kd.Pio) x-is (fit-pio h ok)) tt refl (λ p p-is p-seen.
         point {b = b} {o = o} {a = (o + auto-at) + pool-at input} refl refl tt tt (tt, tt) (point {b = b} {o = o} {a = (o + fixed-at) + pool-at input} refl refl tt tt (tt, tt) (point {b = b} {o = o} {a = (o + held-at) + holder-at input} refl refl tt tt (tt, tt) (make (valueAs Xs) (wireAskOf y) (arg refl tt nil) (wire-made y y-is) tt refl (λ x-is.
         get (valueAs Se) (SeesWire (h .auto .input) (h .fixed .input) (h .held .input) (wireAskOf y)) (arg refl tt (arg refl tt (arg refl tt (arg refl tt nil)))) (wire-seen (wireAskOf y) x-is (fit-input h ok)) tt refl (λ w w-is w-seen.
-        point {b = b} {o = o} {a = (o + auto-at) + pool-at host} refl refl tt tt (tt, tt) (point {b = b} {o = o} {a = (o + fixed-at) + pool-at host} refl refl tt tt (tt, tt) (point {b = b} {o = o} {a = (o + held-at) + holder-at host} refl refl tt tt (tt, tt) (make (valueAs As) (askOf y 4) (arg refl tt (num tt nil)) (ask-made y y-is 4 tt) tt refl (λ x-is.
-        get (valueAs Se) (Sees (h .auto .host) (h .fixed .host) (h .held .host) (askOf y 4)) (arg refl tt (arg refl tt (arg refl tt (arg refl tt nil)))) (range-seen host (λ p. p .host) (λ p. p .host) (host-pool 𝓤 H A W) (host-holder 𝓤 H A W) (askOf y 4) x-is (fit-host h ok)) tt refl (λ j j-is j-seen.
-        point {b = b} {o = o} {a = (o + auto-at) + pool-at device} refl refl tt tt (tt, tt) (point {b = b} {o = o} {a = (o + fixed-at) + pool-at device} refl refl tt tt (tt, tt) (point {b = b} {o = o} {a = (o + held-at) + holder-at device} refl refl tt tt (tt, tt) (make (valueAs As) (askOf y 5) (arg refl tt (num tt nil)) (ask-made y y-is 5 tt) tt refl (λ x-is.
-        get (valueAs Se) (Sees (h .auto .device) (h .fixed .device) (h .held .device) (askOf y 5)) (arg refl tt (arg refl tt (arg refl tt (arg refl tt nil)))) (range-seen device (λ p. p .device) (λ p. p .device) (device-pool 𝓤 H A W) (device-holder 𝓤 H A W) (askOf y 5) x-is (fit-device h ok)) tt refl (λ d d-is d-seen.
-        point {b = b} {o = o} {a = (o + auto-at) + pool-at event} refl refl tt tt (tt, tt) (point {b = b} {o = o} {a = (o + fixed-at) + pool-at event} refl refl tt tt (tt, tt) (point {b = b} {o = o} {a = (o + held-at) + holder-at event} refl refl tt tt (tt, tt) (make (valueAs As) (askOf y 6) (arg refl tt (num tt nil)) (ask-made y y-is 6 tt) tt refl (λ x-is.
-        get (valueAs Se) (Sees (h .auto .event) (h .fixed .event) (h .held .event) (askOf y 6)) (arg refl tt (arg refl tt (arg refl tt (arg refl tt nil)))) (range-seen event (λ p. p .event) (λ p. p .event) (event-pool 𝓤 H A W) (event-holder 𝓤 H A W) (askOf y 6) x-is (fit-event h ok)) tt refl (λ e e-is e-seen.
-        point {b = b} {o = o} {a = (o + auto-at) + pool-at lpi} refl refl tt tt (tt, tt) (point {b = b} {o = o} {a = (o + fixed-at) + pool-at lpi} refl refl tt tt (tt, tt) (point {b = b} {o = o} {a = (o + held-at) + holder-at lpi} refl refl tt tt (tt, tt) (make (valueAs As) (askOf y 7) (arg refl tt (num tt nil)) (ask-made y y-is 7 tt) tt refl (λ x-is.
-        get (valueAs Se) (Sees (h .auto .lpi) (h .fixed .lpi) (h .held .lpi) (askOf y 7)) (arg refl tt (arg refl tt (arg refl tt (arg refl tt nil)))) (range-seen lpi (λ p. p .lpi) (λ p. p .lpi) (lpi-pool 𝓤 H A W) (lpi-holder 𝓤 H A W) (askOf y 7) x-is (fit-lpi h ok)) tt refl (λ l l-is l-seen.
+        point {b = b} {o = o} {a = (o + auto-at) + pool-at host} refl refl tt tt (tt, tt) (point {b = b} {o = o} {a = (o + fixed-at) + pool-at host} refl refl tt tt (tt, tt) (point {b = b} {o = o} {a = (o + held-at) + holder-at host} refl refl tt tt (tt, tt) (make (valueAs As) (askOf y Kd.Host) (arg refl tt nil) (host-made y y-is) tt refl (λ x-is.
+        get (valueAs Se) (Sees (h .auto .host) (h .fixed .host) (h .held .host) (askOf y Kd.Host)) (arg refl tt (arg refl tt (arg refl tt (arg refl tt nil)))) (range-seen host (λ p. p .host) (λ p. p .host) (host-pool 𝓤 H A W) (host-holder 𝓤 H A W) (askOf y Kd.Host) x-is (fit-host h ok)) tt refl (λ j j-is j-seen.
+        point {b = b} {o = o} {a = (o + auto-at) + pool-at device} refl refl tt tt (tt, tt) (point {b = b} {o = o} {a = (o + fixed-at) + pool-at device} refl refl tt tt (tt, tt) (point {b = b} {o = o} {a = (o + held-at) + holder-at device} refl refl tt tt (tt, tt) (make (valueAs As) (askOf y Kd.Device) (arg refl tt nil) (device-made y y-is) tt refl (λ x-is.
+        get (valueAs Se) (Sees (h .auto .device) (h .fixed .device) (h .held .device) (askOf y Kd.Device)) (arg refl tt (arg refl tt (arg refl tt (arg refl tt nil)))) (range-seen device (λ p. p .device) (λ p. p .device) (device-pool 𝓤 H A W) (device-holder 𝓤 H A W) (askOf y Kd.Device) x-is (fit-device h ok)) tt refl (λ d d-is d-seen.
+        point {b = b} {o = o} {a = (o + auto-at) + pool-at event} refl refl tt tt (tt, tt) (point {b = b} {o = o} {a = (o + fixed-at) + pool-at event} refl refl tt tt (tt, tt) (point {b = b} {o = o} {a = (o + held-at) + holder-at event} refl refl tt tt (tt, tt) (make (valueAs As) (askOf y Kd.Event) (arg refl tt nil) (event-made y y-is) tt refl (λ x-is.
+        get (valueAs Se) (Sees (h .auto .event) (h .fixed .event) (h .held .event) (askOf y Kd.Event)) (arg refl tt (arg refl tt (arg refl tt (arg refl tt nil)))) (range-seen event (λ p. p .event) (λ p. p .event) (event-pool 𝓤 H A W) (event-holder 𝓤 H A W) (askOf y Kd.Event) x-is (fit-event h ok)) tt refl (λ e e-is e-seen.
+        point {b = b} {o = o} {a = (o + auto-at) + pool-at lpi} refl refl tt tt (tt, tt) (point {b = b} {o = o} {a = (o + fixed-at) + pool-at lpi} refl refl tt tt (tt, tt) (point {b = b} {o = o} {a = (o + held-at) + holder-at lpi} refl refl tt tt (tt, tt) (make (valueAs As) (askOf y Kd.Lpi) (arg refl tt nil) (lpi-made y y-is) tt refl (λ x-is.
+        get (valueAs Se) (Sees (h .auto .lpi) (h .fixed .lpi) (h .held .lpi) (askOf y Kd.Lpi)) (arg refl tt (arg refl tt (arg refl tt (arg refl tt nil)))) (range-seen lpi (λ p. p .lpi) (λ p. p .lpi) (lpi-pool 𝓤 H A W) (lpi-holder 𝓤 H A W) (askOf y Kd.Lpi) x-is (fit-lpi h ok)) tt refl (λ l l-is l-seen.
         make (valueAs Fo) (verdictOf y m p w j d e l) (arg refl tt (arg refl tt (arg refl tt (arg refl tt (arg refl tt (arg refl tt (arg refl tt (arg refl tt (nil))))))))) (verdict-made y y-is m p w j d e l m-is p-is w-is j-is d-is e-is l-is) tt refl (λ v-is. back (Fo .val (verdictOf y m p w j d e l)) refl tt
         (ends 𝓤 H A W (f.signature .params) (f.ended .kept) Fo (f.clauses 𝓤 H A at-mem run) (LL.makes F.the-type F′.the-plain 𝓤 H A) κ q bounds a vss tt (verdictOf y m p w j d e l) v-is (tt, (tt, tt))
         (factI 𝓤 _ (emp 𝓤) (decides h ok (a .1 .0) y y-asks m p w j d e l (record { mmio = m-seen; pio = p-seen; input = w-seen; host = j-seen; device = d-seen; event = e-seen; lpi = l-seen })))))))))))))))))))))))))))))))))))))))))
@@ -191,8 +227,13 @@ look-spec 𝓤 H 𝓜 𝓖 𝓡 =
     (tables 𝓤 H 𝓜 𝓡 f.Code.env .C) (tables 𝓤 H 𝓜 𝓡 f.Code.env .Λ) f.Key.name f.Code.function (f.Code.unfolded 𝓤 H 𝓜 𝓡)
     (f-meets 𝓤 H (𝓖 .A) (givenOf 𝓤 H 𝓜 𝓖) (𝓜 .mem) (𝓡 .run) (tablesOf 𝓤 H 𝓜 (tables 𝓤 H 𝓜 𝓡 f.Code.env)) (record {
       k-asked = cited 𝓤 H (tripleOf 𝓤 H (𝓖 .A) asked.signature (asked.spec 𝓤 H (𝓖 .A) (𝓜 .mem) (𝓡 .run))) 𝓜 𝓡 f.Code.env asked.Symbol.name asked.Symbol.routine f.Code.calls-admit·asked (asked.Met.met 𝓤 H 𝓜 𝓖 𝓡);
-      k-ask = cited 𝓤 H (tripleOf 𝓤 H (𝓖 .A) ask.signature (ask.spec 𝓤 H (𝓖 .A) (𝓜 .mem) (𝓡 .run))) 𝓜 𝓡 f.Code.env ask.Symbol.name ask.Symbol.routine f.Code.calls-admit·ask-range (ask.Met.met 𝓤 H 𝓜 𝓖 𝓡);
-      k-ask-wire = cited 𝓤 H (tripleOf 𝓤 H (𝓖 .A) ask-wire.signature (ask-wire.spec 𝓤 H (𝓖 .A) (𝓜 .mem) (𝓡 .run))) 𝓜 𝓡 f.Code.env ask-wire.Symbol.name ask-wire.Symbol.routine f.Code.calls-admit·ask-wire (ask-wire.Met.met 𝓤 H 𝓜 𝓖 𝓡);
+      k₀ = cited 𝓤 H (tripleOf 𝓤 H (𝓖 .A) q₀.signature (q₀.spec 𝓤 H (𝓖 .A) (𝓜 .mem) (𝓡 .run))) 𝓜 𝓡 f.Code.env q₀.Symbol.name q₀.Symbol.routine f.Code.calls-admit·asking·mmio (q₀.Met.met 𝓤 H 𝓜 𝓖 𝓡);
+      k₁ = cited 𝓤 H (tripleOf 𝓤 H (𝓖 .A) q₁.signature (q₁.spec 𝓤 H (𝓖 .A) (𝓜 .mem) (𝓡 .run))) 𝓜 𝓡 f.Code.env q₁.Symbol.name q₁.Symbol.routine f.Code.calls-admit·asking·pio (q₁.Met.met 𝓤 H 𝓜 𝓖 𝓡);
+      k₂ = cited 𝓤 H (tripleOf 𝓤 H (𝓖 .A) q₂.signature (q₂.spec 𝓤 H (𝓖 .A) (𝓜 .mem) (𝓡 .run))) 𝓜 𝓡 f.Code.env q₂.Symbol.name q₂.Symbol.routine f.Code.calls-admit·asking·host (q₂.Met.met 𝓤 H 𝓜 𝓖 𝓡);
+      k₃ = cited 𝓤 H (tripleOf 𝓤 H (𝓖 .A) q₃.signature (q₃.spec 𝓤 H (𝓖 .A) (𝓜 .mem) (𝓡 .run))) 𝓜 𝓡 f.Code.env q₃.Symbol.name q₃.Symbol.routine f.Code.calls-admit·asking·device (q₃.Met.met 𝓤 H 𝓜 𝓖 𝓡);
+      k₄ = cited 𝓤 H (tripleOf 𝓤 H (𝓖 .A) q₄.signature (q₄.spec 𝓤 H (𝓖 .A) (𝓜 .mem) (𝓡 .run))) 𝓜 𝓡 f.Code.env q₄.Symbol.name q₄.Symbol.routine f.Code.calls-admit·asking·event (q₄.Met.met 𝓤 H 𝓜 𝓖 𝓡);
+      k₅ = cited 𝓤 H (tripleOf 𝓤 H (𝓖 .A) q₅.signature (q₅.spec 𝓤 H (𝓖 .A) (𝓜 .mem) (𝓡 .run))) 𝓜 𝓡 f.Code.env q₅.Symbol.name q₅.Symbol.routine f.Code.calls-admit·asking·lpi (q₅.Met.met 𝓤 H 𝓜 𝓖 𝓡);
+      k-ask-wire = cited 𝓤 H (tripleOf 𝓤 H (𝓖 .A) ask-wire.signature (ask-wire.spec 𝓤 H (𝓖 .A) (𝓜 .mem) (𝓡 .run))) 𝓜 𝓡 f.Code.env ask-wire.Symbol.name ask-wire.Symbol.routine f.Code.calls-admit·asking·input (ask-wire.Met.met 𝓤 H 𝓜 𝓖 𝓡);
       k-range = cited 𝓤 H (tripleOf 𝓤 H (𝓖 .A) range.signature (range.spec 𝓤 H (𝓖 .A) (𝓜 .mem) (𝓡 .run))) 𝓜 𝓡 f.Code.env range.Symbol.name range.Symbol.routine f.Code.calls-admit·answer·range (range.Met.met 𝓤 H 𝓜 𝓖 𝓡);
       k-wire = cited 𝓤 H (tripleOf 𝓤 H (𝓖 .A) wire.signature (wire.spec 𝓤 H (𝓖 .A) (𝓜 .mem) (𝓡 .run))) 𝓜 𝓡 f.Code.env wire.Symbol.name wire.Symbol.routine f.Code.calls-admit·answer·wire (wire.Met.met 𝓤 H 𝓜 𝓖 𝓡);
       k-judge = cited 𝓤 H (tripleOf 𝓤 H (𝓖 .A) judge.signature (judge.spec 𝓤 H (𝓖 .A) (𝓜 .mem) (𝓡 .run))) 𝓜 𝓡 f.Code.env judge.Symbol.name judge.Symbol.routine f.Code.calls-admit·judge (judge.Met.met 𝓤 H 𝓜 𝓖 𝓡);

@@ -36,8 +36,8 @@ module _ {M : Type 1} (𝓤 : URA M) (H : Heap 𝓤) (A : Atoms 𝓤) (W : Given
         ranges-columns 𝓤 H A W κ q r (a .1 .1 .0 .ptr .0) (a .1 .1 .0 .ptr .1) (a .1 .1 .0 .name) (a .1 .1 .0 .now) (among 𝓤 H A W κ q (typesAt (f.signature .params) (κ, tt)) a vss 2) (
         plainly K.the-row (a .1 .1 .1 .0) (LL.val K.the-type K′.the-laws (a .1 .1 .1 .0)) (LL.makes K.the-type K′.the-plain 𝓤 H A (a .1 .1 .1 .0) _ k-is) ∷ [])))
 
-    gives : Gives 𝓤 H A W (𝓣 .C) (mine 𝓤 H A W (f.signature .params) (f.ended .kept) X κ q a vss) g.Symbol.name (flat (typesAt (slots 𝓤 H A W κ q r passed) (κ, tt)) (valsOf 𝓤 H A W κ q r passed)) (valueAs X) (Tells (a .0 .now) (a .1 .0 .now) (a .1 .1 .0 .now) (a .1 .1 .1 .0))
-    gives = passing 𝓤 H A W κ q r (𝓣 .C) (fmOf 𝓤 H (W .laws) 𝓣) g.Symbol.name X (Tells (a .0 .now) (a .1 .0 .now) (a .1 .1 .0 .now) (a .1 .1 .1 .0)) passed (g.ended .kept) (g.clauses 𝓤 H A at-mem run) known (λ γs. tt) (λ γs. factI 𝓤 _ (emp 𝓤) may) (λ γs d e. id⊢ 𝓤 _)
+    gives : Gives 𝓤 H A W (𝓣 .C) (mine 𝓤 H A W (f.signature .params) (f.ended .kept) X κ q a vss) g.Symbol.name (flat (typesAt (slots 𝓤 H A W κ q r passed) (κ, tt)) (valsOf 𝓤 H A W κ q r passed)) (valueAs X) (Tells (a .0 .now) (a .1 .0 .now) (a .1 .1 .0 .now) (a .1 .1 .1 .0) (a .1 .1 .1 .0 .to))
+    gives = passing 𝓤 H A W κ q r (𝓣 .C) (fmOf 𝓤 H (W .laws) 𝓣) g.Symbol.name X (Tells (a .0 .now) (a .1 .0 .now) (a .1 .1 .0 .now) (a .1 .1 .1 .0) (a .1 .1 .1 .0 .to)) passed (g.ended .kept) (g.clauses 𝓤 H A at-mem run) known (λ γs. tt) (λ γs. factI 𝓤 _ (emp 𝓤) may) (λ γs d e. id⊢ 𝓤 _)
 
     -- the reservations' columns have their full length
     shown : Shows 𝓤 H A W κ q r (Is R.the-row (a .1 .1 .0 .now) (LL.vals R.the-type R′.the-laws (a .1 .1 .0 .now)))
@@ -50,7 +50,7 @@ module _ {M : Type 1} (𝓤 : URA M) (H : Heap 𝓤) (A : Atoms 𝓤) (W : Given
         point refl refl tt tt (tt, tt) (point refl refl tt tt (tt, tt) (point refl refl tt tt (tt, tt) (point refl refl tt tt (tt, tt) (point refl refl tt tt (tt, tt) (
         point refl refl tt tt (tt, tt) (point refl refl tt tt (tt, tt) (point refl refl tt tt (tt, tt) (point refl refl tt tt (tt, tt) (point refl refl tt tt (tt, tt) (
         point refl refl tt tt (tt, tt) (point refl refl tt tt (tt, tt) (point refl refl tt tt (tt, tt) (point refl refl tt tt (tt, tt) (point refl refl tt tt (tt, tt) (point refl refl tt tt (tt, tt) (point refl refl tt tt (tt, tt) (
-        ask (valueAs X) (Tells (a .0 .now) (a .1 .0 .now) (a .1 .1 .0 .now) (a .1 .1 .1 .0)) (arg refl tt (arg refl tt (arg refl tt (arg refl tt (arg refl tt (arg refl tt (arg refl tt (arg refl tt (arg refl tt (arg refl tt (arg refl tt (arg refl tt (arg refl tt (arg refl tt (arg refl tt (arg refl tt (arg refl tt (arg refl tt (nil))))))))))))))))))) gives tt refl (λ d d-is e. back (X .val d) refl tt
+        ask (valueAs X) (Tells (a .0 .now) (a .1 .0 .now) (a .1 .1 .0 .now) (a .1 .1 .1 .0) (a .1 .1 .1 .0 .to)) (arg refl tt (arg refl tt (arg refl tt (arg refl tt (arg refl tt (arg refl tt (arg refl tt (arg refl tt (arg refl tt (arg refl tt (arg refl tt (arg refl tt (arg refl tt (arg refl tt (arg refl tt (arg refl tt (arg refl tt (arg refl tt (nil))))))))))))))))))) gives tt refl (λ d d-is e. back (X .val d) refl tt
         (ends 𝓤 H A W (f.signature .params) (f.ended .kept) X (f.clauses 𝓤 H A at-mem run) (LL.makes S.the-type S′.the-plain 𝓤 H A) κ q bounds a vss tt d d-is (tt, (tt, (tt, (tt, tt))))
         (factI 𝓤 _ (emp 𝓤) (record { sized = ranges-full (a .1 .1 .0 .now) _ is; tells = e }))))))))))))))))))))))
 

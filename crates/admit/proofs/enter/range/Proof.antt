@@ -1,7 +1,7 @@
 -- Its parts. Assumes nothing.
 use borrow.Author.Needs.{needs}
-use Rattle.admit.proofs.pool_put.Statement.{statement}
-use Rattle.admit.proofs.pool_put.Tie as tie
+use Rattle.admit.proofs.enter.range.Statement.{statement}
+use Rattle.admit.proofs.enter.range.Tie as tie
 
 stays-requires : tie.Need-stays-requires
 stays-requires c κs = search needs
@@ -12,5 +12,5 @@ range-for-requires c κs = search needs
 returns : tie.Need-returns
 returns c = rw (c .before .before .stays .ensures, c .range-for .ensures)
 
-pub pool-put-spec : {M : Type 1} → statement M
-pool-put-spec = tie.close (tie.spec stays-requires range-for-requires returns)
+pub range-spec : {M : Type 1} → statement M
+range-spec = tie.close (tie.spec stays-requires range-for-requires returns)

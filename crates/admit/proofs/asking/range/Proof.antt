@@ -1,8 +1,8 @@
 -- Where the call has a row for the tables, and where it has none. Assumes nothing.
 use borrow.Author.Needs.{needs}
 use mathlib.Core.Path.{_∙_, sym}
-use Rattle.admit.proofs.ask_range.Statement.{statement}
-use Rattle.admit.proofs.ask_range.Tie as tie
+use Rattle.admit.proofs.asking.range.Statement.{statement}
+use Rattle.admit.proofs.asking.range.Tie as tie
 
 range-for-requires : tie.Need-range-for-requires
 range-for-requires c κs = search needs
@@ -16,5 +16,5 @@ returns c = rw (sym (c .before .goes .ensures) ∙ c .if1 .taken, c .before .bef
 returns-2 : tie.Need-returns-2
 returns-2 c = rw (sym (c .before .goes .ensures) ∙ c .if1 .left, c .before .before .before .range-for .ensures)
 
-pub ask-range-spec : {M : Type 1} → statement M
-ask-range-spec = tie.close (tie.spec range-for-requires goes-requires returns returns-2)
+pub range-spec : {M : Type 1} → statement M
+range-spec = tie.close (tie.spec range-for-requires goes-requires returns returns-2)

@@ -1,8 +1,8 @@
 -- Where the call has a row for the table, and where it has none. Assumes nothing.
 use borrow.Author.Needs.{needs}
 use mathlib.Core.Path.{_∙_, sym}
-use Rattle.admit.proofs.ask_wire.Statement.{statement}
-use Rattle.admit.proofs.ask_wire.Tie as tie
+use Rattle.admit.proofs.asking.input.Statement.{statement}
+use Rattle.admit.proofs.asking.input.Tie as tie
 
 goes-requires : tie.Need-goes-requires
 goes-requires c κs = search needs
@@ -13,5 +13,5 @@ returns c = rw (sym (c .before .goes .ensures) ∙ c .if1 .taken)
 returns-2 : tie.Need-returns-2
 returns-2 c = rw (sym (c .before .goes .ensures) ∙ c .if1 .left)
 
-pub ask-wire-spec : {M : Type 1} → statement M
-ask-wire-spec = tie.close (tie.spec goes-requires returns returns-2)
+pub input-spec : {M : Type 1} → statement M
+input-spec = tie.close (tie.spec goes-requires returns returns-2)

@@ -1,0 +1,27 @@
+-- By the tests in their order. Assumes nothing.
+use borrow.Author.Needs.{needs}
+use mathlib.Core.Path.{_∙_, sym}
+use borrow.Author.Tests.{not-true, not-false}
+use Rattle.admit.proofs.enter.stays.Statement.{statement}
+use Rattle.admit.proofs.enter.stays.Tie as tie
+
+same-to-requires : tie.Need-same-to-requires
+same-to-requires c κs = search needs
+
+returns : tie.Need-returns
+returns c = rw (sym (c .before .same-to .ensures) ∙ not-true (c .before .same-to .result) (c .if1 .taken))
+
+goes-requires : tie.Need-goes-requires
+goes-requires c κs = search needs
+
+returns-2 : tie.Need-returns-2
+returns-2 c = rw (sym (c .before .before .before .same-to .ensures) ∙ not-false (c .before .before .before .same-to .result) (c .before .before .if1 .left), sym (c .before .goes .ensures) ∙ not-true (c .before .goes .result) (c .if2 .taken))
+
+turn-requires : tie.Need-turn-requires
+turn-requires c κs = search needs
+
+returns-3 : tie.Need-returns-3
+returns-3 c = rw (sym (c .before .before .before .before .before .same-to .ensures) ∙ not-false (c .before .before .before .before .before .same-to .result) (c .before .before .before .before .if1 .left), sym (c .before .before .before .goes .ensures) ∙ not-false (c .before .before .before .goes .result) (c .before .before .if2 .left), c .before .turn .ensures)
+
+pub stays-spec : {M : Type 1} → statement M
+stays-spec = tie.close (tie.spec same-to-requires returns goes-requires returns-2 turn-requires returns-3)
