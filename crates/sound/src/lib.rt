@@ -12,40 +12,14 @@ use tables::State;
 use tables::Wires;
 ghost use mathlib.Core.Path.{_≡_};
 ghost use Rattle.definition.specs.Tables.{kinds};
-ghost use Rattle.definition.specs.Calls.{given, sound};
+ghost use Rattle.definition.specs.Calls.{sound};
 ghost use Rattle.tables.specs.Views.{stateView};
-ghost use Rattle.sound.specs.Tests.{givenRanges, setRanges, givenWires, setWires};
+ghost use Rattle.sound.specs.Tests.{setRanges, setWires};
 
 pub mod columns;
 pub mod wired;
 
-// Whether the pools and reservations of a kind of ranges are sound. Here and below columns are lent: the columns module has the tests.
-pub fn ranges_given(l: Limits, auto: Pool, fixed: Pool, held: Ranges) -> bool
-    ensures { λ r. ⌜ r ≡ givenRanges l auto fixed held ⌝ }
-{
-    columns::ranges_given(
-        l,
-        &auto.controller,
-        &auto.its,
-        &auto.start,
-        &auto.end,
-        &auto.n,
-        &fixed.controller,
-        &fixed.its,
-        &fixed.start,
-        &fixed.end,
-        &fixed.n,
-        &held.controller,
-        &held.its,
-        &held.device,
-        &held.start,
-        &held.end,
-        &held.owner,
-        &held.n,
-    )
-}
-
-// Whether all tables of a kind of ranges are sound.
+// Whether all tables of a kind of ranges are sound. Here and below columns are lent: the columns module has the tests.
 pub fn ranges_set(l: Limits, auto: Pool, fixed: Pool, held: Ranges, owners: Ranges) -> bool
     ensures { λ r. ⌜ r ≡ setRanges l auto fixed held owners ⌝ }
 {
@@ -78,30 +52,6 @@ pub fn ranges_set(l: Limits, auto: Pool, fixed: Pool, held: Ranges, owners: Rang
     )
 }
 
-// Whether the pools and reservations of inputs are sound.
-pub fn wires_given(auto: Pool, fixed: Pool, held: Wires) -> bool
-    ensures { λ r. ⌜ r ≡ givenWires auto fixed held ⌝ }
-{
-    columns::wires_given(
-        &auto.controller,
-        &auto.its,
-        &auto.start,
-        &auto.end,
-        &auto.n,
-        &fixed.controller,
-        &fixed.its,
-        &fixed.start,
-        &fixed.end,
-        &fixed.n,
-        &held.controller,
-        &held.input,
-        &held.trigger,
-        &held.sharing,
-        &held.owner,
-        &held.n,
-    )
-}
-
 // Whether all tables of inputs are sound.
 pub fn wires_set(auto: Pool, fixed: Pool, held: Wires, owners: Wires) -> bool
     ensures { λ r. ⌜ r ≡ setWires auto fixed held owners ⌝ }
@@ -130,36 +80,6 @@ pub fn wires_set(auto: Pool, fixed: Pool, held: Wires, owners: Wires) -> bool
         &owners.owner,
         &owners.n,
     )
-}
-
-// Whether all pools and all reservations are sound: what adding a range, reserving and starting ask.
-pub fn given(s: State) -> bool
-    ensures { λ r. ⌜ r ≡ given kinds (stateView s) ⌝ }
-{
-    if !ranges_given(mmio_limits(), s.auto.mmio, s.fixed.mmio, s.held.mmio) {
-        return false;
-    }
-    if !ranges_given(pio_limits(), s.auto.pio, s.fixed.pio, s.held.pio) {
-        return false;
-    }
-    if !wires_given(s.auto.input, s.fixed.input, s.held.input) {
-        return false;
-    }
-    if !ranges_given(host_limits(), s.auto.host, s.fixed.host, s.held.host) {
-        return false;
-    }
-    if !ranges_given(
-        device_limits(),
-        s.auto.device,
-        s.fixed.device,
-        s.held.device,
-    ) {
-        return false;
-    }
-    if !ranges_given(event_limits(), s.auto.event, s.fixed.event, s.held.event) {
-        return false;
-    }
-    ranges_given(lpi_limits(), s.auto.lpi, s.fixed.lpi, s.held.lpi)
 }
 
 // Whether all tables are sound: what a request and a plan ask.

@@ -3,7 +3,6 @@ use spans::limits::capped;
 use spans::limits::higher;
 use tables::ROWS;
 use tables::WireRow;
-use tables::Wires;
 ghost use mathlib.Core.Path.{_≡_};
 ghost use Prim.Native.Nat.{_≤_, _<_};
 ghost use Rattle.definition.specs.Tables.{rowLimit, input as wired, sameRow, goodRow, used, begins};
@@ -207,22 +206,6 @@ pub fn table_sound<'a>(
     rows_ok(n, single, controller, input, trigger, sharing, owner)
 }
 
-// Whether a reservation table (`single`) or an owner table is sound.
-pub fn wires_sound(single: bool, t: Wires) -> bool
-    ensures { λ r. ⌜ r ≡ soundWires single t ⌝ }
-{
-    let n = t.n;
-    table_sound(
-        single,
-        n,
-        &t.controller,
-        &t.input,
-        &t.trigger,
-        &t.sharing,
-        &t.owner,
-    )
-}
-
 // Whether the first `m` rows of two tables in lent columns are the same.
 pub fn rows_same<'a>(
     m: usize,
@@ -285,27 +268,5 @@ pub fn begins_with<'a>(
         trigger2,
         sharing2,
         owner2,
-    )
-}
-
-// Whether the owner table begins with the reservations, in order.
-pub fn wires_begin(held: Wires, owners: Wires) -> bool
-    ensures { λ r. ⌜ r ≡ begins (used (wiresView held)) (used (wiresView owners)) ⌝ }
-{
-    let m = held.n;
-    let n = owners.n;
-    begins_with(
-        m,
-        &held.controller,
-        &held.input,
-        &held.trigger,
-        &held.sharing,
-        &held.owner,
-        n,
-        &owners.controller,
-        &owners.input,
-        &owners.trigger,
-        &owners.sharing,
-        &owners.owner,
     )
 }
