@@ -1,4 +1,4 @@
-// The proved side's tables as Rust sees them: C's layout, field by field as in crates/tables and crates/calls.
+// The proved side's tables as Rust sees them: C's layout, field by field as in crates/tables and crates/kinds.
 
 pub use oracle::added::{HELD_ROWS as ROWS, POOL_ROWS, RECORD};
 use oracle::calls::{Kind, Place, Row, Tables};

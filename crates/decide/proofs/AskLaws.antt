@@ -16,7 +16,7 @@ use Rattle.request.specs.declared.Want.{Want}
 use Rattle.request.specs.declared.Want.the-variants.{Mmio, Pio, WiredIrq, HostIrq, Msi}
 use Rattle.request.specs.declared.Request.{Request}
 use Rattle.request.proofs.GoodLaws.{memory-says, ports-says, msi-says, request-says}
-use Rattle.look.specs.Look.{Fit, Asks}
+use Rattle.lent_table.specs.Look.{Fit, Asks}
 use Rattle.tables.specs.declared.Pool.{Pool}
 use Rattle.tables.specs.declared.Ranges.{Ranges}
 use Rattle.choose.specs.Ids.{deviceChoice, eventChoice, lpiChoice}

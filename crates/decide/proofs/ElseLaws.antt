@@ -3,7 +3,7 @@ use mathlib.Core.Path.{_≡_, refl}
 use mathlib.Core.List.{[], _∷_}
 use types.Run.{OneOf, miss}
 use denote.Enum.Declared.{tagOf}
-use Rattle.look.specs.declared.Seen.{Seen}
+use Rattle.lent_table.specs.declared.look.Seen.{Seen}
 use Rattle.decide.specs.Query.{idle, idleWire, asked}
 use Rattle.decide.specs.Granted.{noPut, noWirePut, puts}
 use Rattle.decide.specs.declared.Query.{Query}

@@ -33,7 +33,7 @@ use Rattle.msi.specs.declared.Msi.{Msi}
 use Rattle.tables.specs.declared.DeviceId.{DeviceId}
 use Rattle.tables.specs.declared.EventId.{EventId}
 use Rattle.tables.specs.declared.Lpi.{Lpi}
-use Rattle.store.specs.Store.{Free}
+use Rattle.lent_table.specs.Store.{Free}
 use Rattle.decide.specs.Outcome.{someBase, someMsi, firstsIn, basesIn, after}
 use Rattle.decide.specs.Granted.{granted, refusal, rowFor, wireFor, given, wireGranted, msiGranted}
 use Rattle.decide.specs.Granted as Said

@@ -32,8 +32,8 @@ use Rattle.msi.specs.declared.MsiChosen.{MsiChosen}
 use Rattle.msi.specs.declared.MsiChosen.the-variants as M
 use Rattle.msi.proofs.DecideLaws.{chain-is}
 use Rattle.msi.proofs.RoomLaws.{msi-room}
-use Rattle.look.specs.Look.{Sees}
-use Rattle.look.specs.declared.Seen.{Seen}
+use Rattle.lent_table.specs.Look.{Sees}
+use Rattle.lent_table.specs.declared.look.Seen.{Seen}
 use Rattle.decide.specs.Outcome.{someMsi, firstsIn}
 use Rattle.decide.specs.Query.{deviceAsk, eventAsk, lpiAsk}
 use Rattle.decide.specs.Granted.{msiGiven}

@@ -30,8 +30,8 @@ use Rattle.request.specs.declared.Want.{Want}
 use Rattle.request.specs.declared.Want.the-variants.{Mmio, Pio, WiredIrq, HostIrq, Msi}
 use Rattle.request.specs.declared.Request.{Request}
 use Rattle.msi.proofs.ListLaws.{msi-is}
-use Rattle.look.specs.Look.{Sees, SeesWire}
-use Rattle.look.specs.declared.Seen.{Seen}
+use Rattle.lent_table.specs.Look.{Sees, SeesWire}
+use Rattle.lent_table.specs.declared.look.Seen.{Seen}
 use Rattle.decide.specs.Outcome.{claimed}
 use Rattle.decide.specs.Query.{needing, ask, wanted, queryOf, asked}
 use Rattle.decide.specs.Granted.{rowFor, standing, rangeGranted, given, verdictOf}

@@ -21,9 +21,9 @@ use Rattle.msi.specs.Msi.{deviceIn, eventIn, lpiIn, chained, rowsOf}
 use Rattle.msi.specs.declared.Msi.{Msi}
 use Rattle.msi.specs.declared.MsiChosen.{MsiChosen}
 use Rattle.msi.specs.declared.MsiChosen.the-variants as M
-use Rattle.look.specs.declared.Seen.{Seen}
-use Rattle.store.specs.declared.Put.{Put}
-use Rattle.store.specs.declared.WirePut.{WirePut}
+use Rattle.lent_table.specs.declared.look.Seen.{Seen}
+use Rattle.lent_table.specs.declared.store.Put.{Put}
+use Rattle.lent_table.specs.declared.store.WirePut.{WirePut}
 use Rattle.decide.specs.Outcome.{noBases, someBase, someMsi}
 use Rattle.decide.specs.declared.Bases.{Bases}
 use Rattle.decide.specs.declared.Query.{Query}

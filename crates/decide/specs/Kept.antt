@@ -9,7 +9,7 @@ use Rattle.tables.specs.Views.{stateView}
 use Rattle.tables.specs.Whole.{holders}
 use Rattle.tables.specs.declared.Holders.{Holders}
 use Rattle.tables.specs.declared.State.{State}
-use Rattle.store.specs.Store.{Free, putRange, putWire}
+use Rattle.lent_table.specs.Store.{Free, putRange, putWire}
 use Rattle.decide.specs.Outcome.{basesIn, after}
 use Rattle.decide.specs.Granted.{puts}
 use Rattle.decide.specs.declared.Granted.{Granted}

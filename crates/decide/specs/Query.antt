@@ -19,9 +19,9 @@ use Rattle.request.specs.Asked.{requestOf}
 use Rattle.request.specs.declared.Want as W
 use Rattle.request.specs.declared.Want.the-variants as Want
 use Rattle.request.specs.declared.Request.{Request}
-use Rattle.look.specs.declared.Ask.{Ask}
-use Rattle.look.specs.declared.WireAsk.{WireAsk}
-use Rattle.look.specs.declared.Seen.{Seen}
+use Rattle.lent_table.specs.declared.look.Ask.{Ask}
+use Rattle.lent_table.specs.declared.look.WireAsk.{WireAsk}
+use Rattle.lent_table.specs.declared.look.Seen.{Seen}
 use Rattle.decide.specs.declared.Query.{Query}
 use Rattle.decide.specs.declared.Query.the-variants as Q
 

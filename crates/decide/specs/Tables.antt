@@ -1,8 +1,8 @@
 -- What all seven tables are asked by one query, and what is seen in them. Assumes nothing.
 use Rattle.tables.specs.declared.State.{State}
 use Rattle.request.specs.declared.Request.{Request}
-use Rattle.look.specs.Look.{Asks, Sees, WireAsks, SeesWire}
-use Rattle.look.specs.declared.Seen.{Seen}
+use Rattle.lent_table.specs.Look.{Asks, Sees, WireAsks, SeesWire}
+use Rattle.lent_table.specs.declared.look.Seen.{Seen}
 use Rattle.msi.specs.Msi.{deviceIn, eventIn}
 use Rattle.decide.specs.Query.{ask, askWire, deviceAsk, eventAsk, lpiAsk, asked, queryOf}
 use Rattle.decide.specs.declared.Query.{Query}

@@ -5,7 +5,7 @@ use super::Rows;
 use choose::Chosen;
 use choose::Refusal;
 use choose::wired::Wire;
-use look::Seen;
+use lent_table::look::Seen;
 use msi::Msi;
 use msi::MsiChosen;
 use request::Said;

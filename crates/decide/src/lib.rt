@@ -2,7 +2,7 @@
 use choose::Choice;
 use choose::Refusal;
 use choose::wired::Wire;
-use look::Seen;
+use lent_table::look::Seen;
 use msi::Msi;
 use msi::MsiRows;
 use request::Request;

@@ -1,8 +1,8 @@
 // What each table is to store: the rows' own tables a row, any other nothing.
 use super::Granted;
 use super::Rows;
-use store::Put;
-use store::WirePut;
+use lent_table::store::Put;
+use lent_table::store::WirePut;
 use tables::RangeRow;
 use tables::WireRow;
 ghost use mathlib.Core.Path.{_≡_};

@@ -1,21 +1,21 @@
-// Tables by value, for the calls that take them so: what a table gives, as `look` has it, and a row put at its end, as `store` has it.
-use look::Ask;
-use look::Seen;
-use look::WireAsk;
-use store::Put;
-use store::WirePut;
+// Tables by value, for the calls that take them so: what a table gives, as `lent_table` has it, and a row put at its end, as `lent_table` has it.
+use lent_table::look::Ask;
+use lent_table::look::Seen;
+use lent_table::look::WireAsk;
+use lent_table::store::Put;
+use lent_table::store::WirePut;
 use tables::Pool;
 use tables::Ranges;
 use tables::Wires;
 ghost use mathlib.Core.Path.{_≡_};
-ghost use Rattle.look.specs.Look.{Asks, Sees, WireAsks, SeesWire};
-ghost use Rattle.store.specs.Store.{Free, putRange, putWire};
+ghost use Rattle.lent_table.specs.Look.{Asks, Sees, WireAsks, SeesWire};
+ghost use Rattle.lent_table.specs.Store.{Free, putRange, putWire};
 
 pub fn see_range(auto: Pool, fixed: Pool, own: Ranges, ask: Ask) -> Seen
     requires { ⌜ Asks auto fixed own ask ⌝ }
     ensures { λ r. ⌜ Sees auto fixed own ask r ⌝ }
 {
-    look::range_columns(
+    lent_table::look::range_columns(
         &auto.controller,
         &auto.its,
         &auto.start,
@@ -41,7 +41,7 @@ pub fn see_wire(auto: Pool, fixed: Pool, own: Wires, ask: WireAsk) -> Seen
     requires { ⌜ WireAsks auto fixed own ask ⌝ }
     ensures { λ r. ⌜ SeesWire auto fixed own ask r ⌝ }
 {
-    look::wire_columns(
+    lent_table::look::wire_columns(
         &auto.controller,
         &auto.its,
         &auto.start,

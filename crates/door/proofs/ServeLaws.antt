@@ -6,12 +6,12 @@ use Rattle.definition.specs.Base.{require}
 use Rattle.definition.specs.BaseLaws.{true-T}
 use Rattle.definition.specs.Tables.{kinds}
 use Rattle.definition.specs.Calls.{State, given, saying, want, serve}
-use Rattle.range.specs.Answers.{heard}
+use Rattle.insert.specs.Answers.{heard}
 use Rattle.request.specs.Asked.{requestOf}
 use Rattle.request.specs.Calls.{callOf}
 use Rattle.request.specs.declared.call.Call.{Call}
 use Rattle.request.specs.declared.call.Call.the-variants as C
-use Rattle.applied.specs.Applied.{applyOf}
+use Rattle.door.specs.Applied.{applyOf}
 use Rattle.door.specs.Served.{wantsOf, wantedOf, stopOf, serveOf}
 
 pub served-want : (c : Call) (s t : State) → T (wantsOf c) → t ≡ serve kinds (want (requestOf (wantedOf c))) s → t ≡ serveOf (callOf c) s

@@ -6,7 +6,7 @@ use Rattle.definition.specs.Base.{malformed, badInput, refused, require}
 use Rattle.definition.specs.Tables.{kinds}
 use Rattle.definition.specs.Calls.{State, Call as DCall, given, settle, serve}
 use Rattle.choose.specs.declared.Choice.the-variants.{Auto}
-use Rattle.range.specs.declared.Reply.{Reply}
+use Rattle.insert.specs.declared.Reply.{Reply}
 use Rattle.request.specs.declared.Request.{Request}
 use Rattle.request.specs.declared.Want.the-variants.{HostIrq}
 use Rattle.request.specs.declared.call.Call.{Call}

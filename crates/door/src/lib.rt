@@ -1,6 +1,6 @@
 // THE door: the whole state is lent to be changed in place, by any call. And 01's form of it for one request: a thin door over the by-value core.
 use choose::Choice;
-use range::Reply;
+use insert::Reply;
 use request::Request;
 use request::Want;
 use request::call::Call;
@@ -13,6 +13,8 @@ ghost use Rattle.tables.specs.Views.{stateView};
 ghost use Rattle.request.specs.Asked.{requestOf};
 ghost use Rattle.request.specs.Calls.{callOf};
 ghost use Rattle.door.specs.Served.{wantsOf, noRequest, wantedOf, unreadOf, stopOf, serveOf};
+
+pub mod apply;
 
 // ---- what is judged first, over plain values
 
@@ -71,9 +73,9 @@ pub fn stop(given: bool, c: Call) -> Reply
     ensures { λ r. ⌜ r ≡ stopOf given c ⌝ }
 {
     if given {
-        return admit::plain(unread(c));
+        return adding::plain(unread(c));
     }
-    admit::plain(1)
+    adding::plain(1)
 }
 
 pub fn stands(r: Reply) -> bool
@@ -93,13 +95,13 @@ pub fn serve(s: &mut State, c: Call)
         plan::allocate(s, r);
         return;
     }
-    let given = lent_sound::given(s);
+    let given = sound::lent::given(s);
     let r = stop(given, c);
     if stands(r) {
-        applied::apply(s, c);
+        apply::apply(s, c);
         return;
     }
-    applied::say(s, r);
+    apply::say(s, r);
 }
 
 // 01's form for one request: the state is copied out, the by-value core is called, and what that returns is stored.

@@ -18,7 +18,7 @@ use Rattle.definition.specs.PlanLaws.{tell-number, tell-index, plan-says}
 use Rattle.definition.specs.RunLaws.{run-requests, run-stopped, records-length}
 use Rattle.flat.specs.Flat.{requestSize, requestsOf, wholeRequests, flatPlan}
 use Rattle.flat.proofs.FlatLaws.{requests-length, flat-whole}
-use Rattle.face.specs.Lent.{filledBy, filledIn}
+use Rattle.numbers.specs.Lent.{filledBy, filledIn}
 
 -- ---- as many grants as requests, or fewer
 

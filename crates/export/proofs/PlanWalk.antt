@@ -13,14 +13,14 @@ use Rattle.tables.specs.Views.{stateView}
 use Rattle.tables.specs.declared.State.{State}
 use Rattle.tables.proofs.State as T
 use Rattle.tables.proofs.State.Laws as T′
-use Rattle.lent.specs.Marks.{marksOf}
-use Rattle.lent.specs.declared.Marks.{Marks}
-use Rattle.lent.proofs.Marks as Ma
-use Rattle.lent.proofs.Marks.Laws as Ma′
+use Rattle.inplace.specs.Marks.{marksOf}
+use Rattle.inplace.specs.declared.marks.Marks.{Marks}
+use Rattle.inplace.proofs.marks.Marks as Ma
+use Rattle.inplace.proofs.marks.Marks.Laws as Ma′
 use Rattle.walks.proofs.Straight.{Store, env, first, others, given, set, arg, nil}
-use Rattle.lent.proofs.Acts.{Acts}
-use Rattle.lent.proofs.Steps.{Does, part-reads, local-of, points, sets, acted, leaves-if, gives, entering}
-use Rattle.lent.proofs.peek.Symbol.{name as #peek}
+use Rattle.inplace.proofs.Acts.{Acts}
+use Rattle.inplace.proofs.Steps.{Does, part-reads, local-of, points, sets, acted, leaves-if, gives, entering}
+use Rattle.inplace.proofs.marks.peek.Symbol.{name as #peek}
 use Rattle.plan.proofs.Held.{Peek, valM}
 use Rattle.plan.proofs.Kept.{ends, meets}
 use Rattle.plan.proofs.PlansBy as By

@@ -11,8 +11,8 @@ use Rattle.definition.specs.Plan.{Lent, lent}
 use Rattle.tables.specs.Whole.{freshState}
 use Rattle.tables.specs.declared.State.{State}
 use Rattle.tables.proofs.State.Laws.{mir}
-use Rattle.face.specs.Lent.{filledIn}
-use Rattle.face.specs.Rows.{Told, told}
+use Rattle.numbers.specs.Lent.{filledIn}
+use Rattle.numbers.specs.Rows.{Told, told}
 use Rattle.export.specs.Export.{stateSize, Answered, answered, numbered, counted, sized, sizedRead, begun, sizedFresh}
 
 -- THE SIZE IS THE STATE'S: as many bytes as the struct has where the machine lays it out

@@ -10,8 +10,8 @@ use Rattle.definition.specs.Plan.{Lent, lent}
 use Rattle.tables.specs.Whole.{freshState}
 use Rattle.tables.specs.declared.State.{State}
 use Rattle.text.specs.Respond.{Replied}
-use Rattle.face.specs.Lent.{filledIn}
-use Rattle.face.specs.Rows.{answerSize, Told, told}
+use Rattle.numbers.specs.Lent.{filledIn}
+use Rattle.numbers.specs.Rows.{answerSize, Told, told}
 
 -- ---- the bytes of a state
 

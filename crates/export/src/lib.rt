@@ -1,11 +1,11 @@
 // The planner for callers in C and Rust. The state is the caller's memory, lent with its size: with another number for its size a state is left as it was, and the answer is 1.
 // Numbers come and go in lists. Nothing is required of them: whatever cannot be read gets its refusal.
-use face::ANSWER;
-use face::back::filled;
-use face::back::tell_read;
-use face::back::which;
-use face::row::row;
-use lent::Marks;
+use inplace::marks::Marks;
+use numbers::ANSWER;
+use numbers::back::filled;
+use numbers::back::tell_read;
+use numbers::back::which;
+use numbers::row::row;
 use tables::POOL_ROWS;
 use tables::ROWS;
 use tables::State;
@@ -16,9 +16,9 @@ ghost use lib.ListN.{length};
 ghost use Rattle.definition.specs.Plan.{lent};
 ghost use Rattle.tables.specs.Views.{stateView};
 ghost use Rattle.flat.specs.Flat.{flatPlan, flatAllocate};
-ghost use Rattle.face.specs.Rows.{told};
-ghost use Rattle.face.specs.Lent.{callTold, readTold, filledBy};
-ghost use Rattle.pin.specs.Pin.{pinnedNumbers};
+ghost use Rattle.numbers.specs.Rows.{told};
+ghost use Rattle.numbers.specs.Lent.{callTold, readTold, filledBy};
+ghost use Rattle.flat.specs.Pin.{pinnedNumbers};
 ghost use Rattle.text.specs.Respond.{respondsTo};
 ghost use Rattle.export.specs.Export.{stateSize, begun, sizedFresh, answered, sized, numbered, counted, sizedRead, bytesTold};
 
@@ -63,8 +63,8 @@ pub extern "C" fn planner_call(
     ensures { λ r. ⌜ answered (lent (stateView (now (state .exit))) (now (answer .exit))) r ≡ sized size (stateView (now (state .entry))) (now (answer .entry)) (numbered (callTold (now (numbers .entry)) (stateView (now (state .entry))) (now (answer .entry)))) ⌝ }
 {
     if size == STATE {
-        face::call_in(state, numbers, answer);
-        let m = lent::peek(state);
+        numbers::call_in(state, numbers, answer);
+        let m = inplace::marks::peek(state);
         return m.number;
     }
     1
@@ -82,7 +82,7 @@ pub extern "C" fn planner_allocate(
 {
     if size == STATE {
         plan::numbers::allocate_in(state, request, out);
-        let m = lent::peek(state);
+        let m = inplace::marks::peek(state);
         return m.number;
     }
     1
@@ -107,7 +107,7 @@ pub extern "C" fn planner_plan(
 {
     if size == STATE {
         plan::numbers::plan_in(state, requests, results);
-        let m = lent::peek(state);
+        let m = inplace::marks::peek(state);
         return filled_by(m, requests.len());
     }
     1
@@ -121,7 +121,7 @@ pub extern "C" fn planner_read(state: &State, size: u64, what: &[u64], out: &mut
     if size == STATE {
         let k = which(what);
         let x = row(state, k);
-        let m = lent::peek(state);
+        let m = inplace::marks::peek(state);
         return tell_read(k, m, x, out);
     }
     1
@@ -132,7 +132,7 @@ pub extern "C" fn planner_read(state: &State, size: u64, what: &[u64], out: &mut
 pub extern "C" fn planner_pin(requests: &mut [u64], results: &[u64])
     ensures { λ _. ⌜ now (requests .exit) ≡ pinnedNumbers (now (requests .entry)) (now (results .entry)) ⌝ }
 {
-    pin::pin(requests, results);
+    flat::pin::pin(requests, results);
 }
 
 // The text call: what the program answers, in front of `out`. It answers with how many bytes were written: 0 where `out` is shorter than the longest output there is.

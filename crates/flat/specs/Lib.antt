@@ -1,1 +1,2 @@
+pub mod Pin
 pub mod Flat

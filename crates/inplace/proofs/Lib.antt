@@ -1,3 +1,14 @@
+pub mod Acts
+pub mod LendThree
+pub mod Steps
+pub mod CutLaws
+pub mod Plain
+pub mod Lies
+pub mod Swap
+pub mod RestoreWalk
+pub mod Deeper
+pub mod PeekWalk
+pub mod CutViews
 pub mod Callees
 pub mod LendPart
 pub mod KeepWalk

@@ -12,6 +12,8 @@ ghost use Rattle.request.specs.Asked.{requestOf};
 ghost use Rattle.decide.specs.Outcome.{basesIn, after};
 ghost use Rattle.decide.specs.Kept.{AllFree, Finds, kept, answer};
 
+pub mod marks;
+
 // What the request is granted, and where its rows go. Only the tables that it asks are looked into: what an idle look costs, six times over, is as much as a whole request.
 pub fn find(s: &State, r: Request) -> Granted
     requires { ⌜ T (sound kinds (stateView (now s))) ⌝ }
@@ -19,7 +21,7 @@ pub fn find(s: &State, r: Request) -> Granted
 {
     let q = decide::queried(r);
     if decide::ask::for_mmio(q) {
-        let seen = look::range(
+        let seen = lent_table::look::range(
             &s.auto.mmio,
             &s.fixed.mmio,
             &s.owners.mmio,
@@ -28,7 +30,7 @@ pub fn find(s: &State, r: Request) -> Granted
         return decide::one(q, seen);
     }
     if decide::ask::for_pio(q) {
-        let seen = look::range(
+        let seen = lent_table::look::range(
             &s.auto.pio,
             &s.fixed.pio,
             &s.owners.pio,
@@ -37,7 +39,7 @@ pub fn find(s: &State, r: Request) -> Granted
         return decide::one(q, seen);
     }
     if decide::ask::for_input(q) {
-        let seen = look::wire(
+        let seen = lent_table::look::wire(
             &s.auto.input,
             &s.fixed.input,
             &s.owners.input,
@@ -46,7 +48,7 @@ pub fn find(s: &State, r: Request) -> Granted
         return decide::one(q, seen);
     }
     if decide::ask::for_host(q) {
-        let seen = look::range(
+        let seen = lent_table::look::range(
             &s.auto.host,
             &s.fixed.host,
             &s.owners.host,
@@ -54,19 +56,19 @@ pub fn find(s: &State, r: Request) -> Granted
         );
         return decide::one(q, seen);
     }
-    let device = look::range(
+    let device = lent_table::look::range(
         &s.auto.device,
         &s.fixed.device,
         &s.owners.device,
         decide::ask::device(q),
     );
-    let event = look::range(
+    let event = lent_table::look::range(
         &s.auto.event,
         &s.fixed.event,
         &s.owners.event,
         decide::ask::event(q, device),
     );
-    let lpi = look::range(
+    let lpi = lent_table::look::range(
         &s.auto.lpi,
         &s.fixed.lpi,
         &s.owners.lpi,
@@ -80,13 +82,13 @@ pub fn keep(s: &mut State, g: Granted)
     requires { ⌜ AllFree g (now s .owners) ⌝ }
     ensures { λ _. ⌜ now (s .exit) ≡ kept g (now (s .entry)) ⌝ }
 {
-    store::range(&mut s.owners.mmio, decide::put::mmio(g));
-    store::range(&mut s.owners.pio, decide::put::pio(g));
-    store::wire(&mut s.owners.input, decide::put::input(g));
-    store::range(&mut s.owners.host, decide::put::host(g));
-    store::range(&mut s.owners.device, decide::put::device(g));
-    store::range(&mut s.owners.event, decide::put::event(g));
-    store::range(&mut s.owners.lpi, decide::put::lpi(g));
+    lent_table::store::range(&mut s.owners.mmio, decide::put::mmio(g));
+    lent_table::store::range(&mut s.owners.pio, decide::put::pio(g));
+    lent_table::store::wire(&mut s.owners.input, decide::put::input(g));
+    lent_table::store::range(&mut s.owners.host, decide::put::host(g));
+    lent_table::store::range(&mut s.owners.device, decide::put::device(g));
+    lent_table::store::range(&mut s.owners.event, decide::put::event(g));
+    lent_table::store::range(&mut s.owners.lpi, decide::put::lpi(g));
     s.number = g.said.number;
     s.index = 0;
     s.namespace = g.said.namespace;

@@ -10,8 +10,8 @@ use Rattle.definition.specs.Tables.{recordSize, kinds}
 use Rattle.definition.specs.Request.{Request}
 use Rattle.definition.specs.Calls.{State}
 use Rattle.definition.specs.Plan.{Lent, lent, allocateInto}
-use Rattle.steps.specs.Steps.{numbered, answered, turned}
-use Rattle.steps.proofs.StepLaws.{turned-answers}
+use Rattle.plan.specs.Steps.{numbered, answered, turned}
+use Rattle.plan.proofs.StepLaws.{turned-answers}
 
 -- the part of the list from its own record on is lent and handed back
 pub part-answers : (i : ℕ) (r : Request) (s : State) (out : List ℕ) (t t′ : State) (ys : List ℕ) → s .said .number ≡ 0 → i < length out / recordSize

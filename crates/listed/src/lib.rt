@@ -8,7 +8,7 @@ ghost use lib.ListN.{length, getD};
 ghost use Rattle.definition.specs.Plan.{lent};
 ghost use Rattle.tables.specs.Views.{stateView};
 ghost use Rattle.request.specs.Asked.{requestOf};
-ghost use Rattle.steps.specs.Steps.{numbered, turned};
+ghost use Rattle.plan.specs.Steps.{numbered, turned};
 ghost use Rattle.plan.specs.Nobody.{nobody};
 
 // A refusal names its request.

@@ -1,9 +1,9 @@
 // The tables and the requests of the cases.
+use crate::lending::MOST;
 use choose::Choice;
 use choose::ids::DeviceChoice;
 use choose::ids::EventChoice;
 use choose::ids::LpiChoice;
-use lending::MOST;
 use pool::Call;
 use pool::Devices;
 use pool::Events;

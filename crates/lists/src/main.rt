@@ -1,8 +1,9 @@
 // Runs the doors of the plan over a lent list of requests: plan::list::plan_in and plan::list::plan. One line for each case: `passed` where the answer, the records, every number behind them and the owner tables are as expected.
 mod expected;
 mod input;
+pub mod lending;
 
-use lending::MOST;
+use crate::lending::MOST;
 use tables::PLAN;
 use tables::RECORD;
 use tables::State;

@@ -8,9 +8,9 @@ use Rattle.tables.specs.Views.{stateView}
 use Rattle.tables.specs.declared.State.{State}
 use Rattle.definition.specs.Cut.{cutting}
 use Rattle.definition.specs.CutLaws.{countsOf}
-use Rattle.lent.specs.Marks.{marksOf, countsIn, restored}
-use Rattle.lent.specs.declared.Marks.{Marks}
-use Rattle.lent.proofs.CutViews.{restored-view}
+use Rattle.inplace.specs.Marks.{marksOf, countsIn, restored}
+use Rattle.inplace.specs.declared.marks.Marks.{Marks}
+use Rattle.inplace.proofs.CutViews.{restored-view}
 use Rattle.plan.specs.Turns.{backTo}
 use Rattle.plan.proofs.InPlaceLaws.{cutBack}
 

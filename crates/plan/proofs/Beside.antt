@@ -6,7 +6,7 @@
 use Rattle.walks.proofs.Prelude.{_≡_, refl, ap, subst, ℕ, [], _∷_, List, URA, fullShare, Name, named, Fn, Val, vunit, vptr, SProp, ent, sep, emp, via, snd∗, exE, id⊢, GName, Lft, Share, ftrue, flft, fres, Heap, Calls, WpFn, Tables, Atoms, sem, fact, Lfts, FmC, Given, Item, mean, ⋆, ‵, raw, _⊛_, some, _$_, _∵_, !, qed, move, keep, use0, use1, split, join, pick, fsplit, fjoin, suffices, frame, show, done, RattleType, Denots, Valss, flat, owns, Is, Ises, Are, Spells, valss, Makes, Tells, Tellss, nothing-makes, unit, RefT, MutRef, ShrRef, ptr-vals, mut-tells, Slot, plain, mutRefTo, shrRefTo, typesAt, owned, heard, nothing, only, Args, Kepts, Fins, Meets, tripleOf, Triple, Ended, Clauses, Lasts, atExit, lasts, ensured, closing, says, Stays, stay-ref, stay-none, fitsOf, hasOf, AllGo, Silent, goes-ref, goes-none, yes, Last}
 use Rattle.tables.specs.declared.State.{State}
 use Rattle.tables.proofs.State as T
-use Rattle.lent.proofs.Acts.{Acts, lent-mut, lent-shr}
+use Rattle.inplace.proofs.Acts.{Acts, lent-mut, lent-shr}
 use Rattle.plan.proofs.Kept.{ends, meets}
 
 abbrev pub beside : (ps : List (Slot 1)) → Kepts ps → RattleType → Ended

@@ -10,8 +10,8 @@ use Rattle.tables.proofs.State as T
 use Rattle.tables.proofs.State.Laws as T′
 use Rattle.inplace.proofs.Callees.{made}
 use Rattle.walks.proofs.Straight.{Store, env, first, others, given, set, arg, nil}
-use Rattle.lent.proofs.Acts.{Acts, plainly}
-use Rattle.lent.proofs.Steps.{Does, part-reads, local-of, points, sets, acted, gives, entering}
+use Rattle.inplace.proofs.Acts.{Acts, plainly}
+use Rattle.inplace.proofs.Steps.{Does, part-reads, local-of, points, sets, acted, gives, entering}
 use Rattle.plan.proofs.PlansBy as By
 use Rattle.plan.proofs.PlansBy.{Plans}
 use Rattle.plan.proofs.RunFrame.{Counted, plans-meets}

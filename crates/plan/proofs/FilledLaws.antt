@@ -8,8 +8,8 @@ use Rattle.definition.specs.Tables.{recordSize, kinds}
 use Rattle.definition.specs.Base.{malformed, short, refused, require}
 use Rattle.definition.specs.Calls.{State, sound, settle}
 use Rattle.definition.specs.Plan.{Lent, lent}
-use Rattle.front.specs.Front.{frontOf, filled}
-use Rattle.front.proofs.FrontLaws.{refused-index, plan-front}
+use Rattle.plan.specs.Front.{frontOf, filled}
+use Rattle.plan.proofs.FrontLaws.{refused-index, plan-front}
 use Rattle.flat.specs.Flat.{requestsOf, wholeRequests, flatPlan}
 use Rattle.flat.proofs.FlatLaws.{requests-length, flat-whole, flat-torn}
 use Rattle.plan.specs.Turns.{wholeCount}

@@ -13,13 +13,13 @@ use Rattle.request.specs.Asked.{requestOf}
 use Rattle.request.specs.declared.Request.{Request}
 use Rattle.request.proofs.Request as R
 use Rattle.request.proofs.Request.Laws as R′
-use Rattle.steps.specs.Steps.{Steady, opened, turned}
-use Rattle.lent.specs.Marks.{marksOf}
-use Rattle.lent.specs.declared.Marks.{Marks}
-use Rattle.lent.proofs.Marks as Ma
-use Rattle.lent.proofs.Marks.Laws as Ma′
-use Rattle.lent.proofs.Acts.{After, Acts, lent-both}
-use Rattle.lent.proofs.peek as peek
+use Rattle.plan.specs.Steps.{Steady, opened, turned}
+use Rattle.inplace.specs.Marks.{marksOf}
+use Rattle.inplace.specs.declared.marks.Marks.{Marks}
+use Rattle.inplace.proofs.marks.Marks as Ma
+use Rattle.inplace.proofs.marks.Marks.Laws as Ma′
+use Rattle.inplace.proofs.Acts.{After, Acts, lent-both}
+use Rattle.inplace.proofs.marks.peek as peek
 use Rattle.plan.specs.Turns.{turnsAfter, backTo}
 use Rattle.plan.proofs.Beside as B
 use Rattle.plan.proofs.«open» as begin

@@ -19,9 +19,9 @@ use Rattle.definition.specs.Calls.{State, state, poolsOf, ownersOf, sound, sayi
 use Rattle.definition.specs.StateLaws.{sound-for, sound-saying}
 use Rattle.definition.specs.Plan.{Run, done, stopped, run, Lent, lent, allRows, plan}
 use Rattle.definition.specs.PlanLaws.{tell-number}
-use Rattle.steps.specs.Steps.{clear, Steady, opened, turned, turns, settled, steps}
-use Rattle.steps.proofs.StepLaws.{is-clear, not-clear, opened-unsound, opened-short, opened-clear, settled-clear, settled-refused}
-use Rattle.steps.proofs.PlanLaws.{turns-skip, turns-run, finished, turned-steady, opened-steady, steps-plan}
+use Rattle.plan.specs.Steps.{clear, Steady, opened, turned, turns, settled, steps}
+use Rattle.plan.proofs.StepLaws.{is-clear, not-clear, opened-unsound, opened-short, opened-clear, settled-clear, settled-refused}
+use Rattle.plan.proofs.PlanLaws.{turns-skip, turns-run, finished, turned-steady, opened-steady, steps-plan}
 use Rattle.definition.specs.Cut.{cutting}
 use Rattle.definition.specs.CutLaws.{countsOf, cut-none, cut-granted}
 use Rattle.plan.specs.Turns.{turnsAfter}

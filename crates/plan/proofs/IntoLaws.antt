@@ -18,9 +18,9 @@ use Rattle.definition.specs.Plan.{Lent, lent, allocateInto}
 use Rattle.definition.specs.PlanLaws.{tell-number, told-at}
 use Rattle.allocation.proofs.ServeLaws.{serve-unsound, serve-sound, into-unsound, into-short, into-refused, into-granted}
 use Rattle.decide.specs.Outcome.{basesIn, after}
-use Rattle.steps.specs.Steps.{clear, opened, indexed, indexFor, recorded, turned}
-use Rattle.steps.proofs.StepLaws.{not-clear, opened-unsound, opened-short, opened-clear, turned-skips}
-use Rattle.steps.proofs.PlanLaws.{turned-in-place}
+use Rattle.plan.specs.Steps.{clear, opened, indexed, indexFor, recorded, turned}
+use Rattle.plan.proofs.StepLaws.{not-clear, opened-unsound, opened-short, opened-clear, turned-skips}
+use Rattle.plan.proofs.PlanLaws.{turned-in-place}
 use Rattle.plan.specs.Turns.{turnsAfter}
 
 module _ (r : Request) (s : State) (out : List ℕ) where

@@ -5,8 +5,8 @@ use Rattle.walks.proofs.Prelude.{_≡_, refl, true, false, none, WellFounded, I
 use mathlib.Core.Option.{some}
 use mir.Syntax.{Body}
 use Rattle.walks.proofs.Straight.{Store, set, nil, arg, env, given, others}
-use Rattle.lent.proofs.Acts.{Acts}
-use Rattle.lent.proofs.Steps.{At, part-reads, local-of, points, sets, acted, while-test, sets-last, gives, Does, masks, entering}
+use Rattle.inplace.proofs.Acts.{Acts}
+use Rattle.inplace.proofs.Steps.{At, part-reads, local-of, points, sets, acted, while-test, sets-last, gives, Does, masks, entering}
 
 -- a turn after its test, a turn, and what follows the loop
 abbrev more : (read turn : Name) (τ : Ty) → Body

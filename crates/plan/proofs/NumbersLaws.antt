@@ -17,9 +17,9 @@ use Rattle.definition.specs.PlanLaws.{tell-number}
 use Rattle.definition.specs.IntoPlanLaws.{into-plan}
 use Rattle.flat.specs.Flat.{requestSize, requestAt, requestsFrom, requestsOf, wholeRequests, flatPlan, flatAllocate}
 use Rattle.flat.proofs.FlatLaws.{requests-from-length, flat-whole, flat-torn, flat-one, flat-too-short}
-use Rattle.steps.specs.Steps.{opened, turns, settled}
-use Rattle.steps.proofs.StepLaws.{opened-unsound, opened-short, settled-refused}
-use Rattle.steps.proofs.PlanLaws.{turns-skip}
+use Rattle.plan.specs.Steps.{opened, turns, settled}
+use Rattle.plan.proofs.StepLaws.{opened-unsound, opened-short, settled-refused}
+use Rattle.plan.proofs.PlanLaws.{turns-skip}
 use Rattle.plan.specs.Turns.{wholeCount, oneCount, Within}
 use Rattle.plan.proofs.InPlaceLaws.{Ends, ends-plan}
 use Rattle.plan.proofs.JudgeLaws.{one-is, one-not}

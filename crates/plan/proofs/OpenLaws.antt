@@ -12,13 +12,13 @@ use Rattle.tables.specs.Views.{stateView}
 use Rattle.tables.specs.declared.Holders.{Holders}
 use Rattle.tables.specs.declared.State.{State}
 use Rattle.request.specs.Asked.{saidOf}
-use Rattle.store.specs.Store.{Free}
+use Rattle.lent_table.specs.Store.{Free}
 use Rattle.decide.specs.Kept.{AllFree, kept}
 use Rattle.decide.specs.declared.Rows.{Rows}
 use Rattle.decide.specs.declared.Rows.the-variants.{Nothing}
 use Rattle.decide.specs.declared.Granted.{Granted}
-use Rattle.steps.specs.Steps.{clear, opened}
-use Rattle.steps.proofs.StepLaws.{not-clear, opened-unsound, opened-short, opened-clear}
+use Rattle.plan.specs.Steps.{clear, opened}
+use Rattle.plan.proofs.StepLaws.{not-clear, opened-unsound, opened-short, opened-clear}
 use Rattle.plan.specs.Turns.{fitsIn, judgedOf, Opens, turnsIn, turnsAfter}
 use Rattle.plan.proofs.JudgeLaws.{judged-clear, judged-short, judged-unsound, turns-all, turns-short, turns-unsound}
 

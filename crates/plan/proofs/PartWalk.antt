@@ -1,20 +1,20 @@
--- The walk of a plan that hands its filled part back: the plan where the state stands, then `front` by the answer's number and index. Over any type of listed requests, with the plan's call and the count of its requests as parameters. Assumes `Given`.
+-- The walk of a plan that hands its filled part back: the plan where the state stands, then `plan` by the answer's number and index. Over any type of listed requests, with the plan's call and the count of its requests as parameters. Assumes `Given`.
 --     Parts, partCode      how such a function is declared, and its code
---     part-meets           it meets its contract, where that follows of what the plan and `front` promise
+--     part-meets           it meets its contract, where that follows of what the plan and `plan` promise
 use Rattle.walks.proofs.Prelude.{_≡_, refl, ap, ap₂, subst, _∙_, ℕ, _*_, _<_, _^_, [], _∷_, List, none, length, take, URA, Name, Ty, Local, local, valueLocal, named, erased, imm, mut, w64, tyInt, tyUnit, tyRef, place, field, deref, copy, rvOpd, addrOf, aggregate, assign, call, seq, return, Fn, Val, vint, vunit, vptr, SProp, ent, sep, emp, via, monoL, fst∗, snd∗, exE, GName, Lft, Share, ftrue, flft, Memory, Routine, Heap, WpFn, Tables, Atoms, sem, Fun, fact, Lfts, AllOutlive, Given, Item, atRet, mean, ⋆, ‵, raw, _⊛_, some, later, _$_, _∵_, !, qed, by, await, updating, now as at-once, move, keep, use0, use1, split, join, pick, rewrite, fsplit, fjoin, suffices, frame, show, done, load, of-opd, and-then, no-more, addr, hop, fld, from, stop, agg, whole, sub, FmC, fmOf, WpFn-mono, RattleType, owns, Is, shows, uint-makes, usize, u64, unit, RefT, MutRef, ptr-vals, mut-tells, sliceTy, sliceVal, MutSlice, ShrSlice, Room, slice-vals, shr-slice-tells, mut-slice-tells, mut-slice-lawful, plain, mutSliceOf, owned, heard, peeks, nothing, only, Args, onEntry, Meets, tripleOf, Contract, Triple, Ended, Clauses, Lasts, atExit, lasts, closing, ensured, says, Stays, stay-ref, stay-none-slice, stay-dropped, walkOf, AllGo, goes-none-slice, goes-spent-slice, goes-ref, Walks, ends-at, walked, walk-meets, yes, no}
 use Rattle.definition.specs.Tables.{recordSize}
 use Rattle.tables.specs.declared.State.{State}
 use Rattle.tables.proofs.State as T
 use Rattle.tables.proofs.State.Laws as T′
-use Rattle.front.specs.Front.{acceptedOf}
-use Rattle.front.proofs.front as k
+use Rattle.plan.specs.Front.{acceptedOf}
+use Rattle.plan.proofs.front.front as k
 use Rattle.walks.proofs.Straight.{Store, env, first, others, given, set, arg, nil}
-use Rattle.lent.specs.Marks.{marksOf}
-use Rattle.lent.specs.declared.Marks.{Marks}
-use Rattle.lent.proofs.Marks.Laws as Ma′
-use Rattle.lent.proofs.Acts.{After, Acts}
-use Rattle.lent.proofs.Steps.{Does, part-reads, local-of, points, sets, acted, gives, entering}
-use Rattle.lent.proofs.peek.Symbol.{name as #p}
+use Rattle.inplace.specs.Marks.{marksOf}
+use Rattle.inplace.specs.declared.marks.Marks.{Marks}
+use Rattle.inplace.proofs.marks.Marks.Laws as Ma′
+use Rattle.inplace.proofs.Acts.{After, Acts}
+use Rattle.inplace.proofs.Steps.{Does, part-reads, local-of, points, sets, acted, gives, entering}
+use Rattle.inplace.proofs.marks.peek.Symbol.{name as #p}
 use Rattle.plan.proofs.Held.{Peek, valM}
 use Rattle.plan.proofs.PlansBy as By
 use Rattle.plan.proofs.PlansBy.{lists, Plans, marks-typed, number-fits, index-fits}
@@ -42,7 +42,7 @@ partCode plan count α π τ μ = record {
       (seq (call k.Symbol.name (copy (place 15 []) ∷ copy (place 5 []) ∷ copy (place 6 []) ∷ copy (place 7 []) ∷ []) (place 0 [])) return))))))))))));
 }
 
--- what `front` promises of the slice that it returns: the front of the list zs that begins at p
+-- what `plan` promises of the slice that it returns: the front of the list zs that begins at p
 abbrev pub Returned : ℕ × ℕ → List ℕ → State → ℕ → Slice → Type 0
 Returned p zs d n r = (r .now ≡ take (recordSize * acceptedOf (d .number) (d .index) n) zs) × (r .ptr ≡ p)
 
@@ -102,7 +102,7 @@ module _ {M : Type 1} (𝓤 : URA M) (H : Heap 𝓤) (A : Atoms 𝓤) (W : Given
     abbrev Held : State → List ℕ → Item 𝓤
     Held d zs = (Stands d ⊛ Results zs) ⊛ Asked
 
-    -- once the results went to `front` for good
+    -- once the results went to `plan` for good
     abbrev sliceOf : Slice → Val
     sliceOf r = sliceVal (r .ptr) (length (r .now))
 

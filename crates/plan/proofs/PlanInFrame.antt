@@ -15,10 +15,10 @@ use Rattle.request.specs.Asked.{requestOf}
 use Rattle.request.specs.declared.Request.{Request}
 use Rattle.request.proofs.Request as R
 use Rattle.request.proofs.Request.Laws as R′
-use Rattle.lent.proofs.Marks.Laws as Ma′
-use Rattle.lent.proofs.Acts.{Acts}
-use Rattle.lent.proofs.peek.Symbol.{name as #peek, routine as peek-routine}
-use Rattle.lent.proofs.peek.Met as peek-thm
+use Rattle.inplace.proofs.marks.Marks.Laws as Ma′
+use Rattle.inplace.proofs.Acts.{Acts}
+use Rattle.inplace.proofs.marks.peek.Symbol.{name as #peek, routine as peek-routine}
+use Rattle.inplace.proofs.marks.peek.Met as peek-thm
 use Rattle.plan.proofs.InPlaceLaws.{Ends, ends-plan}
 use Rattle.plan.proofs.LoopWalk.{planCode}
 use Rattle.plan.proofs.Held as E

@@ -13,13 +13,13 @@ use Rattle.request.specs.Asked.{requestOf}
 use Rattle.request.specs.declared.Request.{Request}
 use Rattle.request.proofs.Request as R
 use Rattle.request.proofs.Request.Laws as R′
-use Rattle.steps.specs.Steps.{opened, turned, turns, settled}
-use Rattle.lent.specs.Marks.{marksOf}
-use Rattle.lent.specs.declared.Marks.{Marks}
-use Rattle.lent.proofs.Marks as Ma
-use Rattle.lent.proofs.Marks.Laws as Ma′
-use Rattle.lent.proofs.Acts.{Acts, framed, framed-left}
-use Rattle.lent.proofs.peek.Symbol.{name as #peek}
+use Rattle.plan.specs.Steps.{opened, turned, turns, settled}
+use Rattle.inplace.specs.Marks.{marksOf}
+use Rattle.inplace.specs.declared.marks.Marks.{Marks}
+use Rattle.inplace.proofs.marks.Marks as Ma
+use Rattle.inplace.proofs.marks.Marks.Laws as Ma′
+use Rattle.inplace.proofs.Acts.{Acts, framed, framed-left}
+use Rattle.inplace.proofs.marks.peek.Symbol.{name as #peek}
 use Rattle.plan.specs.Turns.{turnsAfter, backTo}
 use Rattle.plan.proofs.InPlaceLaws as L
 use Rattle.plan.proofs.BackLaws.{back-is}

@@ -6,13 +6,13 @@ use Rattle.walks.proofs.Prelude.{_≡_, refl, ap, subst, ℕ, _<_, _^_, [], _�
 use denote.Struct.Laws as LL
 use Rattle.tables.specs.declared.State.{State}
 use Rattle.tables.proofs.State as T
-use Rattle.lent.specs.Marks.{marksOf}
-use Rattle.lent.specs.declared.Marks.{Marks}
-use Rattle.lent.proofs.Marks as Ma
-use Rattle.lent.proofs.Marks.Laws as Ma′
-use Rattle.lent.proofs.Acts.{Acts, framed}
-use Rattle.lent.proofs.peek.Symbol.{name as #p}
-use Rattle.lent.proofs.LendThree as Three
+use Rattle.inplace.specs.Marks.{marksOf}
+use Rattle.inplace.specs.declared.marks.Marks.{Marks}
+use Rattle.inplace.proofs.marks.Marks as Ma
+use Rattle.inplace.proofs.marks.Marks.Laws as Ma′
+use Rattle.inplace.proofs.Acts.{Acts, framed}
+use Rattle.inplace.proofs.marks.peek.Symbol.{name as #p}
+use Rattle.inplace.proofs.LendThree as Three
 use Rattle.plan.proofs.Held.{Peek, valM, peeks}
 
 -- the state, the requests, the results, and the rest

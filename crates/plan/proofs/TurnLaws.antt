@@ -19,9 +19,9 @@ use Rattle.request.specs.Asked.{requestOf}
 use Rattle.request.specs.declared.Request.{Request}
 use Rattle.decide.specs.Outcome.{basesIn, after}
 use Rattle.decide.specs.declared.Bases.{Bases}
-use Rattle.steps.specs.Steps.{clear, Steady, indexed, indexFor, turned, writtenAt}
-use Rattle.steps.proofs.StepLaws.{written-is, turned-skips}
-use Rattle.steps.proofs.PlanLaws.{turned-in-place}
+use Rattle.plan.specs.Steps.{clear, Steady, indexed, indexFor, turned, writtenAt}
+use Rattle.plan.proofs.StepLaws.{written-is, turned-skips}
+use Rattle.plan.proofs.PlanLaws.{turned-in-place}
 use Rattle.plan.proofs.StateFields.{withIndex}
 
 pub not-T : (b : Bool) → T (not b) → b ≡ false

@@ -1,7 +1,7 @@
 -- The walk of `let mut t = s; g(&mut t, requests, results); t`: a state by value is lent from a local, the two lists go on. Over any type of states, so that nothing of the tables can be unfolded. Assumes `Given`.
 use Rattle.walks.proofs.Prelude.{_≡_, refl, ℕ, [], _∷_, List, length, URA, fullShare, T as Holds, Name, named, erased, imm, mut, w64, Ty, tyInt, tyUnit, tyRef, Written, local, valueLocal, memorySlot, place, deref, field, copy, rvOpd, addrOf, aggregate, assign, call, seq, return, Fn, Val, WT, hasTy, vptr, SProp, ent, id⊢, Fml, GName, Lft, Share, ftrue, flft, fat, fres, flent, Coded, Heap, Calls, Loops, WpFn, Atoms, fact, Given, Item, mean, ⋆, ‵, raw, _⊛_, some, later, _$_, _∵_, !, qed, by, move, keep, use1, use2, use3, split, join, pick, await, look, init, forget, stop, hop, fld, from, load, addr, of-opd, and-then, no-more, assigns, land, returns, enter, alloc1, alloc0, params1, pass1, pass0, free1, free0, agg, whole, sub, look-in, Body, lft-new, lft-end, FmC, RattleType, Is, Tells, shows, mem, partAt, nothing-lawful, unit, u64, RefT, MutRef, sliceTy, sliceVal, ShrSlice, MutSlice, Room, finally, lends-ref, ref-back, Kept, Exit, peeks, facts, heard, calls-from}
 use Rattle.walks.proofs.Row.{rowOf}
-use Rattle.lent.proofs.Lies.{lies-in, lies-out}
+use Rattle.inplace.proofs.Lies.{lies-in, lies-out}
 
 abbrev pub valueCode : Name → Ty → Ty → Fn
 valueCode g π τ = record {

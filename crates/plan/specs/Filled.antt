@@ -3,7 +3,7 @@ use mathlib.Core.Bool.{true, false}
 use mathlib.Core.List.{List, []}
 use Prim.Native.Nat.{ℕ}
 use Rattle.definition.specs.Calls.{State}
-use Rattle.front.specs.Front.{filled}
+use Rattle.plan.specs.Front.{filled}
 use Rattle.flat.specs.Flat.{requestsOf, wholeRequests}
 
 -- the records of the accepted requests; a list that ends within a request has none

@@ -8,12 +8,12 @@ use Rattle.definition.specs.Base.{malformed, short, Said, silence, tell}
 use Rattle.definition.specs.Calls.{State}
 use Rattle.flat.specs.Flat.{requestSize}
 use Rattle.request.specs.Asked.{saidOf}
-use Rattle.steps.specs.Steps.{clear}
+use Rattle.plan.specs.Steps.{clear}
 use Rattle.decide.specs.declared.Rows.the-variants.{Nothing}
 use Rattle.decide.specs.declared.Granted.{Granted}
 use Rattle.definition.specs.Cut.{cutting}
-use Rattle.lent.specs.Marks.{countsIn}
-use Rattle.lent.specs.declared.Marks.{Marks}
+use Rattle.inplace.specs.Marks.{countsIn}
+use Rattle.inplace.specs.declared.marks.Marks.{Marks}
 
 -- the results list has room for so many records, and the plan is no longer than a plan may be
 abbrev pub fitsIn : ℕ → ℕ → Bool

@@ -1,7 +1,7 @@
 // A plan where the state stands: its requests in order, each answered in place, up to the first refusal, which cuts the owner tables back to the counts that they had. No request copies a table, and no state is kept to go back to.
 use choose::Refusal;
 use decide::Granted;
-use lent::Marks;
+use inplace::marks::Marks;
 use request::Request;
 use request::Said;
 use tables::RECORD;
@@ -13,11 +13,13 @@ ghost use Rattle.definition.specs.Calls.{want, serve};
 ghost use Rattle.definition.specs.Plan.{lent, allocateInto};
 ghost use Rattle.tables.specs.Views.{stateView};
 ghost use Rattle.request.specs.Asked.{requestOf, saidOf};
-ghost use Rattle.steps.specs.Steps.{Steady, opened, turned};
+ghost use Rattle.plan.specs.Steps.{Steady, opened, turned};
 ghost use Rattle.plan.specs.Turns.{judgedOf, turnsIn, turnsAfter, Opens, backTo};
 
+pub mod front;
 pub mod list;
 pub mod numbers;
+pub mod steps;
 
 // ---- what is judged before the first request
 
@@ -83,18 +85,18 @@ pub fn quiet(m: Marks) -> bool
 pub fn settle(s: &mut State, m: Marks)
     ensures { λ _. ⌜ stateView (now (s .exit)) ≡ backTo m (stateView (now (s .entry))) ⌝ }
 {
-    let p = lent::peek(s);
+    let p = inplace::marks::peek(s);
     if quiet(p) {
         return;
     }
-    lent::restore(s, m);
+    inplace::marks::restore(s, m);
 }
 
 // What is judged before the first request, and how many have their turn: 1, 11, or five zeros beside the tables.
 pub fn open(s: &mut State, n: usize, room: usize) -> usize
     ensures { λ r. ⌜ (stateView (now (s .exit)) ≡ opened n room (stateView (now (s .entry)))) × (r ≡ turnsAfter n (stateView (now (s .exit)))) ⌝ }
 {
-    let sound = lent_sound::sound(s);
+    let sound = sound::lent::sound(s);
     let g = opening(sound, n, room);
     inplace::keep(s, g);
     turns(sound, n, room)

@@ -11,7 +11,7 @@ ghost use lib.ListN.{length, getD};
 ghost use Rattle.definition.specs.Plan.{lent, plan};
 ghost use Rattle.tables.specs.Views.{stateView};
 ghost use Rattle.request.specs.Asked.{requestOf};
-ghost use Rattle.front.specs.Front.{filled};
+ghost use Rattle.plan.specs.Front.{filled};
 ghost use Rattle.plan.specs.Nobody.{nobody};
 
 // How many requests a list of so many structs holds.
@@ -34,7 +34,7 @@ fn run_in(state: &mut State, requests: &[Request], results: &mut [u64], n: usize
     requires { ⌜ n ≡ length (now requests) ⌝ }
     ensures { λ _. ⌜ lent (stateView (now (state .exit))) (now (results .exit)) ≡ plan (map requestOf (now (requests .entry))) (stateView (now (state .entry))) (now (results .entry)) ⌝ }
 {
-    let m = lent::peek(state);
+    let m = inplace::marks::peek(state);
     let turns = open(state, n, results.len());
     let mut i: usize = 0;
     while i < turns {
@@ -59,9 +59,9 @@ pub fn plan<'a>(state: &mut State, requests: &[Request], results: &'a mut [u64])
         × (now r ≡ filled (map requestOf (now (requests .entry))) (stateView (now (state .entry))) (now (results .entry))) × (r .ptr ≡ results .entry .ptr) ⌝ }
 {
     plan_in(state, requests, results);
-    let m = lent::peek(state);
+    let m = inplace::marks::peek(state);
     let number = m.number;
     let index = m.index;
     let n = count(requests.len());
-    front::front(results, number, index, n)
+    crate::front::front(results, number, index, n)
 }

@@ -42,7 +42,7 @@ fn run_in(state: &mut State, requests: &[u64], results: &mut [u64], n: usize)
     requires { ⌜ Within n (length (now requests)) ⌝ }
     ensures { λ _. ⌜ lent (stateView (now (state .exit))) (now (results .exit)) ≡ plan (requestsFrom (now (requests .entry)) 0 n) (stateView (now (state .entry))) (now (results .entry)) ⌝ }
 {
-    let m = lent::peek(state);
+    let m = inplace::marks::peek(state);
     let turns = open(state, n, results.len());
     let mut i: usize = 0;
     while i < turns {
@@ -67,11 +67,11 @@ pub fn plan<'a>(state: &mut State, requests: &[u64], results: &'a mut [u64]) -> 
         × (now r ≡ flatFilled (now (requests .entry)) (stateView (now (state .entry))) (now (results .entry))) × (r .ptr ≡ results .entry .ptr) ⌝ }
 {
     plan_in(state, requests, results);
-    let m = lent::peek(state);
+    let m = inplace::marks::peek(state);
     let number = m.number;
     let index = m.index;
     let n = count(requests.len());
-    front::front(results, number, index, n)
+    crate::front::front(results, number, index, n)
 }
 
 // One request, the first of the list, with its record: a plan of one.

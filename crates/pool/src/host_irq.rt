@@ -4,7 +4,7 @@ use super::Hold;
 use super::PoolRange;
 use super::Use;
 use super::serve;
-use range::past;
+use insert::past;
 use tables::State;
 ghost use mathlib.Core.Path.{_≡_};
 ghost use Prim.Native.Nat.{suc, min};

@@ -18,8 +18,8 @@ use Rattle.definition.specs.ReplayLaws.{Pick, pick-length}
 use Rattle.definition.specs.PlanLaws.{tell-number, plan-accepted, plan-says, Again, replay, replay-rows}
 use Rattle.flat.specs.Flat.{requestSize, requestsFrom, requestsOf, wholeRequests, flatPlan}
 use Rattle.flat.proofs.FlatLaws.{requests-length, flat-whole, flat-torn}
-use Rattle.pin.specs.Pin.{pinnedNumbers}
-use Rattle.pin.proofs.BackLaws.{pinned-length, grants-length, requests-pinned}
+use Rattle.flat.specs.Pin.{pinnedNumbers}
+use Rattle.flat.proofs.BackLaws.{pinned-length, grants-length, requests-pinned}
 use Rattle.replay.specs.Again.{blocks, indices, taken, rowsFor, FlatAgain, firstResults, runAgain}
 use Rattle.replay.proofs.BlockLaws.{pick-map, AllBelow, picked-below, nth, nth-all, requests-length-blocks, requests-blocks, requests-nth, blocks-records, run-told, rows-for}
 

@@ -14,7 +14,7 @@ use Rattle.definition.specs.Plan.{run, recordOf, records, written, lent, roomy,
 use Rattle.definition.specs.RequestLaws.{AutoInFixed, insideOne, autoInFixed, inside-says}
 use Rattle.definition.specs.ReplayLaws.{now, later, Pick, stop, pick}
 use Rattle.flat.specs.Flat.{requestSize, readable, wantAt, requestIn, requestAt, requestsFrom, requestsOf, wholeRequests, flatPlan}
-use Rattle.pin.specs.Pin.{pinChoiceAt, pinChoices, tellsOf, ownRecord, pinOne, pinFrom, pinnedNumbers}
+use Rattle.flat.specs.Pin.{pinChoiceAt, pinChoices, tellsOf, ownRecord, pinOne, pinFrom, pinnedNumbers}
 use Rattle.replay.specs.Again.{blocks, indices, rowsFor, firstResults, runAgain}
 use Rattle.replay.proofs.AgainLaws.{flat-replay}
 

@@ -1,9 +1,9 @@
--- A callee that is lent three lists of numbers again, with plain values and something shared beside them (Acts.antt of `lent`). Assumes `Given`.
+-- A callee that is lent three lists of numbers again, with plain values and something shared beside them (Acts.antt of `inplace`). Assumes `Given`.
 --     Loan         a list that is lent: for κ, at (b, o), under the name γ
 --     lent-lists   what is held before, what afterwards, and what is answered
 use Rattle.walks.proofs.Prelude.{_≡_, subst, ℕ, [], _∷_, List, length, URA, fullShare, Name, Lifetime, Val, SProp, ent, sep, via, monoL, Fml, GName, Lft, Share, ftrue, flft, Heap, Calls, Atoms, sem, fact, FmC, Given, Item, mean, ⋆, ‵, raw, _⊛_, some, later, _$_, _∵_, !, qed, by, move, keep, use1, use3, split, join, pick, await, updating, now as at-once, show, done, lft-new, lft-end, RattleType, Is, shows, u64, RefT, sliceVal, MutSlice, Room, finally, facts, heard, says}
 use Rattle.walks.proofs.Again.{LentAgain, lends-again, comes-back}
-use Rattle.lent.proofs.Acts.{After, Acts}
+use Rattle.inplace.proofs.Acts.{After, Acts}
 
 pub record Loan : Type 0 where
   pub κ : Lft

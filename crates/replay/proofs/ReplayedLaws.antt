@@ -12,7 +12,7 @@ use Rattle.definition.specs.Plan.{lent, written}
 use Rattle.tables.specs.Views.{stateView}
 use Rattle.tables.specs.declared.State.{State}
 use Rattle.flat.specs.Flat.{flatPlan}
-use Rattle.pin.specs.Pin.{pinnedNumbers}
+use Rattle.flat.specs.Pin.{pinnedNumbers}
 use Rattle.replay.specs.Again.{taken}
 use Rattle.replay.specs.Runs.{runs, mostTaken, firstRun, secondRun, runsOf}
 use Rattle.replay.proofs.RunLaws.{runs-refused, runs-accepted}

@@ -11,7 +11,7 @@ use Rattle.definition.specs.Base.{malformed, short, accepted, refused, require}
 use Rattle.definition.specs.Calls.{State, ownersOf, given, sound, starting, granting, start, serve, settle}
 use Rattle.definition.specs.Plan.{Run, done, stopped, Lent, lent, written, planRun, ended, plan}
 use Rattle.flat.specs.Flat.{requestSize, requestsOf, wholeRequests, flatPlan}
-use Rattle.pin.specs.Pin.{pinnedNumbers}
+use Rattle.flat.specs.Pin.{pinnedNumbers}
 use Rattle.replay.specs.Again.{blocks, rowsFor, FlatAgain}
 use Rattle.replay.specs.Runs.{Runs, runs, mostTaken, firstRun, secondRun, runsAfter, runsOf, Replayable, Replays}
 use Rattle.replay.proofs.AgainLaws.{all-taken, flat-replay, flat-replay-rows}

@@ -1,4 +1,4 @@
--- A lent state as a whole, in a walk by the locals' values (Steps.antt of `lent`): opened, copied out, another one stored, closed. Over any type of states, so that nothing of the tables can be unfolded. Assumes `Given`.
+-- A lent state as a whole, in a walk by the locals' values (Steps.antt of `inplace`): opened, copied out, another one stored, closed. Over any type of states, so that nothing of the tables can be unfolded. Assumes `Given`.
 --     opens-up     what is held of a `&mut` becomes the state's cell and what closes it
 --     copies       `_l = *_p`
 --     stores       `*_p = _k`
@@ -8,7 +8,7 @@ use mathlib.Core.Option.{some}
 use mir.Syntax.{Body}
 use Rattle.walks.proofs.Straight.{Store, val, set, tyAt, Has, reads}
 use Rattle.walks.proofs.Row.{rowOf}
-use Rattle.lent.proofs.Steps.{Does, local-of, sets}
+use Rattle.inplace.proofs.Steps.{Does, local-of, sets}
 
 -- ---- what lies in front of two things that are held as one
 module _ {M : Type 1} {𝓤 : URA M} {H : Heap 𝓤} {A : Atoms 𝓤} {W : Given 𝓤 H A} {i j : Item 𝓤} {Γ : List (Item 𝓤)} {τ : Ty} {b o : ℕ} {v : Val} where

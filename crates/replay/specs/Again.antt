@@ -11,7 +11,7 @@ use Rattle.definition.specs.RequestLaws.{AutoInFixed}
 use Rattle.definition.specs.ReplayLaws.{Pick}
 use Rattle.flat.specs.Flat.{requestSize, Form, unknown, messages, formAt, flatPlan}
 use Rattle.flat.specs.Flat as F
-use Rattle.pin.specs.Pin.{pinnedNumbers}
+use Rattle.flat.specs.Pin.{pinnedNumbers}
 
 -- ---- some of a list's blocks
 
@@ -69,6 +69,6 @@ pub record FlatAgain (s t : State) (rq out is out′ : List ℕ) : Type 0 where
 abbrev pub firstResults : State → List ℕ → List ℕ → List ℕ
 firstResults s rq out = flatPlan rq (serve kinds start s) out .results
 
--- .. written back into the requests by `pin`, those of these indices, run again
+-- .. written back into the requests by `flat`, those of these indices, run again
 abbrev pub runAgain : State → State → List ℕ → List ℕ → List ℕ → List ℕ → Lent
 runAgain s t rq out is out′ = flatPlan (blocks requestSize (pinnedNumbers rq (firstResults s rq out)) is) (serve kinds start t) out′

@@ -13,7 +13,7 @@ use Rattle.definition.specs.Plan.{Lent, written}
 use Rattle.definition.specs.RequestLaws.{AutoInFixed}
 use Rattle.definition.specs.ReplayLaws.{Pick}
 use Rattle.flat.specs.Flat.{requestSize, flatPlan}
-use Rattle.pin.specs.Pin.{pinnedNumbers}
+use Rattle.flat.specs.Pin.{pinnedNumbers}
 use Rattle.replay.specs.Again.{blocks, indices, taken, rowsFor}
 
 -- what is handed back: the state, the requests, the results of the first run and those of the second

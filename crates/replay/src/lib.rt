@@ -27,7 +27,7 @@ pub fn replayed(
     if t.number != 0 {
         return t;
     }
-    pin::pin(requests, results);
+    flat::pin::pin(requests, results);
     let mut chosen = [0u64; MOST];
     let n = take::take(requests, selection, &mut chosen);
     let u = start(t);

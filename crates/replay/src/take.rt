@@ -1,6 +1,6 @@
 // Some of a list's lines taken, in any order.
 use flat::REQUEST;
-use pin::lesser;
+use flat::pin::lesser;
 ghost use mathlib.Core.Path.{_≡_};
 ghost use Prim.Native.Nat.{_+_, _*_, _≤_, min};
 ghost use lib.ListN.{length, take, drop};

@@ -8,8 +8,8 @@ use Rattle.tables.specs.Views.{poolView, rangesView, wiresView}
 use Rattle.tables.specs.declared.Pool.{Pool}
 use Rattle.tables.specs.declared.Ranges.{Ranges}
 use Rattle.tables.specs.declared.Wires.{Wires}
-use Rattle.spans.specs.Tests.{limitsOf, soundPoolIn, soundRangesIn, holdersIn}
-use Rattle.spans.proofs.KindLaws.{Ranged, pool-kind, held-kind, owners-kind}
+use Rattle.table_tests.specs.Tests.{limitsOf, soundPoolIn, soundRangesIn, holdersIn}
+use Rattle.table_tests.proofs.KindLaws.{Ranged, pool-kind, held-kind, owners-kind}
 use Rattle.sound.specs.Tests.{soundWires, poolsIn, givenRanges, setRanges, givenWires, setWires}
 
 -- ---- inputs

@@ -13,9 +13,9 @@ use Rattle.tables.specs.declared.Wires.{Wires}
 use Rattle.definition.specs.BaseLaws.{and-l, and-r, and-i, and-true, T-ext, eq→eqb}
 use Rattle.tables.proofs.BelowLaws.{all-every}
 use Rattle.tables.proofs.TableLaws.{tidy-is, tidy-count, sound-is, begins-used}
-use Rattle.spans.specs.Tests.{NoneAbove}
+use Rattle.table_tests.specs.Tests.{NoneAbove}
 use Rattle.sound.specs.Tests.{blankWire, wireFit, wireOk, soundWires, tidyWires}
-use Rattle.spans.proofs.HighLaws.{high-at}
+use Rattle.table_tests.proofs.HighLaws.{high-at}
 
 -- ---- one row
 

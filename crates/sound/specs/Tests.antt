@@ -8,8 +8,8 @@ use Rattle.tables.specs.declared.Pool.{Pool}
 use Rattle.tables.specs.declared.Ranges.{Ranges}
 use Rattle.tables.specs.declared.Wires.{Wires}
 use Rattle.tables.specs.declared.State.{State}
-use Rattle.spans.specs.declared.limits.Limits.{Limits}
-use Rattle.spans.specs.Tests.{limitsOf, soundPoolIn, soundRangesIn, holdersIn}
+use Rattle.table_tests.specs.declared.limits.Limits.{Limits}
+use Rattle.table_tests.specs.Tests.{limitsOf, soundPoolIn, soundRangesIn, holdersIn}
 
 -- ---- wired rows
 

@@ -1,9 +1,9 @@
 // The tests of the tables of one kind, on lent columns: nothing is copied. A table is passed as its columns and its count, in that order.
 use super::wired;
-use spans::limits::Limits;
-use spans::limits::input_limits;
-use spans::pool;
-use spans::range;
+use table_tests::limits::Limits;
+use table_tests::limits::input_limits;
+use table_tests::pool;
+use table_tests::range;
 use tables::POOL_ROWS;
 use tables::ROWS;
 ghost use mathlib.Core.Path.{_≡_};

@@ -1,11 +1,11 @@
 // The test of handed-in tables: what 01 calls sound, no more and no less.
-use spans::limits::Limits;
-use spans::limits::device_limits;
-use spans::limits::event_limits;
-use spans::limits::host_limits;
-use spans::limits::lpi_limits;
-use spans::limits::mmio_limits;
-use spans::limits::pio_limits;
+use table_tests::limits::Limits;
+use table_tests::limits::device_limits;
+use table_tests::limits::event_limits;
+use table_tests::limits::host_limits;
+use table_tests::limits::lpi_limits;
+use table_tests::limits::mmio_limits;
+use table_tests::limits::pio_limits;
 use tables::Pool;
 use tables::Ranges;
 use tables::State;
@@ -17,6 +17,7 @@ ghost use Rattle.tables.specs.Views.{stateView};
 ghost use Rattle.sound.specs.Tests.{setRanges, setWires};
 
 pub mod columns;
+pub mod lent;
 pub mod wired;
 
 // Whether all tables of a kind of ranges are sound. Here and below columns are lent: the columns module has the tests.

@@ -1,6 +1,6 @@
 // Reservation and owner tables of wired inputs.
-use spans::limits::capped;
-use spans::limits::higher;
+use table_tests::limits::capped;
+use table_tests::limits::higher;
 use tables::ROWS;
 use tables::WireRow;
 ghost use mathlib.Core.Path.{_≡_};
@@ -8,7 +8,7 @@ ghost use Prim.Native.Nat.{_≤_, _<_};
 ghost use Rattle.definition.specs.Tables.{rowLimit, input as wired, sameRow, goodRow, used, begins};
 ghost use Rattle.tables.specs.Below.{allBelow, allFrom};
 ghost use Rattle.tables.specs.Views.{wires, wireOf, wireAt, wiresView};
-ghost use Rattle.spans.specs.Tests.{NoneAbove};
+ghost use Rattle.table_tests.specs.Tests.{NoneAbove};
 ghost use Rattle.sound.specs.Tests.{blankWire, wireFit, wireOk, soundWires, tidyWires};
 
 const LAST_TRIGGER: u32 = 3;

@@ -18,9 +18,9 @@ use Rattle.lines.specs.Text as Text
 use Rattle.lines.specs.Text.{beginning, feed, close, answer, output}
 use Rattle.lines.proofs.Longest.{output-length}
 use Rattle.writers.specs.Put.{Put}
-use Rattle.feed.specs.Sofar.{saidIn, sofarOf}
-use Rattle.feed.specs.Step.{resultsSize, Fed}
-use Rattle.feed.specs.declared.sofar.Sofar.{Sofar}
+use Rattle.text.specs.Sofar.{saidIn, sofarOf}
+use Rattle.text.specs.Step.{resultsSize, Fed}
+use Rattle.text.specs.declared.feed.sofar.Sofar.{Sofar}
 use Rattle.text.specs.Respond.{tablesAfter, answeredBy, Replied, replied, respondsTo}
 use Rattle.text.proofs.GotLaws.{gots-taken}
 

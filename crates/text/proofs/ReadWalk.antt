@@ -3,7 +3,7 @@ use Rattle.walks.proofs.Prelude.{_≡_, refl, ℕ, [], _∷_, List, length, URA
 use denote.Builtin.{u8}
 use mir.Syntax.{w8}
 use Rattle.walks.proofs.Row.{rowOf}
-use Rattle.lent.proofs.Lies.{lies-in, lies-out}
+use Rattle.inplace.proofs.Lies.{lies-in, lies-out}
 
 -- π and τ are how the state is written and its type, ρ the answer's
 abbrev pub readCode : (make g : Name) → (π τ ρ : Ty) → Fn

@@ -1,1 +1,3 @@
+pub mod Sofar
+pub mod Step
 pub mod Respond

@@ -9,8 +9,8 @@ use Rattle.lines.specs.Output.{gotLines, endLine, noLine, outputLimit}
 use Rattle.definition.specs.Calls.{State}
 use Rattle.lines.specs.Text as Text
 use Rattle.lines.specs.Text.{beginning, feed, close, output}
-use Rattle.feed.specs.Sofar.{saidIn}
-use Rattle.feed.specs.declared.sofar.Sofar.{Sofar}
+use Rattle.text.specs.Sofar.{saidIn}
+use Rattle.text.specs.declared.feed.sofar.Sofar.{Sofar}
 
 -- an answer's number, how many bytes were written, and the buffer afterwards
 pub record Replied : Type 0 where

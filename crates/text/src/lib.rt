@@ -1,5 +1,5 @@
 // The text call: a plan's text is answered by the bytes of 01's lines.
-use feed::sofar::Sofar;
+use crate::feed::sofar::Sofar;
 use tables::PLAN;
 use tables::RECORD;
 use writers::output::END;
@@ -14,8 +14,10 @@ ghost use Rattle.definition.specs.Tables.{recordSize};
 ghost use Rattle.definition.specs.Calls.{fresh};
 ghost use Rattle.lines.specs.Output.{gotLines};
 ghost use Rattle.writers.specs.Put.{Put};
-ghost use Rattle.feed.specs.Step.{resultsSize, Fed};
+ghost use Rattle.text.specs.Step.{resultsSize, Fed};
 ghost use Rattle.text.specs.Respond.{tablesAfter, answeredBy, replied, respondsTo};
+
+pub mod feed;
 
 // The longest output that any text has: the longest `got` line for each of the most wants, and `end`.
 pub const OUTPUT: usize = PLAN * GOT + END;

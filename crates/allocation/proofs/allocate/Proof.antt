@@ -6,21 +6,15 @@ use borrow.Author.Needs.{needs}
 use Rattle.allocation.proofs.allocate.Statement.{statement}
 use Rattle.allocation.proofs.allocate.Tie as tie
 
-sound-requires : tie.Need-sound-requires
-sound-requires c κs = search needs
-
 resolve-requires : tie.Need-resolve-requires
 resolve-requires c κs = true-T _ (sym (c .before .sound .ensures) ∙ c .if1 .taken)
 
 returns : tie.Need-returns
 returns c = c .before .resolve .ensures .state ∙ serve-sound _ _ _ (sym (c .before .before .before .sound .ensures) ∙ c .before .before .if1 .taken)
 
-refuse-requires : tie.Need-refuse-requires
-refuse-requires c κs = search needs
-
 returns-2 : tie.Need-returns-2
 returns-2 c = c .refuse .ensures ∙ serve-unsound _ _ _ (sym (c .before .before .sound .ensures) ∙ c .before .if1 .left)
 
 pub allocate-spec : {M : Type 1} → statement M
 allocate-spec =
-    tie.close (tie.spec sound-requires resolve-requires returns refuse-requires returns-2)
+    tie.close (tie.spec (λ c κs. search needs) resolve-requires returns (λ c κs. search needs) returns-2)

@@ -13,20 +13,8 @@ use borrow.Author.Needs.{needs}
 use Rattle.allocation.proofs.allocate_into.Statement.{statement}
 use Rattle.allocation.proofs.allocate_into.Tie as tie
 
-sound-requires : tie.Need-sound-requires
-sound-requires c κs = search needs
-
 resolve-requires : tie.Need-resolve-requires
 resolve-requires c κs = true-T _ (sym (c .before .before .sound .ensures) ∙ c .before .if1 .taken)
-
-record-of-requires : tie.Need-record-of-requires
-record-of-requires c κs = search needs
-
-write-record-requires : tie.Need-write-record-requires
-write-record-requires c κs = search needs
-
-same-length : tie.Need-same-length
-same-length c = search needs
 
 returns : tie.Need-returns
 returns c = let l : recordSize ≤ length (c .before .before .before .before .before .before .before .before .before .before .before .before .before .args .out .now) = omega arith in
@@ -39,20 +27,14 @@ returns-2 c = let l : recordSize ≤ length (c .before .before .before .before .
     let a = c .before .before .before .resolve .ensures in
     into-kept _ _ _ _ _ _ (sym (c .before .before .before .before .before .before .sound .ensures) ∙ c .before .before .before .before .before .if1 .taken) l (a .state) (a .bases) (c .if3 .left)
 
-refuse-requires : tie.Need-refuse-requires
-refuse-requires c κs = search needs
-
 returns-3 : tie.Need-returns-3
 returns-3 c = let l : length (c .before .before .before .before .before .args .out .now) < recordSize = omega arith in
     ap (λ x. lent x (c .before .before .before .before .before .args .out .now)) (c .refuse .ensures) ∙ into-short _ _ _ _ (sym (c .before .before .before .sound .ensures) ∙ c .before .before .if1 .taken) l
-
-refuse-requires-2 : tie.Need-refuse-requires-2
-refuse-requires-2 c κs = search needs
 
 returns-4 : tie.Need-returns-4
 returns-4 c = ap (λ x. lent x (c .before .before .before .before .args .out .now)) (c .refuse2 .ensures) ∙ into-unsound _ _ _ _ (sym (c .before .before .sound .ensures) ∙ c .before .if1 .left)
 
 pub allocate-into-spec : {M : Type 1} → statement M
 allocate-into-spec =
-    tie.close (tie.spec sound-requires resolve-requires record-of-requires write-record-requires same-length returns returns-2 refuse-requires returns-3
-    refuse-requires-2 returns-4)
+    tie.close (tie.spec (λ c κs. search needs) resolve-requires (λ c κs. search needs) (λ c κs. search needs) (λ c. search needs) returns returns-2 (λ c κs. search needs) returns-3
+    (λ c κs. search needs) returns-4)

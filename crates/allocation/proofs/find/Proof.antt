@@ -5,53 +5,26 @@ use borrow.Author.Needs.{needs}
 use Rattle.allocation.proofs.find.Statement.{statement}
 use Rattle.allocation.proofs.find.Tie as tie
 
-queried-requires : tie.Need-queried-requires
-queried-requires c κs = search needs
-
-mmio-requires : tie.Need-mmio-requires
-mmio-requires c κs = search needs
-
 see-range-requires : tie.Need-see-range-requires
 see-range-requires c κs = rw (c .mmio .ensures, c .before .queried .ensures) (asks (c .before .before .args .s) (c .before .before .args .r) (c .before .before .pre) .mmio)
-
-pio-requires : tie.Need-pio-requires
-pio-requires c κs = search needs
 
 see-range-requires-2 : tie.Need-see-range-requires-2
 see-range-requires-2 c κs = rw (c .pio .ensures, c .before .before .before .queried .ensures) (asks (c .before .before .before .before .args .s) (c .before .before .before .before .args .r) (c .before .before .before .before .pre) .pio)
 
-input-requires : tie.Need-input-requires
-input-requires c κs = search needs
-
 see-wire-requires : tie.Need-see-wire-requires
 see-wire-requires c κs = rw (c .input .ensures, c .before .before .before .before .before .queried .ensures) (asks (c .before .before .before .before .before .before .args .s) (c .before .before .before .before .before .before .args .r) (c .before .before .before .before .before .before .pre) .input)
-
-host-requires : tie.Need-host-requires
-host-requires c κs = search needs
 
 see-range-requires-3 : tie.Need-see-range-requires-3
 see-range-requires-3 c κs = rw (c .host .ensures, c .before .before .before .before .before .before .before .queried .ensures) (asks (c .before .before .before .before .before .before .before .before .args .s) (c .before .before .before .before .before .before .before .before .args .r) (c .before .before .before .before .before .before .before .before .pre) .host)
 
-device-requires : tie.Need-device-requires
-device-requires c κs = search needs
-
 see-range-requires-4 : tie.Need-see-range-requires-4
 see-range-requires-4 c κs = rw (c .device .ensures, c .before .before .before .before .before .before .before .before .before .queried .ensures) (asks (c .before .before .before .before .before .before .before .before .before .before .args .s) (c .before .before .before .before .before .before .before .before .before .before .args .r) (c .before .before .before .before .before .before .before .before .before .before .pre) .device)
-
-event-requires : tie.Need-event-requires
-event-requires c κs = search needs
 
 see-range-requires-5 : tie.Need-see-range-requires-5
 see-range-requires-5 c κs = rw (c .event .ensures, c .before .before .before .before .before .before .before .before .before .before .before .queried .ensures) (asks (c .before .before .before .before .before .before .before .before .before .before .before .before .args .s) (c .before .before .before .before .before .before .before .before .before .before .before .before .args .r) (c .before .before .before .before .before .before .before .before .before .before .before .before .pre) .event (c .before .see-range4 .result))
 
-lpi-requires : tie.Need-lpi-requires
-lpi-requires c κs = search needs
-
 see-range-requires-6 : tie.Need-see-range-requires-6
 see-range-requires-6 c κs = rw (c .lpi .ensures, c .before .before .before .before .before .before .before .before .before .before .before .before .before .queried .ensures) (asks (c .before .before .before .before .before .before .before .before .before .before .before .before .before .before .args .s) (c .before .before .before .before .before .before .before .before .before .before .before .before .before .before .args .r) (c .before .before .before .before .before .before .before .before .before .before .before .before .before .before .pre) .lpi (c .before .see-range5 .result))
-
-verdict-requires : tie.Need-verdict-requires
-verdict-requires c κs = search needs
 
 returns : tie.Need-returns
 returns c = rw (c .verdict .ensures, c .before .before .before .before .before .before .before .before .before .before .before .before .before .before .before .queried .ensures) (finds (c .before .before .before .before .before .before .before .before .before .before .before .before .before .before .before .before .args .s) (c .before .before .before .before .before .before .before .before .before .before .before .before .before .before .before .before .args .r) _ _ _ _ _ _ _ (c .before .before .before .before .before .before .before .before .before .before .before .before .before .before .before .before .pre) (record {
@@ -66,6 +39,6 @@ returns c = rw (c .verdict .ensures, c .before .before .before .before .before .
 
 pub find-spec : {M : Type 1} → statement M
 find-spec =
-    tie.close (tie.spec queried-requires mmio-requires see-range-requires pio-requires see-range-requires-2 input-requires see-wire-requires host-requires
-    see-range-requires-3 device-requires see-range-requires-4 event-requires see-range-requires-5 lpi-requires see-range-requires-6 verdict-requires
+    tie.close (tie.spec (λ c κs. search needs) (λ c κs. search needs) see-range-requires (λ c κs. search needs) see-range-requires-2 (λ c κs. search needs) see-wire-requires (λ c κs. search needs)
+    see-range-requires-3 (λ c κs. search needs) see-range-requires-4 (λ c κs. search needs) see-range-requires-5 (λ c κs. search needs) see-range-requires-6 (λ c κs. search needs)
     returns)

@@ -6,11 +6,8 @@ use borrow.Author.Needs.{needs}
 use Rattle.allocation.proofs.refuse.Statement.{statement}
 use Rattle.allocation.proofs.refuse.Tie as tie
 
-numbers-requires : tie.Need-numbers-requires
-numbers-requires c κs = search needs
-
 returns : tie.Need-returns
 returns c = ap (λ w. saying w (stateView (c .before .args .s))) (c .numbers .ensures)
 
 pub refuse-spec : {M : Type 1} → statement M
-refuse-spec = tie.close (tie.spec numbers-requires returns)
+refuse-spec = tie.close (tie.spec (λ c κs. search needs) returns)

@@ -5,14 +5,8 @@ use borrow.Author.Needs.{needs}
 use Rattle.allocation.proofs.resolve.Statement.{statement}
 use Rattle.allocation.proofs.resolve.Tie as tie
 
-find-requires : tie.Need-find-requires
-find-requires c κs = search needs
-
-keep-requires : tie.Need-keep-requires
-keep-requires c κs = search needs
-
 returns : tie.Need-returns
 returns c = record { state = ap stateView (c .before .keep .ensures) ∙ c .before .before .find .ensures .state; bases = c .before .before .find .ensures .bases }
 
 pub resolve-spec : {M : Type 1} → statement M
-resolve-spec = tie.close (tie.spec find-requires keep-requires returns)
+resolve-spec = tie.close (tie.spec (λ c κs. search needs) (λ c κs. search needs) returns)

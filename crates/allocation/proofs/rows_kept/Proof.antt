@@ -1,49 +1,28 @@
 -- Each table with its own row, or as it was. Assumes nothing.
 use mathlib.Core.Path.{_∙_, ap}
 use Rattle.tables.specs.Whole.{holders}
-use Rattle.store.specs.Store.{putRange, putWire}
+use Rattle.lent_table.specs.Store.{putRange, putWire}
 use borrow.Author.Needs.{needs}
 use Rattle.allocation.proofs.rows_kept.Statement.{statement}
 use Rattle.allocation.proofs.rows_kept.Tie as tie
 
-mmio-requires : tie.Need-mmio-requires
-mmio-requires c κs = search needs
-
 put-range-requires : tie.Need-put-range-requires
 put-range-requires c κs = rw (c .mmio .ensures) (c .before .pre .mmio)
-
-pio-requires : tie.Need-pio-requires
-pio-requires c κs = search needs
 
 put-range-requires-2 : tie.Need-put-range-requires-2
 put-range-requires-2 c κs = rw (c .pio .ensures) (c .before .before .before .pre .pio)
 
-input-requires : tie.Need-input-requires
-input-requires c κs = search needs
-
 put-wire-requires : tie.Need-put-wire-requires
 put-wire-requires c κs = rw (c .input .ensures) (c .before .before .before .before .before .pre .input)
-
-host-requires : tie.Need-host-requires
-host-requires c κs = search needs
 
 put-range-requires-3 : tie.Need-put-range-requires-3
 put-range-requires-3 c κs = rw (c .host .ensures) (c .before .before .before .before .before .before .before .pre .host)
 
-device-requires : tie.Need-device-requires
-device-requires c κs = search needs
-
 put-range-requires-4 : tie.Need-put-range-requires-4
 put-range-requires-4 c κs = rw (c .device .ensures) (c .before .before .before .before .before .before .before .before .before .pre .device)
 
-event-requires : tie.Need-event-requires
-event-requires c κs = search needs
-
 put-range-requires-5 : tie.Need-put-range-requires-5
 put-range-requires-5 c κs = rw (c .event .ensures) (c .before .before .before .before .before .before .before .before .before .before .before .pre .event)
-
-lpi-requires : tie.Need-lpi-requires
-lpi-requires c κs = search needs
 
 put-range-requires-6 : tie.Need-put-range-requires-6
 put-range-requires-6 c κs = rw (c .lpi .ensures) (c .before .before .before .before .before .before .before .before .before .before .before .before .before .pre .lpi)
@@ -55,5 +34,5 @@ returns c = let h = c .before .before .before .before .before .before .before .b
 
 pub rows-kept-spec : {M : Type 1} → statement M
 rows-kept-spec =
-    tie.close (tie.spec mmio-requires put-range-requires pio-requires put-range-requires-2 input-requires put-wire-requires host-requires
-    put-range-requires-3 device-requires put-range-requires-4 event-requires put-range-requires-5 lpi-requires put-range-requires-6 returns)
+    tie.close (tie.spec (λ c κs. search needs) put-range-requires (λ c κs. search needs) put-range-requires-2 (λ c κs. search needs) put-wire-requires (λ c κs. search needs)
+    put-range-requires-3 (λ c κs. search needs) put-range-requires-4 (λ c κs. search needs) put-range-requires-5 (λ c κs. search needs) put-range-requires-6 returns)

@@ -6,25 +6,10 @@ use borrow.Author.Needs.{needs}
 use Rattle.bases.proofs.align_up.Statement.{statement}
 use Rattle.bases.proofs.align_up.Tie as tie
 
-returns : tie.Need-returns
-returns c = search needs
-
-rem-over : tie.Need-rem-over
-rem-over c = search needs
-
-returns-2 : tie.Need-returns-2
-returns-2 c = search needs
-
 sub-step : tie.Need-sub-step
 sub-step c =
     let a = c .before .before .args in
     omega (arith, mod-lt (a .value) {m = a .alignment} (c .before .before .pre))
-
-sub-if3 : tie.Need-sub-if3
-sub-if3 c = search needs
-
-add-result : tie.Need-add-result
-add-result c = search needs
 
 returns-3 : tie.Need-returns-3
 returns-3 c =
@@ -50,4 +35,4 @@ returns-4 c =
 
 pub align-up-spec : {M : Type 1} → statement M
 align-up-spec =
-    tie.close (tie.spec returns rem-over returns-2 sub-step sub-if3 add-result returns-3 returns-4)
+    tie.close (tie.spec (λ c. search needs) (λ c. search needs) (λ c. search needs) sub-step (λ c. search needs) (λ c. search needs) returns-3 returns-4)

@@ -6,33 +6,6 @@ use borrow.Author.Needs.{needs}
 use Rattle.decide.proofs.queried.Statement.{statement}
 use Rattle.decide.proofs.queried.Tie as tie
 
-good-request-requires : tie.Need-good-request-requires
-good-request-requires c κs = search needs
-
-enum-known-want : tie.Need-enum-known-want
-enum-known-want c = search needs
-
-needing-requires : tie.Need-needing-requires
-needing-requires c κs = search needs
-
-enum-known-want-2 : tie.Need-enum-known-want-2
-enum-known-want-2 c = search needs
-
-needing-requires-2 : tie.Need-needing-requires-2
-needing-requires-2 c κs = search needs
-
-enum-known-want-3 : tie.Need-enum-known-want-3
-enum-known-want-3 c = search needs
-
-enum-known-want-4 : tie.Need-enum-known-want-4
-enum-known-want-4 c = search needs
-
-needing-requires-3 : tie.Need-needing-requires-3
-needing-requires-3 c κs = search needs
-
-enum-known-want-5 : tie.Need-enum-known-want-5
-enum-known-want-5 c = search needs
-
 returns : tie.Need-returns
 returns c = let r = c .before .before .before .before .before .before .args .r in rw (c .needing .ensures) (sym (good-query r (sym (c .before .before .before .before .before .good-request .ensures) ∙ c .before .before .before .before .if1 .taken) ∙ ap (wanted (r .requester)) (c .before .before .want .given .1)))
 
@@ -53,5 +26,5 @@ returns-6 c = sym (bad-query (c .before .before .args .r) (sym (c .before .good-
 
 pub queried-spec : {M : Type 1} → statement M
 queried-spec =
-    tie.close (tie.spec good-request-requires enum-known-want needing-requires enum-known-want-2 needing-requires-2 enum-known-want-3 enum-known-want-4
-    needing-requires-3 enum-known-want-5 returns returns-2 returns-3 returns-4 returns-5 returns-6)
+    tie.close (tie.spec (λ c κs. search needs) (λ c. search needs) (λ c κs. search needs) (λ c. search needs) (λ c κs. search needs) (λ c. search needs) (λ c. search needs)
+    (λ c κs. search needs) (λ c. search needs) returns returns-2 returns-3 returns-4 returns-5 returns-6)

@@ -12,25 +12,25 @@ use Rattle.request.specs.Calls.{callOf}
 use Rattle.request.specs.declared.call.Call.{Call}
 use Rattle.request.proofs.call.Call as Ca
 use Rattle.request.proofs.call.Call.Laws as Ca′
-use Rattle.range.specs.Answers.{heard}
-use Rattle.range.specs.declared.Reply.{Reply}
-use Rattle.range.proofs.Reply as Re
-use Rattle.range.proofs.Reply.Laws as Re′
+use Rattle.insert.specs.Answers.{heard}
+use Rattle.insert.specs.declared.Reply.{Reply}
+use Rattle.insert.proofs.Reply as Re
+use Rattle.insert.proofs.Reply.Laws as Re′
 use Rattle.request.specs.Asked.{requestOf}
 use Rattle.request.specs.declared.Request.{Request}
 use Rattle.request.proofs.Request as Rq
 use Rattle.request.proofs.Request.Laws as Rq′
 use Rattle.inplace.proofs.LendPart.{Makes}
 use Rattle.inplace.proofs.Callees.{made}
-use Rattle.lent_sound.proofs.given as v
-use Rattle.lent.proofs.Acts.{Acts, plainly}
+use Rattle.sound.proofs.lent.given as v
+use Rattle.inplace.proofs.Acts.{Acts, plainly}
 use Rattle.walks.proofs.Straight.{nil, arg, num, first, others}
-use Rattle.lent.proofs.Steps.{points, sets, acted, leaves-if, gives, gives-within, entering}
+use Rattle.inplace.proofs.Steps.{points, sets, acted, leaves-if, gives, gives-within, entering}
 use Rattle.plan.proofs.Beside.{Stands, lent-alone, lent-beside, one-meets}
 use Rattle.plan.proofs.allocate as p
-use Rattle.applied.specs.Applied.{applyOf}
-use Rattle.applied.proofs.apply as a
-use Rattle.applied.proofs.say as t
+use Rattle.door.specs.Applied.{applyOf}
+use Rattle.door.proofs.apply.apply as a
+use Rattle.door.proofs.apply.say as t
 use Rattle.door.specs.Served.{wantsOf, wantedOf, stopOf, serveOf}
 use Rattle.door.proofs.ServeLaws.{served-want, served-stop, served-adds, goes-on}
 use Rattle.door.proofs.wants as w
@@ -129,8 +129,8 @@ serve-spec 𝓤 H 𝓜 𝓖 𝓡 =
     (cited 𝓤 H (tripleOf 𝓤 H (𝓖 .A) w.signature (w.spec 𝓤 H (𝓖 .A) (𝓜 .mem) (𝓡 .run))) 𝓜 𝓡 f.Code.env w.Symbol.name w.Symbol.routine f.Code.calls-door·wants (w.Met.met 𝓤 H 𝓜 𝓖 𝓡))
     (cited 𝓤 H (tripleOf 𝓤 H (𝓖 .A) d.signature (d.spec 𝓤 H (𝓖 .A) (𝓜 .mem) (𝓡 .run))) 𝓜 𝓡 f.Code.env d.Symbol.name d.Symbol.routine f.Code.calls-door·wanted (d.Met.met 𝓤 H 𝓜 𝓖 𝓡))
     (cited 𝓤 H (tripleOf 𝓤 H (𝓖 .A) p.signature (p.spec 𝓤 H (𝓖 .A) (𝓜 .mem) (𝓡 .run))) 𝓜 𝓡 f.Code.env p.Symbol.name p.Symbol.routine f.Code.calls-plan·allocate (p.Met.met 𝓤 H 𝓜 𝓖 𝓡))
-    (cited 𝓤 H (tripleOf 𝓤 H (𝓖 .A) v.signature (v.spec 𝓤 H (𝓖 .A) (𝓜 .mem) (𝓡 .run))) 𝓜 𝓡 f.Code.env v.Symbol.name v.Symbol.routine f.Code.calls-lent-sound·given (v.Met.met 𝓤 H 𝓜 𝓖 𝓡))
+    (cited 𝓤 H (tripleOf 𝓤 H (𝓖 .A) v.signature (v.spec 𝓤 H (𝓖 .A) (𝓜 .mem) (𝓡 .run))) 𝓜 𝓡 f.Code.env v.Symbol.name v.Symbol.routine f.Code.calls-sound·lent·given (v.Met.met 𝓤 H 𝓜 𝓖 𝓡))
     (cited 𝓤 H (tripleOf 𝓤 H (𝓖 .A) s.signature (s.spec 𝓤 H (𝓖 .A) (𝓜 .mem) (𝓡 .run))) 𝓜 𝓡 f.Code.env s.Symbol.name s.Symbol.routine f.Code.calls-door·stop (s.Met.met 𝓤 H 𝓜 𝓖 𝓡))
     (cited 𝓤 H (tripleOf 𝓤 H (𝓖 .A) e.signature (e.spec 𝓤 H (𝓖 .A) (𝓜 .mem) (𝓡 .run))) 𝓜 𝓡 f.Code.env e.Symbol.name e.Symbol.routine f.Code.calls-door·stands (e.Met.met 𝓤 H 𝓜 𝓖 𝓡))
-    (cited 𝓤 H (tripleOf 𝓤 H (𝓖 .A) a.signature (a.spec 𝓤 H (𝓖 .A) (𝓜 .mem) (𝓡 .run))) 𝓜 𝓡 f.Code.env a.Symbol.name a.Symbol.routine f.Code.calls-applied·apply (a.Met.met 𝓤 H 𝓜 𝓖 𝓡))
-    (cited 𝓤 H (tripleOf 𝓤 H (𝓖 .A) t.signature (t.spec 𝓤 H (𝓖 .A) (𝓜 .mem) (𝓡 .run))) 𝓜 𝓡 f.Code.env t.Symbol.name t.Symbol.routine f.Code.calls-applied·say (t.Met.met 𝓤 H 𝓜 𝓖 𝓡)))
+    (cited 𝓤 H (tripleOf 𝓤 H (𝓖 .A) a.signature (a.spec 𝓤 H (𝓖 .A) (𝓜 .mem) (𝓡 .run))) 𝓜 𝓡 f.Code.env a.Symbol.name a.Symbol.routine f.Code.calls-door·apply·apply (a.Met.met 𝓤 H 𝓜 𝓖 𝓡))
+    (cited 𝓤 H (tripleOf 𝓤 H (𝓖 .A) t.signature (t.spec 𝓤 H (𝓖 .A) (𝓜 .mem) (𝓡 .run))) 𝓜 𝓡 f.Code.env t.Symbol.name t.Symbol.routine f.Code.calls-door·apply·say (t.Met.met 𝓤 H 𝓜 𝓖 𝓡)))

@@ -5,32 +5,32 @@ use Rattle.definition.specs.Base.{Said}
 use Rattle.tables.specs.Views.{stateView}
 use Rattle.tables.specs.declared.State.{State}
 use Rattle.tables.proofs.State as T
-use Rattle.lent.specs.Marks.{marksOf}
-use Rattle.lent.specs.declared.Marks.{Marks}
-use Rattle.lent.proofs.Marks as Ma
-use Rattle.lent.proofs.Marks.Laws as Ma′
+use Rattle.inplace.specs.Marks.{marksOf}
+use Rattle.inplace.specs.declared.marks.Marks.{Marks}
+use Rattle.inplace.proofs.marks.Marks as Ma
+use Rattle.inplace.proofs.marks.Marks.Laws as Ma′
 use Rattle.walks.proofs.Straight.{Store, env, first, others, given, set, arg, nil}
 use Rattle.walks.proofs.Passing.{declaredAs, Arg, lent, plainly, passing, refTo}
-use Rattle.lent.proofs.Acts.{Acts, framed, framed-left}
-use Rattle.lent.proofs.Steps.{Does, part-reads, local-of, sets, acted, leaves-if, gives, gives-within, entering}
-use Rattle.lent.proofs.peek as p
+use Rattle.inplace.proofs.Acts.{Acts, framed, framed-left}
+use Rattle.inplace.proofs.Steps.{Does, part-reads, local-of, sets, acted, leaves-if, gives, gives-within, entering}
+use Rattle.inplace.proofs.marks.peek as p
 use Rattle.plan.proofs.Kept.{ends, meets}
-use Rattle.face.specs.Rows.{told}
-use Rattle.face.specs.Lent.{readTold}
-use Rattle.face.specs.Reading.{saidBy}
-use Rattle.face.specs.Back.{whichIn, foundOf, rowIn, readBy}
-use Rattle.face.specs.declared.row.Which.{Which}
-use Rattle.face.specs.declared.row.Found.{Found}
-use Rattle.face.proofs.row.Which as K
-use Rattle.face.proofs.row.Which.Laws as K′
-use Rattle.face.proofs.row.Found as F
-use Rattle.face.proofs.row.Found.Laws as F′
-use Rattle.face.proofs.RowArgs.{Fo, whole-lent}
-use Rattle.face.proofs.ListActs.{reads-list, writes-list}
-use Rattle.face.proofs.FoundLaws.{read-told}
-use Rattle.face.proofs.back.which as w
-use Rattle.face.proofs.row.row as r
-use Rattle.face.proofs.back.tell_read as t
+use Rattle.numbers.specs.Rows.{told}
+use Rattle.numbers.specs.Lent.{readTold}
+use Rattle.numbers.specs.Reading.{saidBy}
+use Rattle.numbers.specs.Back.{whichIn, foundOf, rowIn, readBy}
+use Rattle.numbers.specs.declared.row.Which.{Which}
+use Rattle.numbers.specs.declared.row.Found.{Found}
+use Rattle.numbers.proofs.row.Which as K
+use Rattle.numbers.proofs.row.Which.Laws as K′
+use Rattle.numbers.proofs.row.Found as F
+use Rattle.numbers.proofs.row.Found.Laws as F′
+use Rattle.numbers.proofs.RowArgs.{Fo, whole-lent}
+use Rattle.numbers.proofs.ListActs.{reads-list, writes-list}
+use Rattle.numbers.proofs.FoundLaws.{read-told}
+use Rattle.numbers.proofs.back.which as w
+use Rattle.numbers.proofs.row.row as r
+use Rattle.numbers.proofs.back.tell_read as t
 use Rattle.export.specs.Export.{stateSize, sizedRead}
 use Rattle.export.proofs.SizeLaws.{right-read, wrong-read}
 use Rattle.export.proofs.planner_read as f
@@ -232,7 +232,7 @@ planner-read-spec 𝓤 H 𝓜 𝓖 𝓡 =
     entered 𝓤 H (tripleOf 𝓤 H (𝓖 .A) f.signature (f.spec 𝓤 H (𝓖 .A) (𝓜 .mem) (𝓡 .run)))
     (tables 𝓤 H 𝓜 𝓡 f.Code.env .C) (tables 𝓤 H 𝓜 𝓡 f.Code.env .Λ) f.Key.name f.Code.function (f.Code.unfolded 𝓤 H 𝓜 𝓡)
     (f-meets 𝓤 H (𝓖 .A) (𝓜 .mem) (𝓡 .run) (givenOf 𝓤 H 𝓜 𝓖) (tablesOf 𝓤 H 𝓜 (tables 𝓤 H 𝓜 𝓡 f.Code.env))
-    (cited 𝓤 H (tripleOf 𝓤 H (𝓖 .A) w.signature (w.spec 𝓤 H (𝓖 .A) (𝓜 .mem) (𝓡 .run))) 𝓜 𝓡 f.Code.env w.Symbol.name w.Symbol.routine f.Code.calls-face·back·which (w.Met.met 𝓤 H 𝓜 𝓖 𝓡))
-    (cited 𝓤 H (tripleOf 𝓤 H (𝓖 .A) r.signature (r.spec 𝓤 H (𝓖 .A) (𝓜 .mem) (𝓡 .run))) 𝓜 𝓡 f.Code.env r.Symbol.name r.Symbol.routine f.Code.calls-face·row·row (r.Met.met 𝓤 H 𝓜 𝓖 𝓡))
-    (cited 𝓤 H (tripleOf 𝓤 H (𝓖 .A) p.signature (p.spec 𝓤 H (𝓖 .A) (𝓜 .mem) (𝓡 .run))) 𝓜 𝓡 f.Code.env p.Symbol.name p.Symbol.routine f.Code.calls-lent·peek (p.Met.met 𝓤 H 𝓜 𝓖 𝓡))
-    (cited 𝓤 H (tripleOf 𝓤 H (𝓖 .A) t.signature (t.spec 𝓤 H (𝓖 .A) (𝓜 .mem) (𝓡 .run))) 𝓜 𝓡 f.Code.env t.Symbol.name t.Symbol.routine f.Code.calls-face·back·tell-read (t.Met.met 𝓤 H 𝓜 𝓖 𝓡)))
+    (cited 𝓤 H (tripleOf 𝓤 H (𝓖 .A) w.signature (w.spec 𝓤 H (𝓖 .A) (𝓜 .mem) (𝓡 .run))) 𝓜 𝓡 f.Code.env w.Symbol.name w.Symbol.routine f.Code.calls-numbers·back·which (w.Met.met 𝓤 H 𝓜 𝓖 𝓡))
+    (cited 𝓤 H (tripleOf 𝓤 H (𝓖 .A) r.signature (r.spec 𝓤 H (𝓖 .A) (𝓜 .mem) (𝓡 .run))) 𝓜 𝓡 f.Code.env r.Symbol.name r.Symbol.routine f.Code.calls-numbers·row·row (r.Met.met 𝓤 H 𝓜 𝓖 𝓡))
+    (cited 𝓤 H (tripleOf 𝓤 H (𝓖 .A) p.signature (p.spec 𝓤 H (𝓖 .A) (𝓜 .mem) (𝓡 .run))) 𝓜 𝓡 f.Code.env p.Symbol.name p.Symbol.routine f.Code.calls-inplace·marks·peek (p.Met.met 𝓤 H 𝓜 𝓖 𝓡))
+    (cited 𝓤 H (tripleOf 𝓤 H (𝓖 .A) t.signature (t.spec 𝓤 H (𝓖 .A) (𝓜 .mem) (𝓡 .run))) 𝓜 𝓡 f.Code.env t.Symbol.name t.Symbol.routine f.Code.calls-numbers·back·tell-read (t.Met.met 𝓤 H 𝓜 𝓖 𝓡)))

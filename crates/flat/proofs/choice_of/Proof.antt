@@ -4,11 +4,8 @@ use borrow.Author.Needs.{needs}
 use Rattle.flat.proofs.choice_of.Statement.{statement}
 use Rattle.flat.proofs.choice_of.Tie as tie
 
-returns : tie.Need-returns
-returns c = search needs
-
 returns-2 : tie.Need-returns-2
 returns-2 c = other-code (c .before .args .code) (c .before .args .n) (c .if1 .left)
 
 pub choice-of-spec : {M : Type 1} → statement M
-choice-of-spec = tie.close (tie.spec returns returns-2)
+choice-of-spec = tie.close (tie.spec (λ c. search needs) returns-2)

@@ -6,29 +6,17 @@ use borrow.Author.Needs.{needs}
 use Rattle.flat.proofs.messages_read.Statement.{statement}
 use Rattle.flat.proofs.messages_read.Tie as tie
 
-all-fit-requires : tie.Need-all-fit-requires
-all-fit-requires c κs = search needs
-
 returns : tie.Need-returns
 unfolding readable
 returns c = rw (sym (c .before .all-fit .ensures) ∙ not-true (c .before .all-fit .result) (c .if1 .taken))
-
-number-reads-requires : tie.Need-number-reads-requires
-number-reads-requires c κs = search needs
 
 returns-2 : tie.Need-returns-2
 unfolding readable
 returns-2 c = rw (sym (c .before .before .before .all-fit .ensures) ∙ not-false (c .before .before .before .all-fit .result) (c .before .before .if1 .left), sym (c .before .number-reads .ensures) ∙ not-true (c .before .number-reads .result) (c .if2 .taken))
 
-number-reads-requires-2 : tie.Need-number-reads-requires-2
-number-reads-requires-2 c κs = search needs
-
 returns-3 : tie.Need-returns-3
 unfolding readable
 returns-3 c = rw (sym (c .before .before .before .before .before .all-fit .ensures) ∙ not-false (c .before .before .before .before .before .all-fit .result) (c .before .before .before .before .if1 .left), sym (c .before .before .before .number-reads .ensures) ∙ not-false (c .before .before .before .number-reads .result) (c .before .before .if2 .left), sym (c .before .number-reads2 .ensures) ∙ not-true (c .before .number-reads2 .result) (c .if3 .taken))
-
-number-reads-requires-3 : tie.Need-number-reads-requires-3
-number-reads-requires-3 c κs = search needs
 
 returns-4 : tie.Need-returns-4
 unfolding readable
@@ -36,4 +24,4 @@ returns-4 c = rw (sym (c .before .before .before .before .before .before .all-fi
 
 pub messages-read-spec : {M : Type 1} → statement M
 messages-read-spec =
-    tie.close (tie.spec all-fit-requires returns number-reads-requires returns-2 number-reads-requires-2 returns-3 number-reads-requires-3 returns-4)
+    tie.close (tie.spec (λ c κs. search needs) returns (λ c κs. search needs) returns-2 (λ c κs. search needs) returns-3 (λ c κs. search needs) returns-4)

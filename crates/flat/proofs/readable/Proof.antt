@@ -13,15 +13,9 @@ returns c = rw (c .if1 .taken)
 returns-2 : tie.Need-returns-2
 returns-2 c = readable-past _ _ _ _ _ _ _ _ _ _ (c .if2 .taken)
 
-wired-reads-requires : tie.Need-wired-reads-requires
-wired-reads-requires c κs = search needs
-
 returns-3 : tie.Need-returns-3
 unfolding readable
 returns-3 c = rw (c .before .if3 .taken) (c .wired-reads .ensures)
-
-messages-read-requires : tie.Need-messages-read-requires
-messages-read-requires c κs = search needs
 
 returns-4 : tie.Need-returns-4
 unfolding readable
@@ -31,4 +25,4 @@ returns-5 : tie.Need-returns-5
 returns-5 c = readable-plain _ _ _ _ _ _ _ _ _ _ (omega arith) (omega arith) (c .before .if3 .left) (c .if4 .left)
 
 pub readable-spec : {M : Type 1} → statement M
-readable-spec = tie.close (tie.spec returns returns-2 wired-reads-requires returns-3 messages-read-requires returns-4 returns-5)
+readable-spec = tie.close (tie.spec returns returns-2 (λ c κs. search needs) returns-3 (λ c κs. search needs) returns-4 returns-5)

@@ -12,9 +12,6 @@ returns : tie.Need-returns
 unfolding wantAt
 returns c = rw (c .before .if1 .taken) (c .messages .ensures)
 
-choice-of-requires : tie.Need-choice-of-requires
-choice-of-requires c κs = search needs
-
 returns-2 : tie.Need-returns-2
 unfolding wantAt
 returns-2 c = rw (c .if2 .taken, c .before .choice-of .ensures)
@@ -35,4 +32,4 @@ unfolding wantAt
 returns-5 c = rw (reads-host _ _ _ _ _ _ _ _ _ _ (c .before .before .if2 .left) (c .before .if3 .left) (c .if4 .left) (c .before .before .before .before .if1 .left) (c .before .before .before .before .before .pre), c .before .before .before .choice-of .ensures)
 
 pub want-of-spec : {M : Type 1} → statement M
-want-of-spec = tie.close (tie.spec messages-requires returns choice-of-requires returns-2 returns-3 wired-requires returns-4 returns-5)
+want-of-spec = tie.close (tie.spec messages-requires returns (λ c κs. search needs) returns-2 returns-3 wired-requires returns-4 returns-5)

@@ -14,8 +14,5 @@ cast-t6 c = let a = c .args in omega (arith, all-fit-says (a .a) (a .b) (a .c) (
 cast-t7 : tie.Need-cast-t7
 cast-t7 c = let a = c .args in omega (arith, all-fit-says (a .a) (a .b) (a .c) (c .pre))
 
-returns : tie.Need-returns
-returns c = search needs
-
 pub wired-spec : {M : Type 1} → statement M
-wired-spec = tie.close (tie.spec cast-t5 cast-t6 cast-t7 returns)
+wired-spec = tie.close (tie.spec cast-t5 cast-t6 cast-t7 (λ c. search needs))

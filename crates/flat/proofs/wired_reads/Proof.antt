@@ -6,9 +6,6 @@ use borrow.Author.Needs.{needs}
 use Rattle.flat.proofs.wired_reads.Statement.{statement}
 use Rattle.flat.proofs.wired_reads.Tie as tie
 
-all-fit-requires : tie.Need-all-fit-requires
-all-fit-requires c κs = search needs
-
 returns : tie.Need-returns
 unfolding readable
 returns c = rw (sym (c .before .all-fit .ensures) ∙ not-true (c .before .all-fit .result) (c .if1 .taken))
@@ -18,4 +15,4 @@ unfolding readable
 returns-2 c = rw (sym (c .before .all-fit .ensures) ∙ not-false (c .before .all-fit .result) (c .if1 .left))
 
 pub wired-reads-spec : {M : Type 1} → statement M
-wired-reads-spec = tie.close (tie.spec all-fit-requires returns returns-2)
+wired-reads-spec = tie.close (tie.spec (λ c κs. search needs) returns returns-2)

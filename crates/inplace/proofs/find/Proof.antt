@@ -20,21 +20,21 @@ use Rattle.tables.proofs.Holders as Ho
 use Rattle.tables.proofs.State as T
 use Rattle.request.proofs.Request as R
 use Rattle.request.proofs.Request.Laws as R′
-use Rattle.look.specs.Look.{Asks, Sees, WireAsks, SeesWire}
+use Rattle.lent_table.specs.Look.{Asks, Sees, WireAsks, SeesWire}
 use Rattle.decide.specs.Query.{queryOf, asked}
 use Rattle.decide.specs.Granted.{verdictOf}
-use Rattle.look.specs.declared.Ask.{Ask}
-use Rattle.look.specs.declared.WireAsk.{WireAsk}
-use Rattle.look.specs.declared.Seen.{Seen}
+use Rattle.lent_table.specs.declared.look.Ask.{Ask}
+use Rattle.lent_table.specs.declared.look.WireAsk.{WireAsk}
+use Rattle.lent_table.specs.declared.look.Seen.{Seen}
 use Rattle.decide.specs.declared.Query.{Query}
-use Rattle.look.proofs.Ask as K
-use Rattle.look.proofs.Ask.Laws as K′
-use Rattle.look.proofs.WireAsk as X
-use Rattle.look.proofs.WireAsk.Laws as X′
-use Rattle.look.proofs.Seen as S
-use Rattle.look.proofs.Seen.Laws as S′
-use Rattle.look.proofs.range as range
-use Rattle.look.proofs.wire as wire
+use Rattle.lent_table.proofs.look.Ask as K
+use Rattle.lent_table.proofs.look.Ask.Laws as K′
+use Rattle.lent_table.proofs.look.WireAsk as X
+use Rattle.lent_table.proofs.look.WireAsk.Laws as X′
+use Rattle.lent_table.proofs.look.Seen as S
+use Rattle.lent_table.proofs.look.Seen.Laws as S′
+use Rattle.lent_table.proofs.look.range as range
+use Rattle.lent_table.proofs.look.wire as wire
 use Rattle.decide.proofs.Query as Q
 use Rattle.decide.proofs.Query.Laws as Q′
 use Rattle.decide.proofs.Granted as F
@@ -295,8 +295,8 @@ find-spec 𝓤 H 𝓜 𝓖 𝓡 =
       k-ask-device = cited 𝓤 H (tripleOf 𝓤 H (𝓖 .A) ask-device.signature (ask-device.spec 𝓤 H (𝓖 .A) (𝓜 .mem) (𝓡 .run))) 𝓜 𝓡 f.Code.env ask-device.Symbol.name ask-device.Symbol.routine f.Code.calls-decide·ask·device (ask-device.Met.met 𝓤 H 𝓜 𝓖 𝓡);
       k-ask-event = cited 𝓤 H (tripleOf 𝓤 H (𝓖 .A) ask-event.signature (ask-event.spec 𝓤 H (𝓖 .A) (𝓜 .mem) (𝓡 .run))) 𝓜 𝓡 f.Code.env ask-event.Symbol.name ask-event.Symbol.routine f.Code.calls-decide·ask·event (ask-event.Met.met 𝓤 H 𝓜 𝓖 𝓡);
       k-ask-lpi = cited 𝓤 H (tripleOf 𝓤 H (𝓖 .A) ask-lpi.signature (ask-lpi.spec 𝓤 H (𝓖 .A) (𝓜 .mem) (𝓡 .run))) 𝓜 𝓡 f.Code.env ask-lpi.Symbol.name ask-lpi.Symbol.routine f.Code.calls-decide·ask·lpi (ask-lpi.Met.met 𝓤 H 𝓜 𝓖 𝓡);
-      k-range = cited 𝓤 H (tripleOf 𝓤 H (𝓖 .A) range.signature (range.spec 𝓤 H (𝓖 .A) (𝓜 .mem) (𝓡 .run))) 𝓜 𝓡 f.Code.env range.Symbol.name range.Symbol.routine f.Code.calls-look·range (range.Met.met 𝓤 H 𝓜 𝓖 𝓡);
-      k-wire = cited 𝓤 H (tripleOf 𝓤 H (𝓖 .A) wire.signature (wire.spec 𝓤 H (𝓖 .A) (𝓜 .mem) (𝓡 .run))) 𝓜 𝓡 f.Code.env wire.Symbol.name wire.Symbol.routine f.Code.calls-look·wire (wire.Met.met 𝓤 H 𝓜 𝓖 𝓡);
+      k-range = cited 𝓤 H (tripleOf 𝓤 H (𝓖 .A) range.signature (range.spec 𝓤 H (𝓖 .A) (𝓜 .mem) (𝓡 .run))) 𝓜 𝓡 f.Code.env range.Symbol.name range.Symbol.routine f.Code.calls-lent-table·look·range (range.Met.met 𝓤 H 𝓜 𝓖 𝓡);
+      k-wire = cited 𝓤 H (tripleOf 𝓤 H (𝓖 .A) wire.signature (wire.spec 𝓤 H (𝓖 .A) (𝓜 .mem) (𝓡 .run))) 𝓜 𝓡 f.Code.env wire.Symbol.name wire.Symbol.routine f.Code.calls-lent-table·look·wire (wire.Met.met 𝓤 H 𝓜 𝓖 𝓡);
       k-one = cited 𝓤 H (tripleOf 𝓤 H (𝓖 .A) one.signature (one.spec 𝓤 H (𝓖 .A) (𝓜 .mem) (𝓡 .run))) 𝓜 𝓡 f.Code.env one.Symbol.name one.Symbol.routine f.Code.calls-decide·one (one.Met.met 𝓤 H 𝓜 𝓖 𝓡);
       k-verdict = cited 𝓤 H (tripleOf 𝓤 H (𝓖 .A) verdict.signature (verdict.spec 𝓤 H (𝓖 .A) (𝓜 .mem) (𝓡 .run))) 𝓜 𝓡 f.Code.env verdict.Symbol.name verdict.Symbol.routine f.Code.calls-decide·verdict (verdict.Met.met 𝓤 H 𝓜 𝓖 𝓡);
     }))

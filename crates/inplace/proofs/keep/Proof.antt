@@ -15,15 +15,15 @@ use Rattle.tables.proofs.Ranges.Laws as Ra′
 use Rattle.tables.proofs.Wires as Wi
 use Rattle.tables.proofs.Wires.Laws as Wi′
 -- the callees
-use Rattle.store.specs.Store.{Free, putRange, putWire}
-use Rattle.store.specs.declared.Put.{Put}
-use Rattle.store.specs.declared.WirePut.{WirePut}
-use Rattle.store.proofs.Put as Pu
-use Rattle.store.proofs.Put.Laws as Pu′
-use Rattle.store.proofs.WirePut as Wp
-use Rattle.store.proofs.WirePut.Laws as Wp′
-use Rattle.store.proofs.range as range
-use Rattle.store.proofs.wire as wire
+use Rattle.lent_table.specs.Store.{Free, putRange, putWire}
+use Rattle.lent_table.specs.declared.store.Put.{Put}
+use Rattle.lent_table.specs.declared.store.WirePut.{WirePut}
+use Rattle.lent_table.proofs.store.Put as Pu
+use Rattle.lent_table.proofs.store.Put.Laws as Pu′
+use Rattle.lent_table.proofs.store.WirePut as Wp
+use Rattle.lent_table.proofs.store.WirePut.Laws as Wp′
+use Rattle.lent_table.proofs.store.range as range
+use Rattle.lent_table.proofs.store.wire as wire
 use Rattle.decide.specs.Granted.{puts}
 use Rattle.decide.specs.declared.Granted.{Granted}
 use Rattle.decide.proofs.Granted as Gr
@@ -331,6 +331,6 @@ keep-spec 𝓤 H 𝓜 𝓖 𝓡 =
       put-device = cited 𝓤 H (Put-device 𝓤 H (𝓖 .A) (givenOf 𝓤 H 𝓜 𝓖) (𝓜 .mem) (𝓡 .run)) 𝓜 𝓡 f.Code.env put-device.Symbol.name put-device.Symbol.routine f.Code.calls-decide·put·device (put-device.Met.met 𝓤 H 𝓜 𝓖 𝓡);
       put-event = cited 𝓤 H (Put-event 𝓤 H (𝓖 .A) (givenOf 𝓤 H 𝓜 𝓖) (𝓜 .mem) (𝓡 .run)) 𝓜 𝓡 f.Code.env put-event.Symbol.name put-event.Symbol.routine f.Code.calls-decide·put·event (put-event.Met.met 𝓤 H 𝓜 𝓖 𝓡);
       put-lpi = cited 𝓤 H (Put-lpi 𝓤 H (𝓖 .A) (givenOf 𝓤 H 𝓜 𝓖) (𝓜 .mem) (𝓡 .run)) 𝓜 𝓡 f.Code.env put-lpi.Symbol.name put-lpi.Symbol.routine f.Code.calls-decide·put·lpi (put-lpi.Met.met 𝓤 H 𝓜 𝓖 𝓡);
-      range = cited 𝓤 H (Range 𝓤 H (𝓖 .A) (givenOf 𝓤 H 𝓜 𝓖) (𝓜 .mem) (𝓡 .run)) 𝓜 𝓡 f.Code.env range.Symbol.name range.Symbol.routine f.Code.calls-store·range (range.Met.met 𝓤 H 𝓜 𝓖 𝓡);
-      wire = cited 𝓤 H (Wire 𝓤 H (𝓖 .A) (givenOf 𝓤 H 𝓜 𝓖) (𝓜 .mem) (𝓡 .run)) 𝓜 𝓡 f.Code.env wire.Symbol.name wire.Symbol.routine f.Code.calls-store·wire (wire.Met.met 𝓤 H 𝓜 𝓖 𝓡);
+      range = cited 𝓤 H (Range 𝓤 H (𝓖 .A) (givenOf 𝓤 H 𝓜 𝓖) (𝓜 .mem) (𝓡 .run)) 𝓜 𝓡 f.Code.env range.Symbol.name range.Symbol.routine f.Code.calls-lent-table·store·range (range.Met.met 𝓤 H 𝓜 𝓖 𝓡);
+      wire = cited 𝓤 H (Wire 𝓤 H (𝓖 .A) (givenOf 𝓤 H 𝓜 𝓖) (𝓜 .mem) (𝓡 .run)) 𝓜 𝓡 f.Code.env wire.Symbol.name wire.Symbol.routine f.Code.calls-lent-table·store·wire (wire.Met.met 𝓤 H 𝓜 𝓖 𝓡);
     })

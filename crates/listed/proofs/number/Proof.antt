@@ -1,6 +1,6 @@
 -- Accepted or refused. Assumes nothing.
 use Rattle.tables.specs.Views.{stateView}
-use Rattle.steps.proofs.StepLaws.{numbered-clear, numbered-refused}
+use Rattle.plan.proofs.StepLaws.{numbered-clear, numbered-refused}
 use Rattle.listed.proofs.number.Statement.{statement}
 use Rattle.listed.proofs.number.Tie as tie
 

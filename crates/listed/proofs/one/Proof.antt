@@ -10,11 +10,11 @@ use Rattle.request.specs.Asked.{requestOf}
 use Rattle.request.specs.declared.Request.{Request}
 use Rattle.request.proofs.Request as R
 use Rattle.request.proofs.Request.Laws as R′
-use Rattle.steps.specs.Steps.{turned}
+use Rattle.plan.specs.Steps.{turned}
 use Rattle.plan.specs.Nobody.{nobody}
 use Rattle.walks.proofs.Straight.{Store, first, others, given, set, arg, nil}
-use Rattle.lent.proofs.Acts.{After, Acts, framed-left}
-use Rattle.lent.proofs.Steps.{part-reads, local-of, sets, acted, gives, entering}
+use Rattle.inplace.proofs.Acts.{After, Acts, framed-left}
+use Rattle.inplace.proofs.Steps.{part-reads, local-of, sets, acted, gives, entering}
 use Rattle.plan.proofs.Held as E
 use Rattle.plan.proofs.Held.{valR}
 use Rattle.plan.proofs.list.read as k

@@ -8,35 +8,11 @@ use borrow.Author.Tests.{le-ltb}
 use Rattle.definition.specs.Tables.{recordSize}
 use Rattle.tables.specs.Views.{stateView}
 use Rattle.request.specs.Asked.{requestOf}
-use Rattle.steps.proofs.StepLaws.{is-clear, not-clear, turned-skips}
+use Rattle.plan.proofs.StepLaws.{is-clear, not-clear, turned-skips}
 use Rattle.listed.proofs.TurnLaws.{part-answers}
 use borrow.Author.Needs.{needs}
 use Rattle.listed.proofs.turn.Statement.{statement}
 use Rattle.listed.proofs.turn.Tie as tie
-
-mul-to : tie.Need-mul-to
-mul-to c = search needs
-
-mul-allocate-into : tie.Need-mul-allocate-into
-mul-allocate-into c = search needs
-
-sub-allocate-into : tie.Need-sub-allocate-into
-sub-allocate-into c = search needs
-
-part-allocate-into-start : tie.Need-part-allocate-into-start
-part-allocate-into-start c = search needs
-
-part-allocate-into-end : tie.Need-part-allocate-into-end
-part-allocate-into-end c = search needs
-
-allocate-into-requires : tie.Need-allocate-into-requires
-allocate-into-requires c κs = search needs
-
-number-requires : tie.Need-number-requires
-number-requires c κs = search needs
-
-same-length : tie.Need-same-length
-same-length c = search needs
 
 returns : tie.Need-returns
 returns c =
@@ -50,5 +26,5 @@ returns-3 c = turned-skips (c .before .before .before .args .i) (requestOf (c .b
 
 pub turn-spec : {M : Type 1} → statement M
 turn-spec =
-    tie.close (tie.spec mul-to mul-allocate-into sub-allocate-into part-allocate-into-start part-allocate-into-end allocate-into-requires number-requires
-    same-length returns returns-2 returns-3)
+    tie.close (tie.spec (λ c. search needs) (λ c. search needs) (λ c. search needs) (λ c. search needs) (λ c. search needs) (λ c κs. search needs) (λ c κs. search needs)
+    (λ c. search needs) returns returns-2 returns-3)

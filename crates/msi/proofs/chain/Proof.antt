@@ -3,27 +3,6 @@ use borrow.Author.Needs.{needs}
 use Rattle.msi.proofs.chain.Statement.{statement}
 use Rattle.msi.proofs.chain.Tie as tie
 
-enum-known-first : tie.Need-enum-known-first
-enum-known-first c = search needs
-
-enum-known-first-2 : tie.Need-enum-known-first-2
-enum-known-first-2 c = search needs
-
-enum-known-second : tie.Need-enum-known-second
-enum-known-second c = search needs
-
-enum-known-second-2 : tie.Need-enum-known-second-2
-enum-known-second-2 c = search needs
-
-enum-known-third : tie.Need-enum-known-third
-enum-known-third c = search needs
-
-enum-known-third-2 : tie.Need-enum-known-third-2
-enum-known-third-2 c = search needs
-
-with-room-requires : tie.Need-with-room-requires
-with-room-requires c κs = search needs
-
 returns : tie.Need-returns
 returns c = rw (c .before .first .given .1)
 
@@ -38,5 +17,5 @@ returns-4 c = rw (c .with-room .ensures, c .before .before .before .before .befo
 
 pub chain-spec : {M : Type 1} → statement M
 chain-spec =
-    tie.close (tie.spec enum-known-first enum-known-first-2 enum-known-second enum-known-second-2 enum-known-third enum-known-third-2 with-room-requires returns
+    tie.close (tie.spec (λ c. search needs) (λ c. search needs) (λ c. search needs) (λ c. search needs) (λ c. search needs) (λ c. search needs) (λ c κs. search needs) returns
     returns-2 returns-3 returns-4)

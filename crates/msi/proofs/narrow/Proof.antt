@@ -5,9 +5,6 @@ use borrow.Author.Needs.{needs}
 use Rattle.msi.proofs.narrow.Statement.{statement}
 use Rattle.msi.proofs.narrow.Tie as tie
 
-cast-result : tie.Need-cast-result
-cast-result c = search needs
-
 returns : tie.Need-returns
 returns c = rw (lt-ltb (c .before .args .b) 4294967296 (omega arith))
 
@@ -15,4 +12,4 @@ returns-2 : tie.Need-returns-2
 returns-2 c = rw (le-ltb (c .before .args .b) 4294967296 (omega arith))
 
 pub narrow-spec : {M : Type 1} → statement M
-narrow-spec = tie.close (tie.spec cast-result returns returns-2)
+narrow-spec = tie.close (tie.spec (λ c. search needs) returns returns-2)

@@ -16,8 +16,8 @@ use Rattle.decide.specs.declared.Bases.{Bases}
 use Rattle.decide.proofs.Bases as Ba
 use Rattle.decide.proofs.Bases.Laws as Ba′
 use Rattle.walks.proofs.Straight.{first, others, given, set, arg, num, nil}
-use Rattle.lent.proofs.Acts.{Acts}
-use Rattle.lent.proofs.Steps.{local-of, points, sets, acted, leaves-if, gives, gives-within, entering}
+use Rattle.inplace.proofs.Acts.{Acts}
+use Rattle.inplace.proofs.Steps.{local-of, points, sets, acted, leaves-if, gives, gives-within, entering}
 use Rattle.inplace.proofs.resolve as k
 use Rattle.plan.proofs.IntoLaws.{unserved, ready, served}
 use Rattle.plan.proofs.Beside.{Stands, lent-beside, one-meets}

@@ -11,11 +11,11 @@ use Rattle.request.specs.Asked.{requestOf}
 use Rattle.request.specs.declared.Request.{Request}
 use Rattle.request.proofs.Request as R
 use Rattle.request.proofs.Request.Laws as R′
-use Rattle.steps.specs.Steps.{Steady, opened, turned}
-use Rattle.steps.proofs.PlanLaws.{opened-steady}
+use Rattle.plan.specs.Steps.{Steady, opened, turned}
+use Rattle.plan.proofs.PlanLaws.{opened-steady}
 use Rattle.walks.proofs.Straight.{Store, env, first, others, given, set, arg, num, nil}
-use Rattle.lent.proofs.Acts.{Acts, framed}
-use Rattle.lent.proofs.Steps.{Does, part-reads, local-of, points, sets, acted, gives, entering}
+use Rattle.inplace.proofs.Acts.{Acts, framed}
+use Rattle.inplace.proofs.Steps.{Does, part-reads, local-of, points, sets, acted, gives, entering}
 use Rattle.plan.proofs.IntoLaws.{turn-is-into}
 use Rattle.plan.proofs.Held as E
 use Rattle.plan.proofs.Held.{Begin, Turn, valR}

@@ -10,13 +10,13 @@ use Rattle.decide.specs.Kept.{kept}
 use Rattle.decide.specs.declared.Granted.{Granted}
 use Rattle.decide.proofs.Granted as Gr
 use Rattle.decide.proofs.Granted.Laws as Gr′
-use Rattle.steps.specs.Steps.{opened}
+use Rattle.plan.specs.Steps.{opened}
 use Rattle.walks.proofs.Straight.{first, others, arg, nil}
 use Rattle.inplace.proofs.Callees.{made}
 use Rattle.inplace.proofs.keep as r
-use Rattle.lent_sound.proofs.sound as p
-use Rattle.lent.proofs.Acts.{Acts, plainly, told-by}
-use Rattle.lent.proofs.Steps.{points, acted, gives, entering}
+use Rattle.sound.proofs.lent.sound as p
+use Rattle.inplace.proofs.Acts.{Acts, plainly, told-by}
+use Rattle.inplace.proofs.Steps.{points, acted, gives, entering}
 use Rattle.plan.specs.Turns.{Opens, turnsIn, turnsAfter}
 use Rattle.plan.proofs.Beside.{Stands, lent-alone, lent-beside, beside-meets}
 use Rattle.plan.proofs.OpenLaws.{free-none, open-state, open-turns}
@@ -108,7 +108,7 @@ open-spec 𝓤 H 𝓜 𝓖 𝓡 =
     entered 𝓤 H (tripleOf 𝓤 H (𝓖 .A) f.signature (f.spec 𝓤 H (𝓖 .A) (𝓜 .mem) (𝓡 .run)))
     (tables 𝓤 H 𝓜 𝓡 f.Code.env .C) (tables 𝓤 H 𝓜 𝓡 f.Code.env .Λ) f.Key.name f.Code.function (f.Code.unfolded 𝓤 H 𝓜 𝓡)
     (f-meets 𝓤 H (𝓖 .A) (𝓜 .mem) (𝓡 .run) (givenOf 𝓤 H 𝓜 𝓖) (tablesOf 𝓤 H 𝓜 (tables 𝓤 H 𝓜 𝓡 f.Code.env))
-    (cited 𝓤 H (Pp 𝓤 H (𝓖 .A) (𝓜 .mem) (𝓡 .run)) 𝓜 𝓡 f.Code.env p.Symbol.name p.Symbol.routine f.Code.calls-lent-sound·sound (p.Met.met 𝓤 H 𝓜 𝓖 𝓡))
+    (cited 𝓤 H (Pp 𝓤 H (𝓖 .A) (𝓜 .mem) (𝓡 .run)) 𝓜 𝓡 f.Code.env p.Symbol.name p.Symbol.routine f.Code.calls-sound·lent·sound (p.Met.met 𝓤 H 𝓜 𝓖 𝓡))
     (cited 𝓤 H (K 𝓤 H (𝓖 .A) (𝓜 .mem) (𝓡 .run)) 𝓜 𝓡 f.Code.env k.Symbol.name k.Symbol.routine f.Code.calls-plan·opening (k.Met.met 𝓤 H 𝓜 𝓖 𝓡))
     (cited 𝓤 H (Rr 𝓤 H (𝓖 .A) (𝓜 .mem) (𝓡 .run)) 𝓜 𝓡 f.Code.env r.Symbol.name r.Symbol.routine f.Code.calls-inplace·keep (r.Met.met 𝓤 H 𝓜 𝓖 𝓡))
     (cited 𝓤 H (Tt 𝓤 H (𝓖 .A) (𝓜 .mem) (𝓡 .run)) 𝓜 𝓡 f.Code.env t.Symbol.name t.Symbol.routine f.Code.calls-plan·turns (t.Met.met 𝓤 H 𝓜 𝓖 𝓡)))

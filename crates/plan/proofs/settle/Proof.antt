@@ -1,20 +1,20 @@
--- `plan::settle` meets its contract: the state is looked into, and where a request was refused it is given to `lent::restore`. Assumes nothing.
+-- `plan::settle` meets its contract: the state is looked into, and where a request was refused it is given to `inplace::marks::restore`. Assumes nothing.
 use Rattle.walks.proofs.Prelude.{_≡_, refl, ap, _∙_, ℕ, [], _∷_, List, URA, eqb, Local, Val, vunit, vbool, vptr, SProp, ent, emp, id⊢, GName, Lft, Share, Memory, Routine, Heap, WpFn, Tables, Atoms, Fun, factI, givenOf, tables, tablesOf, Given, Item, mean, _$_, _∵_, !, qed, fjoin, done, unit-lit, of-opd, fmOf, Is, bool-tells, nothing-tells, bool, unit, plain, owned, nothing, Meets, tripleOf, Contract, Triple, entered, cited, yes}
 use denote.Struct.Laws as LL
 use Rattle.tables.specs.Views.{stateView}
 use Rattle.tables.specs.declared.State.{State}
 use Rattle.inplace.proofs.Callees.{made}
-use Rattle.lent.specs.Marks.{marksOf, restored}
-use Rattle.lent.specs.declared.Marks.{Marks}
-use Rattle.lent.proofs.Marks as Ma
-use Rattle.lent.proofs.Marks.Laws as Ma′
+use Rattle.inplace.specs.Marks.{marksOf, restored}
+use Rattle.inplace.specs.declared.marks.Marks.{Marks}
+use Rattle.inplace.proofs.marks.Marks as Ma
+use Rattle.inplace.proofs.marks.Marks.Laws as Ma′
 use Rattle.walks.proofs.Straight.{nil, arg, first, others}
-use Rattle.lent.proofs.Acts.{Acts, plainly}
-use Rattle.lent.proofs.Steps.{points, sets, acted, leaves-if, gives, gives-within, entering}
-use Rattle.lent.proofs.peek.Symbol as p-def
-use Rattle.lent.proofs.peek.Symbol.{name as #p}
-use Rattle.lent.proofs.peek.Met as p-thm
-use Rattle.lent.proofs.restore as r
+use Rattle.inplace.proofs.Acts.{Acts, plainly}
+use Rattle.inplace.proofs.Steps.{points, sets, acted, leaves-if, gives, gives-within, entering}
+use Rattle.inplace.proofs.marks.peek.Symbol as p-def
+use Rattle.inplace.proofs.marks.peek.Symbol.{name as #p}
+use Rattle.inplace.proofs.marks.peek.Met as p-thm
+use Rattle.inplace.proofs.marks.restore as r
 use Rattle.plan.specs.Turns.{backTo}
 use Rattle.plan.proofs.BackLaws.{back-quiet, back-cut}
 use Rattle.plan.proofs.Beside.{Stands, lent-beside, one-meets}
@@ -70,6 +70,6 @@ settle-spec 𝓤 H 𝓜 𝓖 𝓡 =
     entered 𝓤 H (tripleOf 𝓤 H (𝓖 .A) f.signature (f.spec 𝓤 H (𝓖 .A) (𝓜 .mem) (𝓡 .run)))
     (tables 𝓤 H 𝓜 𝓡 f.Code.env .C) (tables 𝓤 H 𝓜 𝓡 f.Code.env .Λ) f.Key.name f.Code.function (f.Code.unfolded 𝓤 H 𝓜 𝓡)
     (f-meets 𝓤 H (𝓖 .A) (𝓜 .mem) (𝓡 .run) (givenOf 𝓤 H 𝓜 𝓖) (tablesOf 𝓤 H 𝓜 (tables 𝓤 H 𝓜 𝓡 f.Code.env))
-    (cited 𝓤 H (Peek 𝓤 H (𝓖 .A) (𝓜 .mem) (𝓡 .run)) 𝓜 𝓡 f.Code.env #p p-def.routine f.Code.calls-lent·peek (p-thm.met 𝓤 H 𝓜 𝓖 𝓡))
+    (cited 𝓤 H (Peek 𝓤 H (𝓖 .A) (𝓜 .mem) (𝓡 .run)) 𝓜 𝓡 f.Code.env #p p-def.routine f.Code.calls-inplace·marks·peek (p-thm.met 𝓤 H 𝓜 𝓖 𝓡))
     (cited 𝓤 H (K 𝓤 H (𝓖 .A) (𝓜 .mem) (𝓡 .run)) 𝓜 𝓡 f.Code.env k.Symbol.name k.Symbol.routine f.Code.calls-plan·quiet (k.Met.met 𝓤 H 𝓜 𝓖 𝓡))
-    (cited 𝓤 H (Rr 𝓤 H (𝓖 .A) (𝓜 .mem) (𝓡 .run)) 𝓜 𝓡 f.Code.env r.Symbol.name r.Symbol.routine f.Code.calls-lent·restore (r.Met.met 𝓤 H 𝓜 𝓖 𝓡)))
+    (cited 𝓤 H (Rr 𝓤 H (𝓖 .A) (𝓜 .mem) (𝓡 .run)) 𝓜 𝓡 f.Code.env r.Symbol.name r.Symbol.routine f.Code.calls-inplace·marks·restore (r.Met.met 𝓤 H 𝓜 𝓖 𝓡)))

@@ -1,4 +1,4 @@
--- `plan::turn` meets its contract: the walk of one turn (TurnWalk.antt) at the crate's state, over `steps::goes`, `resolve`, `steps::index` and `steps::write`. Assumes nothing.
+-- `plan::turn` meets its contract: the walk of one turn (TurnWalk.antt) at the crate's state, over `plan::steps::goes`, `resolve`, `plan::steps::index` and `plan::steps::write`. Assumes nothing.
 use Rattle.walks.proofs.Prelude.{_≡_, refl, subst, Bool, ℕ, _<_, _^_, [], _∷_, List, length, URA, fullShare, T as Holds, named, w64, Fn, Val, WT, hasTy, vunit, vint, vptr, SProp, ent, sep, exE, emp, via, snd∗, id⊢, GName, Lft, Share, ftrue, flft, fobs, fbor, fres, Memory, Routine, Heap, Calls, Loops, WpFn, Tables, Atoms, sem, Fun, fact, AllOutlive, givenOf, tables, tablesOf, Given, Item, mean, ⋆, ‵, raw, _⊛_, some, _$_, _∵_, !, qed, by, move, keep, drop, use1, split, join, pick, fsplit, fsplit3, fjoin, fjoin3, feqI, feqL, suffices, frame, show, done, Body, FmC, fmOf, WpFn-mono, owns, Is, mem, uint-vals, uint-tells, uint-makes, u64, usize, RefT, MutRef, ptr-vals, mut-tells, sliceVal, MutSlice, Room, finally, slice-vals, mut-slice-tells, plain, owned, heard, nothing, onEntry, Meets, tripleOf, Contract, Triple, ensured, lasts, entered, cited, says, needs, Stays, stay-ref, stay-none, stay-slice, walkOf, AllGo, goes-none, goes-slice, goes-ref, Walks, ends-at, walked, walk-meets, yes}
 use denote.Struct.Laws as LL
 use Rattle.tables.specs.Views.{stateView}
@@ -12,15 +12,15 @@ use Rattle.request.proofs.Request.Laws as R′
 use Rattle.decide.specs.declared.Bases.{Bases}
 use Rattle.decide.proofs.Bases as B
 use Rattle.decide.proofs.Bases.Laws as B′
-use Rattle.steps.specs.Steps.{Steady}
-use Rattle.steps.proofs.PlanLaws.{room-of}
+use Rattle.plan.specs.Steps.{Steady}
+use Rattle.plan.proofs.PlanLaws.{room-of}
 use Rattle.plan.proofs.StateFields.{numberOffset, indexOffset, withIndex, number-cut, index-cut}
 use Rattle.plan.proofs.TurnLaws.{Went, Ready, Answered, Index, Wrote, Done, ready, left-alone, answered-in-place}
 use Rattle.plan.proofs.TurnWalk.{turnCode, turn-walk}
-use Rattle.steps.proofs.goes as g
+use Rattle.plan.proofs.steps.goes as g
 use Rattle.inplace.proofs.resolve as a
-use Rattle.steps.proofs.index as k
-use Rattle.steps.proofs.write as w
+use Rattle.plan.proofs.steps.index as k
+use Rattle.plan.proofs.steps.write as w
 use Rattle.plan.proofs.turn as f
 
 abbrev Words : Type 0
@@ -190,7 +190,7 @@ turn-spec 𝓤 H 𝓜 𝓖 𝓡 =
     entered 𝓤 H (tripleOf 𝓤 H (𝓖 .A) f.signature (f.spec 𝓤 H (𝓖 .A) (𝓜 .mem) (𝓡 .run)))
     (tables 𝓤 H 𝓜 𝓡 f.Code.env .C) (tables 𝓤 H 𝓜 𝓡 f.Code.env .Λ) f.Key.name f.Code.function (f.Code.unfolded 𝓤 H 𝓜 𝓡)
     (f-meets 𝓤 H (𝓖 .A) (givenOf 𝓤 H 𝓜 𝓖) (𝓜 .mem) (𝓡 .run) (tablesOf 𝓤 H 𝓜 (tables 𝓤 H 𝓜 𝓡 f.Code.env))
-    (cited 𝓤 H (G 𝓤 H (𝓖 .A) (𝓜 .mem) (𝓡 .run)) 𝓜 𝓡 f.Code.env g.Symbol.name g.Symbol.routine f.Code.calls-steps·goes (g.Met.met 𝓤 H 𝓜 𝓖 𝓡))
+    (cited 𝓤 H (G 𝓤 H (𝓖 .A) (𝓜 .mem) (𝓡 .run)) 𝓜 𝓡 f.Code.env g.Symbol.name g.Symbol.routine f.Code.calls-plan·steps·goes (g.Met.met 𝓤 H 𝓜 𝓖 𝓡))
     (cited 𝓤 H (Aa 𝓤 H (𝓖 .A) (𝓜 .mem) (𝓡 .run)) 𝓜 𝓡 f.Code.env a.Symbol.name a.Symbol.routine f.Code.calls-inplace·resolve (a.Met.met 𝓤 H 𝓜 𝓖 𝓡))
-    (cited 𝓤 H (K 𝓤 H (𝓖 .A) (𝓜 .mem) (𝓡 .run)) 𝓜 𝓡 f.Code.env k.Symbol.name k.Symbol.routine f.Code.calls-steps·index (k.Met.met 𝓤 H 𝓜 𝓖 𝓡))
-    (cited 𝓤 H (Ww 𝓤 H (𝓖 .A) (𝓜 .mem) (𝓡 .run)) 𝓜 𝓡 f.Code.env w.Symbol.name w.Symbol.routine f.Code.calls-steps·write (w.Met.met 𝓤 H 𝓜 𝓖 𝓡)))
+    (cited 𝓤 H (K 𝓤 H (𝓖 .A) (𝓜 .mem) (𝓡 .run)) 𝓜 𝓡 f.Code.env k.Symbol.name k.Symbol.routine f.Code.calls-plan·steps·index (k.Met.met 𝓤 H 𝓜 𝓖 𝓡))
+    (cited 𝓤 H (Ww 𝓤 H (𝓖 .A) (𝓜 .mem) (𝓡 .run)) 𝓜 𝓡 f.Code.env w.Symbol.name w.Symbol.routine f.Code.calls-plan·steps·write (w.Met.met 𝓤 H 𝓜 𝓖 𝓡)))

@@ -5,10 +5,6 @@ use borrow.Author.Needs.{needs}
 use Rattle.plan.proofs.turns.Statement.{statement}
 use Rattle.plan.proofs.turns.Tie as tie
 
--- src/lib.rt:50:12
-fits-requires : tie.Need-fits-requires
-fits-requires c κs = search needs
-
 -- src/lib.rt:51:13
 returns : tie.Need-returns
 returns c = turns-all _ _ _ (c .before .before .if1 .taken) (sym (c .before .fits2 .ensures) ∙ c .if2 .taken)
@@ -22,4 +18,4 @@ returns-3 : tie.Need-returns-3
 returns-3 c = turns-unsound _ _ _ (c .if1 .left)
 
 pub turns-spec : {M : Type 1} → statement M
-turns-spec = tie.close (tie.spec fits-requires returns returns-2 returns-3)
+turns-spec = tie.close (tie.spec (λ c κs. search needs) returns returns-2 returns-3)

@@ -19,12 +19,6 @@ returns c =
 slice-aggregate-respond : tie.Need-slice-aggregate-respond
 slice-aggregate-respond c = let s = c .before .before .before .before .before .before in sym (length-take-le (s .args .input .n) (s .args .buf .now) (within _ (s .args .input .n) (s .args .input .last) (s .pre .1 .0)))
 
-respond-requires : tie.Need-respond-requires
-respond-requires c κs = search needs
-
-same-length : tie.Need-same-length
-same-length c = search needs
-
 returns-2 : tie.Need-returns-2
 returns-2 c =
     let s = c .before .before .before .before .before .before .before .before .before .before in
@@ -33,4 +27,4 @@ returns-2 c =
 
 pub printed-spec : {M : Type 1} → statement M
 printed-spec =
-    tie.close (tie.spec returns slice-aggregate-respond respond-requires same-length returns-2)
+    tie.close (tie.spec returns slice-aggregate-respond (λ c κs. search needs) (λ c. search needs) returns-2)

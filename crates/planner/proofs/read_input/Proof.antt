@@ -19,24 +19,6 @@ Inv-loop buf₀ n₀ buf n = (n ≤ length buf) × (length buf ≡ length buf₀
 abbrev μ-loop : tie.MeasureT-loop
 μ-loop buf₀ n₀ buf n = length buf₀ - n
 
-loop-holds : tie.Need-loop-holds Inv-loop μ-loop
-loop-holds c = search needs
-
-sub-read : tie.Need-sub-read Inv-loop μ-loop
-sub-read c = search needs
-
-part-read-start : tie.Need-part-read-start Inv-loop μ-loop
-part-read-start c = search needs
-
-part-read-end : tie.Need-part-read-end Inv-loop μ-loop
-part-read-end c = search needs
-
-read-requires : tie.Need-read-requires Inv-loop μ-loop
-read-requires c κs = search needs
-
-same-length : tie.Need-same-length Inv-loop μ-loop
-same-length c = search needs
-
 returns : tie.Need-returns Inv-loop μ-loop
 returns c =
     let l = c .before .before .before .before .before .before .loop in
@@ -44,21 +26,6 @@ returns c =
     let e = same-len-mid (l .n) (length (l .buf) - l .n) (l .buf) (x .last .1 .0) (x .kept .1 .0) in
     let b : List ℕ = putMid (l .n) (length (l .buf) - l .n) (l .buf) (x .last .1 .0) in
     stops (length b) (l .n) (toZ w64 (ofZ w64 (x .result))) (c .if1 .taken) (omega (arith, e, l .inv .0))
-
-sub-count : tie.Need-sub-count Inv-loop μ-loop
-sub-count c = search needs
-
-part-count-start : tie.Need-part-count-start Inv-loop μ-loop
-part-count-start c = search needs
-
-part-count-end : tie.Need-part-count-end Inv-loop μ-loop
-part-count-end c = search needs
-
-count-requires : tie.Need-count-requires Inv-loop μ-loop
-count-requires c κs = search needs
-
-add-n : tie.Need-add-n Inv-loop μ-loop
-add-n c = search needs
 
 loop-less : tie.Need-loop-less Inv-loop μ-loop
 loop-less c =
@@ -81,31 +48,25 @@ loop-again c =
     let room : length (take (length b - l .n) (drop (l .n) b)) ≡ length (l .buf) - l .n = omega (arith, length-take (length b - l .n) (drop (l .n) b), length-drop (l .n) b, e, l .inv .0) in
     (omega (arith, e, k, room, l .inv .0), e ∙ l .inv .1)
 
-same-length-2 : tie.Need-same-length-2 Inv-loop μ-loop
-same-length-2 c = search needs
-
-returns-2 : tie.Need-returns-2 Inv-loop μ-loop
-returns-2 c = search needs
-
 pub read-input-spec : {M : Type 1} → statement M
 read-input-spec =
     tie.close
     (tie.spec
     Inv-loop
     μ-loop
-    loop-holds
-    sub-read
-    part-read-start
-    part-read-end
-    read-requires
-    same-length
+    (λ c. search needs)
+    (λ c. search needs)
+    (λ c. search needs)
+    (λ c. search needs)
+    (λ c κs. search needs)
+    (λ c. search needs)
     returns
-    sub-count
-    part-count-start
-    part-count-end
-    count-requires
-    add-n
+    (λ c. search needs)
+    (λ c. search needs)
+    (λ c. search needs)
+    (λ c κs. search needs)
+    (λ c. search needs)
     loop-less
     loop-again
-    same-length-2
-    returns-2)
+    (λ c. search needs)
+    (λ c. search needs))

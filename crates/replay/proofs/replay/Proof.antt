@@ -8,8 +8,8 @@ use Rattle.tables.proofs.State.Laws as T′
 use Rattle.replay.specs.Runs.{runs, runsOf, Replayable, Replays}
 use Rattle.replay.proofs.RunLaws.{replays}
 use Rattle.walks.proofs.Straight.{Store, env, first, others, given, set, arg, nil}
-use Rattle.lent.proofs.Acts.{Acts, framed, framed-left}
-use Rattle.lent.proofs.Steps.{Does, part-reads, local-of, sets, acted, gives, entering}
+use Rattle.inplace.proofs.Acts.{Acts, framed, framed-left}
+use Rattle.inplace.proofs.Steps.{Does, part-reads, local-of, sets, acted, gives, entering}
 use Rattle.replay.proofs.Whole.{Stands, Lies, Open, opens-up, closes-up, copies, stores}
 use Rattle.replay.proofs.Lists as Ls
 use Rattle.replay.proofs.Lists.{Loan, word, valOf, Listed, lent-lists}

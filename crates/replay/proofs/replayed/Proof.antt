@@ -13,34 +13,10 @@ use Rattle.replay.proofs.replayed.Tie as tie
 abbrev blank : List ℕ
 blank = replicate mostTaken 0
 
-start-requires : tie.Need-start-requires
-start-requires c κs = search needs
-
-plan-by-value-requires : tie.Need-plan-by-value-requires
-plan-by-value-requires c κs = search needs
-
-same-length : tie.Need-same-length
-same-length c = search needs
-
-same-length-2 : tie.Need-same-length-2
-same-length-2 c = search needs
-
 returns : tie.Need-returns
 returns c =
     let a = c .before .before .before .before .before .before .before .before .before .before .before .before .args in
     stops (a .requests .now) (a .selection .now) (a .results .now) (a .second .now) (a .s) (c .before .before .before .before .before .before .before .start .result) (c .before .before .before .before .plan-by-value .result) _ (c .before .before .before .before .before .before .before .start .ensures) (c .before .before .before .before .plan-by-value .ensures) (c .if1 .taken)
-
-pin-requires : tie.Need-pin-requires
-pin-requires c κs = search needs
-
-slice-aggregate-take : tie.Need-slice-aggregate-take
-slice-aggregate-take c = search needs
-
-take-requires : tie.Need-take-requires
-take-requires c κs = search needs
-
-start-requires-2 : tie.Need-start-requires-2
-start-requires-2 c κs = search needs
 
 array-share-prefix-chosen : tie.Need-array-share-prefix-chosen
 array-share-prefix-chosen c = let k = c .before .before .take in fits-in (c .before .before .before .before .before .before .before .pin .last .0) (c .before .before .before .before .before .before .before .before .before .before .before .before .before .before .before .before .before .before .before .before .before .before .args .selection .now) blank (k .last .1 .1 .0) (k .result) (k .ensures .0) (k .ensures .1)
@@ -50,17 +26,11 @@ slice-aggregate-plan-by-value c =
     let k = c .before .before .before .take in
     sym (length-take-le (k .result) (k .last .1 .1 .0) (fits-in (c .before .before .before .before .before .before .before .before .pin .last .0) (c .before .before .before .before .before .before .before .before .before .before .before .before .before .before .before .before .before .before .before .before .before .before .before .args .selection .now) blank (k .last .1 .1 .0) (k .result) (k .ensures .0) (k .ensures .1)))
 
-plan-by-value-requires-2 : tie.Need-plan-by-value-requires-2
-plan-by-value-requires-2 c κs = search needs
-
 same-length-3 : tie.Need-same-length-3
 same-length-3 c = c .before .before .before .before .before .before .before .before .before .before .before .before .pin .kept .0
 
 same-length-4 : tie.Need-same-length-4
 same-length-4 c = c .before .before .before .before .before .before .before .before .before .before .before .before .before .before .before .before .before .before .before .plan-by-value .kept .1 .1 .0
-
-same-length-5 : tie.Need-same-length-5
-same-length-5 c = search needs
 
 returns-2 : tie.Need-returns-2
 returns-2 c =
@@ -73,5 +43,5 @@ returns-2 c =
 
 pub replayed-spec : {M : Type 1} → statement M
 replayed-spec =
-    tie.close (tie.spec start-requires plan-by-value-requires same-length same-length-2 returns pin-requires slice-aggregate-take take-requires start-requires-2
-    array-share-prefix-chosen slice-aggregate-plan-by-value plan-by-value-requires-2 same-length-3 same-length-4 same-length-5 returns-2)
+    tie.close (tie.spec (λ c κs. search needs) (λ c κs. search needs) (λ c. search needs) (λ c. search needs) returns (λ c κs. search needs) (λ c. search needs) (λ c κs. search needs) (λ c κs. search needs)
+    array-share-prefix-chosen slice-aggregate-plan-by-value (λ c κs. search needs) same-length-3 same-length-4 (λ c. search needs) returns-2)

@@ -4,12 +4,6 @@ use borrow.Author.Needs.{needs}
 use Rattle.request.proofs.good_choice.Statement.{statement}
 use Rattle.request.proofs.good_choice.Tie as tie
 
-enum-told : tie.Need-enum-told
-enum-told c = search needs
-
-enum-known-choice : tie.Need-enum-known-choice
-enum-known-choice c = search needs
-
 returns : tie.Need-returns
 unfolding goodChoice
 returns c = rw (c .enum-told .given .1)
@@ -19,4 +13,4 @@ unfolding goodChoice
 returns-2 c = rw (c .before .choice .given .1)
 
 pub good-choice-spec : {M : Type 1} → statement M
-good-choice-spec = tie.close (tie.spec enum-told enum-known-choice returns returns-2)
+good-choice-spec = tie.close (tie.spec (λ c. search needs) (λ c. search needs) returns returns-2)

@@ -10,12 +10,9 @@ returns : tie.Need-returns
 unfolding goodRequest
 returns c = let r = c .before .before .args .r in rw (le-ltb 0 (r .requester) (omega arith))
 
-good-want-requires : tie.Need-good-want-requires
-good-want-requires c κs = search needs
-
 returns-2 : tie.Need-returns-2
 unfolding goodRequest
 returns-2 c = let r = c .before .before .before .args .r in rw (lt-ltb 0 (r .requester) (omega arith), le-leb (r .requester) 4294967295 (omega arith), le-leb (r .slot) 4294967295 (omega arith)) (c .good-want .ensures)
 
 pub good-request-spec : {M : Type 1} → statement M
-good-request-spec = tie.close (tie.spec returns good-want-requires returns-2)
+good-request-spec = tie.close (tie.spec returns (λ c κs. search needs) returns-2)

@@ -19,19 +19,13 @@ returns-3 : tie.Need-returns-3
 unfolding goodSpan
 returns-3 c = let a = c .before .before .before .args in rw (lt-ltb 0 (a .size) (omega arith), le-leb (a .size) (a .most) (omega arith), lt-leb (a .alignment) (a .most) (omega arith))
 
-one-bit-requires : tie.Need-one-bit-requires
-one-bit-requires c κs = search needs
-
 returns-4 : tie.Need-returns-4
 unfolding goodSpan
 returns-4 c = let a = c .before .before .before .before .before .args in rw (lt-ltb 0 (a .size) (omega arith), le-leb (a .size) (a .most) (omega arith), le-leb (a .alignment) (a .most) (omega arith), sym (c .before .one-bit .ensures) ∙ not-true (c .before .one-bit .result) (c .if4 .taken))
-
-good-choice-requires : tie.Need-good-choice-requires
-good-choice-requires c κs = search needs
 
 returns-5 : tie.Need-returns-5
 unfolding goodSpan
 returns-5 c = let a = c .before .before .before .before .before .before .args in rw (lt-ltb 0 (a .size) (omega arith), le-leb (a .size) (a .most) (omega arith), le-leb (a .alignment) (a .most) (omega arith), sym (c .before .before .one-bit .ensures) ∙ not-false (c .before .before .one-bit .result) (c .before .if4 .left)) (c .good-choice .ensures)
 
 pub good-span-spec : {M : Type 1} → statement M
-good-span-spec = tie.close (tie.spec returns returns-2 returns-3 one-bit-requires returns-4 good-choice-requires returns-5)
+good-span-spec = tie.close (tie.spec returns returns-2 returns-3 (λ c κs. search needs) returns-4 (λ c κs. search needs) returns-5)

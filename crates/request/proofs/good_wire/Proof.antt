@@ -14,12 +14,9 @@ returns-2 : tie.Need-returns-2
 unfolding goodWant
 returns-2 c = let a = c .before .before .args in rw (le-leb (a .controller) 4294967295 (omega arith), le-leb (a .trigger) 3 (omega arith), lt-leb (a .sharing) 1 (omega arith))
 
-good-choice-requires : tie.Need-good-choice-requires
-good-choice-requires c κs = search needs
-
 returns-3 : tie.Need-returns-3
 unfolding goodWant
 returns-3 c = let a = c .before .before .before .args in rw (le-leb (a .controller) 4294967295 (omega arith), le-leb (a .trigger) 3 (omega arith), le-leb (a .sharing) 1 (omega arith)) (c .good-choice .ensures)
 
 pub good-wire-spec : {M : Type 1} → statement M
-good-wire-spec = tie.close (tie.spec returns returns-2 good-choice-requires returns-3)
+good-wire-spec = tie.close (tie.spec returns returns-2 (λ c κs. search needs) returns-3)

@@ -30,17 +30,8 @@ abbrev μ-pools : tie.MeasureT-pools
 pools-holds : tie.Need-pools-holds Inv-bases μ-bases Inv-pools μ-pools
 pools-holds c = (omega arith, λ k h. absurd (omega arith))
 
-mul-lo : tie.Need-mul-lo Inv-bases μ-bases Inv-pools μ-pools
-mul-lo c = omega arith
-
-element-copy-out-lo : tie.Need-element-copy-out-lo Inv-bases μ-bases Inv-pools μ-pools
-element-copy-out-lo c = omega arith
-
 bases-of-requires : tie.Need-bases-of-requires Inv-bases μ-bases Inv-pools μ-pools
 bases-of-requires c κs = let p = c .before .before .before .pre in (omega (arith, p .0 .count), p .2)
-
-align-up-requires : tie.Need-align-up-requires Inv-bases μ-bases Inv-pools μ-pools
-align-up-requires c κs = search needs
 
 bases-holds : tie.Need-bases-holds Inv-bases μ-bases Inv-pools μ-pools
 bases-holds c = let u = c .align-up .ensures in (u .reached, u .aligned, tried-first _ _ _ _ _ _ u)
@@ -49,12 +40,6 @@ next-step-requires : tie.Need-next-step-requires Inv-bases μ-bases Inv-pools μ
 next-step-requires c κs =
     let t = c .bases-test .taken in
     (search needs, search needs, t, c .before .bases .inv .1 t, bases-fit _ _ _ _ (c .before .before .before .bases-of .ensures) t)
-
-enum-told : tie.Need-enum-told Inv-bases μ-bases Inv-pools μ-pools
-enum-told c = search needs
-
-enum-known-step : tie.Need-enum-known-step Inv-bases μ-bases Inv-pools μ-pools
-enum-known-step c = search needs
 
 bases-less : tie.Need-bases-less Inv-bases μ-bases Inv-pools μ-pools
 bases-less c =
@@ -67,12 +52,6 @@ bases-again c =
     let t = c .before .before .before .before .bases-test .taken in
     let v = c .before .before .before .before .before .bases .inv in
     (λ l. omega (arith, v .0 t), h .aligned, tried-more _ _ _ _ _ _ (v .2) (h .tried))
-
-add-i : tie.Need-add-i Inv-bases μ-bases Inv-pools μ-pools
-add-i c = omega arith
-
-pools-less : tie.Need-pools-less Inv-bases μ-bases Inv-pools μ-pools
-pools-less c = omega arith
 
 pools-again : tie.Need-pools-again Inv-bases μ-bases Inv-pools μ-pools
 pools-again c =
@@ -108,5 +87,5 @@ returns-2 c =
 
 pub find-range-spec : {M : Type 1} → statement M
 find-range-spec =
-    tie.close (tie.spec Inv-bases μ-bases Inv-pools μ-pools pools-holds mul-lo element-copy-out-lo bases-of-requires align-up-requires bases-holds
-    next-step-requires enum-told enum-known-step bases-less bases-again add-i pools-less pools-again returns returns-2)
+    tie.close (tie.spec Inv-bases μ-bases Inv-pools μ-pools pools-holds (λ c. omega arith) (λ c. omega arith) bases-of-requires (λ c κs. search needs) bases-holds
+    next-step-requires (λ c. search needs) (λ c. search needs) bases-less bases-again (λ c. omega arith) (λ c. omega arith) pools-again returns returns-2)

@@ -21,61 +21,16 @@ abbrev μ-loop : tie.MeasureT-loop
 loop-holds : tie.Need-loop-holds Inv-loop μ-loop
 loop-holds c = (omega arith, λ k h. absurd (omega arith))
 
-mul-if1 : tie.Need-mul-if1 Inv-loop μ-loop
-mul-if1 c = omega arith
-
-element-copy-out-if1 : tie.Need-element-copy-out-if1 Inv-loop μ-loop
-element-copy-out-if1 c = omega arith
-
-add-i : tie.Need-add-i Inv-loop μ-loop
-add-i c = omega arith
-
-loop-less : tie.Need-loop-less Inv-loop μ-loop
-loop-less c = omega arith
-
 loop-again : tie.Need-loop-again Inv-loop μ-loop
 loop-again c = (omega arith, below-more _ _ (c .before .before .before .loop .inv .1) (begins-later _ _ _ (c .if1 .taken)))
 
-mul-if2 : tie.Need-mul-if2 Inv-loop μ-loop
-mul-if2 c = omega arith
-
-element-copy-out-if2 : tie.Need-element-copy-out-if2 Inv-loop μ-loop
-element-copy-out-if2 c = omega arith
-
-add-i-2 : tie.Need-add-i-2 Inv-loop μ-loop
-add-i-2 c = omega arith
-
-loop-less-2 : tie.Need-loop-less-2 Inv-loop μ-loop
-loop-less-2 c = omega arith
-
 loop-again-2 : tie.Need-loop-again-2 Inv-loop μ-loop
 loop-again-2 c = (omega arith, below-more _ _ (c .before .before .before .before .before .loop .inv .1) (ends-before _ _ _ (omega arith)))
-
-mul-same-domain : tie.Need-mul-same-domain Inv-loop μ-loop
-mul-same-domain c = omega arith
-
-element-copy-out-same-domain : tie.Need-element-copy-out-same-domain Inv-loop μ-loop
-element-copy-out-same-domain c = omega arith
-
-mul-same-domain-2 : tie.Need-mul-same-domain-2 Inv-loop μ-loop
-mul-same-domain-2 c = omega arith
-
-element-copy-out-same-domain-2 : tie.Need-element-copy-out-same-domain-2 Inv-loop μ-loop
-element-copy-out-same-domain-2 c = omega arith
-
-same-domain-requires : tie.Need-same-domain-requires Inv-loop μ-loop
-same-domain-requires c κs = search needs
 
 returns : tie.Need-returns Inv-loop μ-loop
 returns c =
     let a = c .before .before .before .before .before .before .before .before .before .before .args in
     some-row (pool (a .pn) (a .pc .now) (a .pi .now) (a .ps .now) (a .pe .now)) _ (omega arith) _ (omega arith) (held _ _ _ (sym (c .before .same-domain .ensures) ∙ c .if3 .taken) (omega arith) (omega arith))
-
-add-i-3 : tie.Need-add-i-3 Inv-loop μ-loop
-add-i-3 c = omega arith
-
-loop-less-3 : tie.Need-loop-less-3 Inv-loop μ-loop
-loop-less-3 c = omega arith
 
 loop-again-3 : tie.Need-loop-again-3 Inv-loop μ-loop
 loop-again-3 c = (omega arith, below-more _ _ (c .before .before .before .before .before .before .before .before .before .loop .inv .1) (other-domain _ _ _ (sym (c .before .same-domain .ensures) ∙ c .if3 .left)))
@@ -87,6 +42,6 @@ returns-2 c =
 
 pub held-by-one-spec : {M : Type 1} → statement M
 held-by-one-spec =
-    tie.close (tie.spec Inv-loop μ-loop loop-holds mul-if1 element-copy-out-if1 add-i loop-less loop-again mul-if2 element-copy-out-if2 add-i-2 loop-less-2
-    loop-again-2 mul-same-domain element-copy-out-same-domain mul-same-domain-2 element-copy-out-same-domain-2 same-domain-requires returns add-i-3 loop-less-3
+    tie.close (tie.spec Inv-loop μ-loop loop-holds (λ c. omega arith) (λ c. omega arith) (λ c. omega arith) (λ c. omega arith) loop-again (λ c. omega arith) (λ c. omega arith) (λ c. omega arith) (λ c. omega arith)
+    loop-again-2 (λ c. omega arith) (λ c. omega arith) (λ c. omega arith) (λ c. omega arith) (λ c κs. search needs) returns (λ c. omega arith) (λ c. omega arith)
     loop-again-3 returns-2)

@@ -25,12 +25,6 @@ past-row-requires c κs = let h = c .before .loop .inv .1 .below in (omega arith
 returns : tie.Need-returns Inv-loop μ-loop
 returns c = pass-stop _ _ _ _ _ _ _ _ (c .before .before .loop-test .taken) (c .before .before .before .loop .inv .1) (c .before .past-row .ensures) (c .if1 .taken)
 
-add-i : tie.Need-add-i Inv-loop μ-loop
-add-i c = omega arith
-
-loop-less : tie.Need-loop-less Inv-loop μ-loop
-loop-less c = omega arith
-
 loop-again : tie.Need-loop-again Inv-loop μ-loop
 loop-again c = (omega arith, pass-on _ _ _ _ _ _ _ _ (c .before .before .loop-test .taken) (c .before .before .before .loop .inv .1) (c .before .past-row .ensures) (omega arith))
 
@@ -41,4 +35,4 @@ returns-3 : tie.Need-returns-3 Inv-loop μ-loop
 returns-3 c = let e : c .before .before .loop .i ≡ c .before .before .before .args .n = omega arith in pass-to _ _ _ _ _ _ (rw e at (c .before .before .loop .inv .1)) (c .if2 .left)
 
 pub next-step-spec : {M : Type 1} → statement M
-next-step-spec = tie.close (tie.spec Inv-loop μ-loop loop-holds past-row-requires returns add-i loop-less loop-again returns-2 returns-3)
+next-step-spec = tie.close (tie.spec Inv-loop μ-loop loop-holds past-row-requires returns (λ c. omega arith) (λ c. omega arith) loop-again returns-2 returns-3)

@@ -5,14 +5,8 @@ use borrow.Author.Needs.{needs}
 use Rattle.search.proofs.range_allowed.Statement.{statement}
 use Rattle.search.proofs.range_allowed.Tie as tie
 
-rem-if1 : tie.Need-rem-if1
-rem-if1 c = search needs
-
 returns : tie.Need-returns
 returns c = askew _ _ _ (c .if1 .taken)
-
-limit-requires : tie.Need-limit-requires
-limit-requires c κs = search needs
 
 returns-2 : tie.Need-returns-2
 returns-2 c = high _ _ _ (omega arith)
@@ -20,14 +14,8 @@ returns-2 c = high _ _ _ (omega arith)
 returns-3 : tie.Need-returns-3
 returns-3 c = high _ _ _ (omega arith)
 
-add-e : tie.Need-add-e
-add-e c = search needs
-
-held-by-one-requires : tie.Need-held-by-one-requires
-held-by-one-requires c κs = search needs
-
 returns-4 : tie.Need-returns-4
 returns-4 c = by-pool _ _ _ _ (omega arith) (omega arith) (c .held-by-one .ensures)
 
 pub range-allowed-spec : {M : Type 1} → statement M
-range-allowed-spec = tie.close (tie.spec rem-if1 returns limit-requires returns-2 returns-3 add-e held-by-one-requires returns-4)
+range-allowed-spec = tie.close (tie.spec (λ c. search needs) returns (λ c κs. search needs) returns-2 returns-3 (λ c. search needs) (λ c κs. search needs) returns-4)

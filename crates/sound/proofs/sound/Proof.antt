@@ -27,68 +27,29 @@ device-passed c = sym (rw (c .before .before .device-limits .ensures) at (c .bef
 event-passed : (c : tie.Else6) → setOf (c .before .before .before .before .before .before .before .before .before .before .before .before .before .before .before .before .before .args .s) event ≡ true
 event-passed c = sym (rw (c .before .before .event-limits .ensures) at (c .before .ranges-set5 .ensures)) ∙ not-false (c .before .ranges-set5 .result) (c .if6 .left)
 
-mmio-limits-requires : tie.Need-mmio-limits-requires
-mmio-limits-requires c κs = search needs
-
-ranges-set-requires : tie.Need-ranges-set-requires
-ranges-set-requires c κs = search needs
-
 returns : tie.Need-returns
 returns c = sym (sound-is (c .before .before .before .args .s) ∙ rw (sym (rw (c .before .before .mmio-limits .ensures) at (c .before .ranges-set .ensures)) ∙ not-true (c .before .ranges-set .result) (c .if1 .taken)))
-
-pio-limits-requires : tie.Need-pio-limits-requires
-pio-limits-requires c κs = search needs
-
-ranges-set-requires-2 : tie.Need-ranges-set-requires-2
-ranges-set-requires-2 c κs = search needs
 
 returns-2 : tie.Need-returns-2
 returns-2 c = sym (sound-is (c .before .before .before .before .before .before .args .s) ∙ rw (mmio-passed (c .before .before .before), sym (rw (c .before .before .pio-limits .ensures) at (c .before .ranges-set2 .ensures)) ∙ not-true (c .before .ranges-set2 .result) (c .if2 .taken)))
 
-wires-set-requires : tie.Need-wires-set-requires
-wires-set-requires c κs = search needs
-
 returns-3 : tie.Need-returns-3
 returns-3 c = sym (sound-is (c .before .before .before .before .before .before .before .before .args .s) ∙ rw (mmio-passed (c .before .before .before .before .before), pio-passed (c .before .before), sym (c .before .wires-set .ensures) ∙ not-true (c .before .wires-set .result) (c .if3 .taken)))
-
-host-limits-requires : tie.Need-host-limits-requires
-host-limits-requires c κs = search needs
-
-ranges-set-requires-3 : tie.Need-ranges-set-requires-3
-ranges-set-requires-3 c κs = search needs
 
 returns-4 : tie.Need-returns-4
 returns-4 c = sym (sound-is (c .before .before .before .before .before .before .before .before .before .before .before .args .s) ∙ rw (mmio-passed (c .before .before .before .before .before .before .before .before), pio-passed (c .before .before .before .before .before), input-passed (c .before .before .before), sym (rw (c .before .before .host-limits .ensures) at (c .before .ranges-set3 .ensures)) ∙ not-true (c .before .ranges-set3 .result) (c .if4 .taken)))
 
-device-limits-requires : tie.Need-device-limits-requires
-device-limits-requires c κs = search needs
-
-ranges-set-requires-4 : tie.Need-ranges-set-requires-4
-ranges-set-requires-4 c κs = search needs
-
 returns-5 : tie.Need-returns-5
 returns-5 c = sym (sound-is (c .before .before .before .before .before .before .before .before .before .before .before .before .before .before .args .s) ∙ rw (mmio-passed (c .before .before .before .before .before .before .before .before .before .before .before), pio-passed (c .before .before .before .before .before .before .before .before), input-passed (c .before .before .before .before .before .before), host-passed (c .before .before .before), sym (rw (c .before .before .device-limits .ensures) at (c .before .ranges-set4 .ensures)) ∙ not-true (c .before .ranges-set4 .result) (c .if5 .taken)))
 
-event-limits-requires : tie.Need-event-limits-requires
-event-limits-requires c κs = search needs
-
-ranges-set-requires-5 : tie.Need-ranges-set-requires-5
-ranges-set-requires-5 c κs = search needs
-
 returns-6 : tie.Need-returns-6
 returns-6 c = sym (sound-is (c .before .before .before .before .before .before .before .before .before .before .before .before .before .before .before .before .before .args .s) ∙ rw (mmio-passed (c .before .before .before .before .before .before .before .before .before .before .before .before .before .before), pio-passed (c .before .before .before .before .before .before .before .before .before .before .before), input-passed (c .before .before .before .before .before .before .before .before .before), host-passed (c .before .before .before .before .before .before), device-passed (c .before .before .before), sym (rw (c .before .before .event-limits .ensures) at (c .before .ranges-set5 .ensures)) ∙ not-true (c .before .ranges-set5 .result) (c .if6 .taken)))
-
-lpi-limits-requires : tie.Need-lpi-limits-requires
-lpi-limits-requires c κs = search needs
-
-ranges-set-requires-6 : tie.Need-ranges-set-requires-6
-ranges-set-requires-6 c κs = search needs
 
 returns-7 : tie.Need-returns-7
 returns-7 c = rw (c .before .lpi-limits .ensures) at (c .ranges-set6 .ensures) ∙ sym (sound-is (c .before .before .before .before .before .before .before .before .before .before .before .before .before .before .before .before .before .before .before .args .s) ∙ rw (mmio-passed (c .before .before .before .before .before .before .before .before .before .before .before .before .before .before .before .before), pio-passed (c .before .before .before .before .before .before .before .before .before .before .before .before .before), input-passed (c .before .before .before .before .before .before .before .before .before .before .before), host-passed (c .before .before .before .before .before .before .before .before), device-passed (c .before .before .before .before .before), event-passed (c .before .before)))
 
 pub sound-spec : {M : Type 1} → statement M
 sound-spec =
-    tie.close (tie.spec mmio-limits-requires ranges-set-requires returns pio-limits-requires ranges-set-requires-2 returns-2 wires-set-requires returns-3
-    host-limits-requires ranges-set-requires-3 returns-4 device-limits-requires ranges-set-requires-4 returns-5 event-limits-requires ranges-set-requires-5
-    returns-6 lpi-limits-requires ranges-set-requires-6 returns-7)
+    tie.close (tie.spec (λ c κs. search needs) (λ c κs. search needs) returns (λ c κs. search needs) (λ c κs. search needs) returns-2 (λ c κs. search needs) returns-3
+    (λ c κs. search needs) (λ c κs. search needs) returns-4 (λ c κs. search needs) (λ c κs. search needs) returns-5 (λ c κs. search needs) (λ c κs. search needs)
+    returns-6 (λ c κs. search needs) (λ c κs. search needs) returns-7)

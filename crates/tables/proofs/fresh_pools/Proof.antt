@@ -3,11 +3,8 @@ use borrow.Author.Needs.{needs}
 use Rattle.tables.proofs.fresh_pools.Statement.{statement}
 use Rattle.tables.proofs.fresh_pools.Tie as tie
 
-fresh-pool-requires : tie.Need-fresh-pool-requires
-fresh-pool-requires c κs = search needs
-
 returns : tie.Need-returns
 returns c = rw (c .fresh-pool .ensures)
 
 pub fresh-pools-spec : {M : Type 1} → statement M
-fresh-pools-spec = tie.close (tie.spec fresh-pool-requires returns)
+fresh-pools-spec = tie.close (tie.spec (λ c κs. search needs) returns)

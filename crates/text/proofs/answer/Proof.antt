@@ -15,9 +15,6 @@ put-no-requires c κs =
     let a = c .before .before .before .before .before .args in
     omega (arith, ap length (answered-refused (a .t) (a .results .now) (c .before .if1 .taken)))
 
-same-length : tie.Need-same-length
-same-length c = search needs
-
 returns : tie.Need-returns
 returns c =
     let a = c .before .before .before .before .before .before .before .before .args in
@@ -37,9 +34,6 @@ put-end-requires c κs =
     let e = answered-whole (a .t) (a .results .now) (c .before .before .before .before .before .if1 .left) in
     omega (arith, p .0, ap length e, length-append g (endLine (a .t .wants)), put-length (a .out .now) 0 g (c .before .before .before .put-gots .result) (c .before .before .before .put-gots .last .0) p)
 
-same-length-2 : tie.Need-same-length-2
-same-length-2 c = search needs
-
 returns-2 : tie.Need-returns-2
 returns-2 c =
     let a = c .before .before .before .before .before .before .before .before .before .before .before .before .args in
@@ -50,4 +44,4 @@ returns-2 c =
 
 pub answer-spec : {M : Type 1} → statement M
 answer-spec =
-    tie.close (tie.spec put-no-requires same-length returns put-gots-requires put-end-requires same-length-2 returns-2)
+    tie.close (tie.spec put-no-requires (λ c. search needs) returns put-gots-requires put-end-requires (λ c. search needs) returns-2)

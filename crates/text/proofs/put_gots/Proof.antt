@@ -21,21 +21,6 @@ abbrev μ-loop : tie.MeasureT-loop
 loop-holds : tie.Need-loop-holds Inv-loop μ-loop
 loop-holds c = let a = c .before .before .args in (omega arith, gots-none (a .out .now) (a .results .now))
 
-mul-from : tie.Need-mul-from Inv-loop μ-loop
-mul-from c = omega arith
-
-mul-put-got : tie.Need-mul-put-got Inv-loop μ-loop
-mul-put-got c = omega arith
-
-sub-put-got : tie.Need-sub-put-got Inv-loop μ-loop
-sub-put-got c = omega arith
-
-part-put-got-start : tie.Need-part-put-got-start Inv-loop μ-loop
-part-put-got-start c = search needs
-
-part-put-got-end : tie.Need-part-put-got-end Inv-loop μ-loop
-part-put-got-end c = search needs
-
 put-got-requires : tie.Need-put-got-requires Inv-loop μ-loop
 put-got-requires c κs =
     let a = c .before .before .before .before .before .before .args in
@@ -45,12 +30,6 @@ put-got-requires c κs =
       omega (arith, length-drop (recordSize * l .i) (a .results .now)),
       omega (arith, p .0, gots-room (a .n) (l .i) (a .results .now) (omega arith), put-length (a .out .now) 0 (gotLines (l .i) (a .results .now)) (l .e) (l .out) p),
     )
-
-add-i : tie.Need-add-i Inv-loop μ-loop
-add-i c = omega arith
-
-loop-less : tie.Need-loop-less Inv-loop μ-loop
-loop-less c = omega arith
 
 loop-again : tie.Need-loop-again Inv-loop μ-loop
 loop-again c =
@@ -73,5 +52,5 @@ returns c =
 
 pub put-gots-spec : {M : Type 1} → statement M
 put-gots-spec =
-    tie.close (tie.spec Inv-loop μ-loop loop-holds mul-from mul-put-got sub-put-got part-put-got-start part-put-got-end put-got-requires add-i loop-less
+    tie.close (tie.spec Inv-loop μ-loop loop-holds (λ c. omega arith) (λ c. omega arith) (λ c. omega arith) (λ c. search needs) (λ c. search needs) put-got-requires (λ c. omega arith) (λ c. omega arith)
     loop-again same-length returns)

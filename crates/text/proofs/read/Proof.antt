@@ -1,4 +1,4 @@
--- `text::read` meets its contract: the walk of ReadWalk.antt at the crate's state, over `tables::fresh` and `feed::feed`. Assumes nothing.
+-- `text::read` meets its contract: the walk of ReadWalk.antt at the crate's state, over `tables::fresh` and `text::feed::feed`. Assumes nothing.
 use Rattle.walks.proofs.Prelude.{_≡_, refl, sym, ap, subst, _∙_, ℕ, [], _∷_, List, length, URA, fullShare, T as Holds, named, Fn, Val, WT, hasTy, vptr, SProp, ent, via, exE, snd∗, id⊢, Fml, GName, Lft, Share, ftrue, flft, fres, Memory, Routine, Heap, Calls, Loops, WpFn, Tables, Atoms, sem, Fun, fact, AllOutlive, givenOf, tables, tablesOf, Given, Item, mean, ⋆, ‵, raw, _⊛_, some, _$_, _∵_, !, qed, by, move, keep, drop, use1, split, join, pick, fsplit, fjoin, feqL, suffices, frame, show, done, FmC, fmOf, WpFn-mono, owns, Is, u64, RefT, MutRef, sliceVal, ShrSlice, MutSlice, Room, finally, slice-vals, shr-slice-tells, shr-slice-lawful, shr-slice-copy, mut-slice-tells, plain, owned, heard, nothing, onEntry, Meets, tripleOf, Contract, Triple, ensured, lasts, entered, cited, says, needs, Stays, stay-none-slice, gave-slice, walkOf, AllGo, goes-none-slice, goes-gave-slice, Walks, ends-at, walked, walk-meets, yes}
 use denote.Builtin.{u8}
 use denote.Struct.Laws as LL
@@ -11,15 +11,15 @@ use Rattle.tables.specs.declared.State.{State}
 use Rattle.tables.proofs.FreshLaws.{fresh-view}
 use Rattle.tables.proofs.State as T
 use Rattle.tables.proofs.State.Laws as T′
-use Rattle.feed.specs.Step.{resultsSize, Fed}
-use Rattle.feed.specs.declared.sofar.Sofar.{Sofar}
-use Rattle.feed.proofs.sofar.Sofar as So
-use Rattle.feed.proofs.sofar.Sofar.Laws as So′
-use Rattle.feed.proofs.Values.{sofar-typed}
+use Rattle.text.specs.Step.{resultsSize, Fed}
+use Rattle.text.specs.declared.feed.sofar.Sofar.{Sofar}
+use Rattle.text.proofs.feed.sofar.Sofar as So
+use Rattle.text.proofs.feed.sofar.Sofar.Laws as So′
+use Rattle.text.proofs.Values.{sofar-typed}
 use Rattle.text.proofs.OutputLaws.{tables-are}
 use Rattle.text.proofs.ReadWalk.{readCode, read-walk}
 use Rattle.tables.proofs.fresh as m
-use Rattle.feed.proofs.feed as g
+use Rattle.text.proofs.feed.feed as g
 use Rattle.text.proofs.read as f
 
 abbrev Words : Type 0
@@ -164,4 +164,4 @@ read-spec 𝓤 H 𝓜 𝓖 𝓡 =
     (tables 𝓤 H 𝓜 𝓡 f.Code.env .C) (tables 𝓤 H 𝓜 𝓡 f.Code.env .Λ) f.Key.name f.Code.function (f.Code.unfolded 𝓤 H 𝓜 𝓡)
     (f-meets 𝓤 H (𝓖 .A) (givenOf 𝓤 H 𝓜 𝓖) (𝓜 .mem) (𝓡 .run) (tablesOf 𝓤 H 𝓜 (tables 𝓤 H 𝓜 𝓡 f.Code.env))
     (cited 𝓤 H (Mm 𝓤 H (𝓖 .A) (𝓜 .mem) (𝓡 .run)) 𝓜 𝓡 f.Code.env m.Symbol.name m.Symbol.routine f.Code.calls-tables·fresh (m.Met.met 𝓤 H 𝓜 𝓖 𝓡))
-    (cited 𝓤 H (G 𝓤 H (𝓖 .A) (𝓜 .mem) (𝓡 .run)) 𝓜 𝓡 f.Code.env g.Symbol.name g.Symbol.routine f.Code.calls-feed·feed (g.Met.met 𝓤 H 𝓜 𝓖 𝓡)))
+    (cited 𝓤 H (G 𝓤 H (𝓖 .A) (𝓜 .mem) (𝓡 .run)) 𝓜 𝓡 f.Code.env g.Symbol.name g.Symbol.routine f.Code.calls-text·feed·feed (g.Met.met 𝓤 H 𝓜 𝓖 𝓡)))

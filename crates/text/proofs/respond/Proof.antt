@@ -3,7 +3,7 @@ use native.Mathlib.Omega.{arith}
 use mathlib.Core.Path.{_≡_, ap}
 use lib.ListN.{length}
 use Rattle.lines.proofs.Longest.{output-length}
-use Rattle.feed.specs.Step.{resultsSize}
+use Rattle.text.specs.Step.{resultsSize}
 use Rattle.text.specs.Respond.{tablesAfter}
 use Rattle.text.proofs.OutputLaws.{output-long, records-inside, output-is, blank, reply-put, reply-short}
 use borrow.Author.Needs.{needs}
@@ -18,23 +18,11 @@ put-no-requires c κs =
     let a = c .before .before .before .before .before .args in
     omega (arith, ap length (output-long (a .text .now) (omega arith)), output-length (a .text .now))
 
-same-length : tie.Need-same-length
-same-length c = search needs
-
 returns-2 : tie.Need-returns-2
 returns-2 c =
     let a = c .before .before .before .before .before .before .before .before .args in
     reply-put (a .text .now) (a .out .now) (c .before .before .put-no .result) (c .before .before .put-no .last .0) (omega arith)
     (rw (output-long (a .text .now) (omega arith)) (c .before .before .put-no .ensures))
-
-slice-aggregate-read : tie.Need-slice-aggregate-read
-slice-aggregate-read c = search needs
-
-read-requires : tie.Need-read-requires
-read-requires c κs = search needs
-
-slice-aggregate-answer : tie.Need-slice-aggregate-answer
-slice-aggregate-answer c = search needs
 
 answer-requires : tie.Need-answer-requires
 answer-requires c κs =
@@ -44,9 +32,6 @@ answer-requires c κs =
       records-inside (a .text .now) blank (r .result) (tablesAfter (a .text .now)) (r .last .1 .0) (r .ensures) long,
       omega (arith, ap length (output-is (a .text .now) blank (r .result) (tablesAfter (a .text .now)) (r .last .1 .0) (r .ensures) long (omega arith)), output-length (a .text .now)),
     )
-
-same-length-2 : tie.Need-same-length-2
-same-length-2 c = search needs
 
 returns-3 : tie.Need-returns-3
 returns-3 c =
@@ -58,5 +43,5 @@ returns-3 c =
 
 pub respond-spec : {M : Type 1} → statement M
 respond-spec =
-    tie.close (tie.spec returns put-no-requires same-length returns-2 slice-aggregate-read read-requires slice-aggregate-answer answer-requires same-length-2
+    tie.close (tie.spec returns put-no-requires (λ c. search needs) returns-2 (λ c. search needs) (λ c κs. search needs) (λ c. search needs) answer-requires (λ c. search needs)
     returns-3)

@@ -6,18 +6,6 @@ use borrow.Author.Needs.{needs}
 use Rattle.choose.proofs.range.automatic.Statement.{statement}
 use Rattle.choose.proofs.range.automatic.Tie as tie
 
-find-range-requires : tie.Need-find-range-requires
-find-range-requires c κs = search needs
-
-enum-told : tie.Need-enum-told
-enum-told c = search needs
-
-namespace-requires : tie.Need-namespace-requires
-namespace-requires c κs = search needs
-
-enum-known-found : tie.Need-enum-known-found
-enum-known-found c = search needs
-
 add-e : tie.Need-add-e
 add-e c =
     let h = rw (c .before .before .found .given .1) at (c .before .before .before .before .find-range .ensures .ends) in
@@ -31,4 +19,4 @@ unfolding rowAt
 returns-2 c = λ fs o. auto-some _ fs _ _ _ (rw (c .before .before .found .given .1) at (c .before .before .before .before .find-range .ensures .is o))
 
 pub automatic-spec : {M : Type 1} → statement M
-automatic-spec = tie.close (tie.spec find-range-requires enum-told namespace-requires enum-known-found add-e returns returns-2)
+automatic-spec = tie.close (tie.spec (λ c κs. search needs) (λ c. search needs) (λ c κs. search needs) (λ c. search needs) add-e returns returns-2)

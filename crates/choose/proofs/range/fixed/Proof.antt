@@ -13,20 +13,8 @@ use borrow.Author.Needs.{needs}
 use Rattle.choose.proofs.range.fixed.Statement.{statement}
 use Rattle.choose.proofs.range.fixed.Tie as tie
 
-namespace-requires : tie.Need-namespace-requires
-namespace-requires c κs = search needs
-
-range-allowed-requires : tie.Need-range-allowed-requires
-range-allowed-requires c κs = search needs
-
 add-e : tie.Need-add-e
 add-e c = omega (arith, allowed-high _ _ _ (sym (c .before .before .range-allowed .ensures) ∙ c .before .if1 .taken), top-fits (c .before .before .before .before .args .need .kind))
-
-first-overlap-requires : tie.Need-first-overlap-requires
-first-overlap-requires c κs = search needs
-
-enum-told : tie.Need-enum-told
-enum-told c = search needs
 
 returns : tie.Need-returns
 unfolding rowAt meets
@@ -34,9 +22,6 @@ returns c =
     let a = c .before .before .before .before .before .before .before .args in
     λ ps. fixed-clear ps _ _ _ _ (sym (c .before .before .before .before .if1 .taken) ∙ c .before .before .before .before .before .range-allowed .ensures)
     (range-obstacle (ranges (a .on) (a .oc .now) (a .oi .now) (a .od .now) (a .os .now) (a .oe .now) (a .ow .now)) (a .need) (a .b) _ (omega arith) (sym (c .enum-told .given .1) ∙ c .before .before .first-overlap .ensures))
-
-enum-known-hit : tie.Need-enum-known-hit
-enum-known-hit c = search needs
 
 mul-owner : tie.Need-mul-owner
 mul-owner c =
@@ -47,9 +32,6 @@ element-copy-out-owner : tie.Need-element-copy-out-owner
 element-copy-out-owner c =
     let h = rw (c .before .hit .given .1) at (first-tells _ _ _ (c .before .before .before .first-overlap .ensures)) in
     omega arith
-
-detail-requires : tie.Need-detail-requires
-detail-requires c κs = search needs
 
 returns-2 : tie.Need-returns-2
 unfolding meets rowAt
@@ -63,5 +45,5 @@ returns-3 c = λ ps. fixed-outside ps _ _ _ _ _ (c .before .before .namespace .e
 
 pub fixed-spec : {M : Type 1} → statement M
 fixed-spec =
-    tie.close (tie.spec namespace-requires range-allowed-requires add-e first-overlap-requires enum-told returns enum-known-hit mul-owner element-copy-out-owner
-    detail-requires returns-2 returns-3)
+    tie.close (tie.spec (λ c κs. search needs) (λ c κs. search needs) add-e (λ c κs. search needs) (λ c. search needs) returns (λ c. search needs) mul-owner element-copy-out-owner
+    (λ c κs. search needs) returns-2 returns-3)

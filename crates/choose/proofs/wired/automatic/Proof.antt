@@ -8,15 +8,6 @@ use borrow.Author.Needs.{needs}
 use Rattle.choose.proofs.wired.automatic.Statement.{statement}
 use Rattle.choose.proofs.wired.automatic.Tie as tie
 
-find-input-requires : tie.Need-find-input-requires
-find-input-requires c κs = search needs
-
-enum-told : tie.Need-enum-told
-enum-told c = search needs
-
-enum-known-found : tie.Need-enum-known-found
-enum-known-found c = search needs
-
 add-e : tie.Need-add-e
 add-e c =
     let h = rw (c .before .found .given .1) at (c .before .before .before .find-input .ensures .ends) in
@@ -31,4 +22,4 @@ returns-2 c = λ fs t s o. auto-some _ fs _ _ _ (rw (c .before .found .given .1)
 
 pub automatic-spec : {M : Type 1} → statement M
 automatic-spec =
-    tie.close (tie.spec find-input-requires enum-told enum-known-found add-e returns returns-2)
+    tie.close (tie.spec (λ c κs. search needs) (λ c. search needs) (λ c. search needs) add-e returns returns-2)

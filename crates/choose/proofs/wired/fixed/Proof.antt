@@ -14,9 +14,6 @@ use borrow.Author.Needs.{needs}
 use Rattle.choose.proofs.wired.fixed.Statement.{statement}
 use Rattle.choose.proofs.wired.fixed.Tie as tie
 
-one-input-requires : tie.Need-one-input-requires
-one-input-requires c κs = search needs
-
 range-allowed-requires : tie.Need-range-allowed-requires
 range-allowed-requires c κs = (search needs, rw (c .one-input .ensures) (omega arith))
 
@@ -24,15 +21,6 @@ add-e : tie.Need-add-e
 add-e c =
     let h = rw (c .before .before .one-input .ensures) at (c .before .range-allowed .ensures) in
     omega (arith, allowed-high _ _ _ (sym h ∙ c .if1 .taken))
-
-first-on-requires : tie.Need-first-on-requires
-first-on-requires c κs = search needs
-
-enum-known-hit : tie.Need-enum-known-hit
-enum-known-hit c = search needs
-
-enum-told : tie.Need-enum-told
-enum-told c = search needs
 
 returns : tie.Need-returns
 unfolding rowAt meets
@@ -46,12 +34,6 @@ wire-at-requires c κs =
     let h = rw (c .before .hit .given .1) at (first-tells _ _ _ (c .before .before .before .first-on .ensures)) in
     omega arith
 
-validate-sharing-requires : tie.Need-validate-sharing-requires
-validate-sharing-requires c κs = search needs
-
-enum-told-2 : tie.Need-enum-told-2
-enum-told-2 c = search needs
-
 returns-2 : tie.Need-returns-2
 unfolding rowAt meets
 returns-2 c =
@@ -59,9 +41,6 @@ returns-2 c =
     let v = rw (c .before .before .before .wire-at .ensures) at (rw (c .enum-told2 .given .1) at (c .before .before .validate-sharing .ensures (a .b))) in
     λ ps. fixed-clear ps _ _ _ _ (sym (c .before .before .before .before .before .before .before .before .if1 .taken) ∙ (rw (c .before .before .before .before .before .before .before .before .before .before .one-input .ensures) at (c .before .before .before .before .before .before .before .before .before .range-allowed .ensures)) ∙ input-allowed _ _ _ _ _ _)
     (input-joined (wires (a .on) (a .oc .now) (a .ox .now) (a .ot .now) (a .oh .now) (a .ow .now)) (a .wire) (a .b) (omega arith) _ (sym (c .before .before .before .before .before .hit .given .1) ∙ c .before .before .before .before .before .before .before .first-on .ensures) v)
-
-enum-known-judged : tie.Need-enum-known-judged
-enum-known-judged c = search needs
 
 returns-3 : tie.Need-returns-3
 unfolding meets
@@ -77,5 +56,5 @@ returns-4 c = λ ps. fixed-outside ps _ _ _ _ 3 refl (sym (c .if1 .left) ∙ (rw
 
 pub fixed-spec : {M : Type 1} → statement M
 fixed-spec =
-    tie.close (tie.spec one-input-requires range-allowed-requires add-e first-on-requires enum-known-hit enum-told returns wire-at-requires
-    validate-sharing-requires enum-told-2 returns-2 enum-known-judged returns-3 returns-4)
+    tie.close (tie.spec (λ c κs. search needs) range-allowed-requires add-e (λ c κs. search needs) (λ c. search needs) (λ c. search needs) returns wire-at-requires
+    (λ c κs. search needs) (λ c. search needs) returns-2 (λ c. search needs) returns-3 returns-4)

@@ -5,15 +5,6 @@ use borrow.Author.Needs.{needs}
 use Rattle.decide.proofs.ask.device.Statement.{statement}
 use Rattle.decide.proofs.ask.device.Tie as tie
 
-enum-known-q : tie.Need-enum-known-q
-enum-known-q c = search needs
-
-device-of-requires : tie.Need-device-of-requires
-device-of-requires c κs = search needs
-
-nothing-requires : tie.Need-nothing-requires
-nothing-requires c κs = search needs
-
 returns : tie.Need-returns
 returns c = rw (c .before .before .q .given .1) (c .device-of .ensures)
 
@@ -21,4 +12,4 @@ returns-2 : tie.Need-returns-2
 returns-2 c = c .nothing .ensures ∙ sym (ask-else (c .before .before .args .q) .device (c .before .match .keys2))
 
 pub device-spec : {M : Type 1} → statement M
-device-spec = tie.close (tie.spec enum-known-q device-of-requires nothing-requires returns returns-2)
+device-spec = tie.close (tie.spec (λ c. search needs) (λ c κs. search needs) (λ c κs. search needs) returns returns-2)

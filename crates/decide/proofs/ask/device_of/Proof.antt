@@ -3,14 +3,8 @@ use borrow.Author.Needs.{needs}
 use Rattle.decide.proofs.ask.device_of.Statement.{statement}
 use Rattle.decide.proofs.ask.device_of.Tie as tie
 
-device-need-requires : tie.Need-device-need-requires
-device-need-requires c κs = search needs
-
-of-device-requires : tie.Need-of-device-requires
-of-device-requires c κs = search needs
-
 returns : tie.Need-returns
 returns c = rw (c .before .device-need .ensures, c .of-device .ensures)
 
 pub device-of-spec : {M : Type 1} → statement M
-device-of-spec = tie.close (tie.spec device-need-requires of-device-requires returns)
+device-of-spec = tie.close (tie.spec (λ c κs. search needs) (λ c κs. search needs) returns)

@@ -5,24 +5,6 @@ use borrow.Author.Needs.{needs}
 use Rattle.decide.proofs.grant.input.Statement.{statement}
 use Rattle.decide.proofs.grant.input.Tie as tie
 
-standing-requires : tie.Need-standing-requires
-standing-requires c κs = search needs
-
-enum-known-chosen : tie.Need-enum-known-chosen
-enum-known-chosen c = search needs
-
-refused-requires : tie.Need-refused-requires
-refused-requires c κs = search needs
-
-enum-known-chosen-2 : tie.Need-enum-known-chosen-2
-enum-known-chosen-2 c = search needs
-
-one-base-requires : tie.Need-one-base-requires
-one-base-requires c κs = search needs
-
-accepted-requires : tie.Need-accepted-requires
-accepted-requires c κs = search needs
-
 returns : tie.Need-returns
 returns c = c .refused .ensures ∙ ap (given (wireGranted (c .before .before .before .before .before .args .wire))) (sym (c .before .before .chosen .given .1) ∙ c .before .before .before .before .standing .ensures)
 
@@ -30,4 +12,4 @@ returns-2 : tie.Need-returns-2
 returns-2 c = rw (c .accepted .ensures, c .before .one-base .ensures) (ap (given (wireGranted (c .before .before .before .before .before .before .args .wire))) (sym (c .before .before .before .chosen2 .given .1) ∙ c .before .before .before .before .before .standing .ensures))
 
 pub input-spec : {M : Type 1} → statement M
-input-spec = tie.close (tie.spec standing-requires enum-known-chosen refused-requires enum-known-chosen-2 one-base-requires accepted-requires returns returns-2)
+input-spec = tie.close (tie.spec (λ c κs. search needs) (λ c. search needs) (λ c κs. search needs) (λ c. search needs) (λ c κs. search needs) (λ c κs. search needs) returns returns-2)

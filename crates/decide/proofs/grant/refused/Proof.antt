@@ -4,14 +4,8 @@ use borrow.Author.Needs.{needs}
 use Rattle.decide.proofs.grant.refused.Statement.{statement}
 use Rattle.decide.proofs.grant.refused.Tie as tie
 
-numbers-requires : tie.Need-numbers-requires
-numbers-requires c κs = search needs
-
-no-bases-requires : tie.Need-no-bases-requires
-no-bases-requires c κs = search needs
-
 returns : tie.Need-returns
 returns c = rw (c .no-bases .ensures, numbers-are (c .before .before .args .y) _ (c .before .numbers .ensures))
 
 pub refused-spec : {M : Type 1} → statement M
-refused-spec = tie.close (tie.spec numbers-requires no-bases-requires returns)
+refused-spec = tie.close (tie.spec (λ c κs. search needs) (λ c κs. search needs) returns)

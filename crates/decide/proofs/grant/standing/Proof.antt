@@ -6,12 +6,6 @@ use Rattle.definition.specs.Tables.{rowLimit}
 use Rattle.decide.proofs.grant.standing.Statement.{statement}
 use Rattle.decide.proofs.grant.standing.Tie as tie
 
-enum-known-chosen : tie.Need-enum-known-chosen
-enum-known-chosen c = search needs
-
-enum-known-chosen-2 : tie.Need-enum-known-chosen-2
-enum-known-chosen-2 c = search needs
-
 returns : tie.Need-returns
 returns c = rw (c .before .before .before .chosen2 .given .1, lt-ltb (c .before .before .before .before .before .args .seen .at) rowLimit (omega arith))
 
@@ -22,4 +16,4 @@ returns-3 : tie.Need-returns-3
 returns-3 c = rw (c .before .before .before .chosen2 .given .1, le-ltb (c .before .before .before .before .before .args .seen .at) rowLimit (omega arith))
 
 pub standing-spec : {M : Type 1} → statement M
-standing-spec = tie.close (tie.spec enum-known-chosen enum-known-chosen-2 returns returns-2 returns-3)
+standing-spec = tie.close (tie.spec (λ c. search needs) (λ c. search needs) returns returns-2 returns-3)

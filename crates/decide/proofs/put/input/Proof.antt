@@ -5,12 +5,6 @@ use borrow.Author.Needs.{needs}
 use Rattle.decide.proofs.put.input.Statement.{statement}
 use Rattle.decide.proofs.put.input.Tie as tie
 
-enum-known-rows : tie.Need-enum-known-rows
-enum-known-rows c = search needs
-
-no-input-requires : tie.Need-no-input-requires
-no-input-requires c κs = search needs
-
 returns : tie.Need-returns
 returns c = rw (c .before .rows .given .1)
 
@@ -18,4 +12,4 @@ returns-2 : tie.Need-returns-2
 returns-2 c = c .no-input .ensures ∙ sym (put-else (c .before .before .args .g .rows) .input (c .before .match .keys2))
 
 pub input-spec : {M : Type 1} → statement M
-input-spec = tie.close (tie.spec enum-known-rows no-input-requires returns returns-2)
+input-spec = tie.close (tie.spec (λ c. search needs) (λ c κs. search needs) returns returns-2)

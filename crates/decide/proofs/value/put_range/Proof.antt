@@ -9,8 +9,5 @@ push-range-requires c κs = c .before .pre (c .if1 .taken)
 returns : tie.Need-returns
 returns c = rw (c .before .if1 .taken) (c .push-range .ensures)
 
-returns-2 : tie.Need-returns-2
-returns-2 c = search needs
-
 pub put-range-spec : {M : Type 1} → statement M
-put-range-spec = tie.close (tie.spec push-range-requires returns returns-2)
+put-range-spec = tie.close (tie.spec push-range-requires returns (λ c. search needs))

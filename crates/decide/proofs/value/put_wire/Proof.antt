@@ -9,8 +9,5 @@ push-wire-requires c κs = c .before .pre (c .if1 .taken)
 returns : tie.Need-returns
 returns c = rw (c .before .if1 .taken) (c .push-wire .ensures)
 
-returns-2 : tie.Need-returns-2
-returns-2 c = search needs
-
 pub put-wire-spec : {M : Type 1} → statement M
-put-wire-spec = tie.close (tie.spec push-wire-requires returns returns-2)
+put-wire-spec = tie.close (tie.spec push-wire-requires returns (λ c. search needs))

@@ -4,11 +4,8 @@ use borrow.Author.Needs.{needs}
 use Rattle.decide.proofs.value.see_range.Statement.{statement}
 use Rattle.decide.proofs.value.see_range.Tie as tie
 
-range-columns-requires : tie.Need-range-columns-requires
-range-columns-requires c κs = search needs
-
 returns : tie.Need-returns
 returns c = let e = c .range-columns .ensures in record { sized = ranges-sized (c .before .before .before .before .before .before .before .before .before .before .before .before .before .before .before .before .before .before .before .before .before .args .t3) _ (c .before .before .before .before .before .before .before .before .before .before .before .before .before .before .before .before .before .before .before .before .before .good .1 .1 .0); at = e .at; idle = e .idle; chosen = e .chosen }
 
 pub see-range-spec : {M : Type 1} → statement M
-see-range-spec = tie.close (tie.spec range-columns-requires returns)
+see-range-spec = tie.close (tie.spec (λ c κs. search needs) returns)

@@ -6,18 +6,9 @@ use borrow.Author.Needs.{needs}
 use Rattle.lines.proofs.form.read_form.Statement.{statement}
 use Rattle.lines.proofs.form.read_form.Tie as tie
 
-equal-requires : tie.Need-equal-requires
-equal-requires c κs = search needs
-
-read-numbers-requires : tie.Need-read-numbers-requires
-read-numbers-requires c κs = search needs
-
 returns : tie.Need-returns
 unfolding form when
 returns c = rw (sym (c .before .before .equal .ensures) ∙ c .before .if1 .taken) (c .read-numbers .ensures)
-
-bad-row-requires : tie.Need-bad-row-requires
-bad-row-requires c κs = search needs
 
 returns-2 : tie.Need-returns-2
 unfolding form when
@@ -25,4 +16,4 @@ returns-2 c = rw (sym (c .before .before .equal .ensures) ∙ c .before .if1 .le
 
 pub read-form-spec : {M : Type 1} → statement M
 read-form-spec =
-    tie.close (tie.spec equal-requires read-numbers-requires returns bad-row-requires returns-2)
+    tie.close (tie.spec (λ c κs. search needs) (λ c κs. search needs) returns (λ c κs. search needs) returns-2)

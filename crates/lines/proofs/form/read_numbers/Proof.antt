@@ -21,9 +21,6 @@ abbrev μ-loop : tie.MeasureT-loop
 loop-holds : tie.Need-loop-holds Inv-loop μ-loop
 loop-holds c = (omega arith, omega arith, row-starts _)
 
-find-requires : tie.Need-find-requires Inv-loop μ-loop
-find-requires c κs = search needs
-
 sub-read-entry : tie.Need-sub-read-entry Inv-loop μ-loop
 sub-read-entry c = omega (arith, c .find .ensures)
 
@@ -33,62 +30,23 @@ part-read-entry-start c = let h : c .before .before .loop .at ≤ c .find .resul
 part-read-entry-end : tie.Need-part-read-entry-end Inv-loop μ-loop
 part-read-entry-end c = let h : c .find .result ≤ length (c .before .before .before .before .before .args .rest .now) = omega (arith, c .find .ensures, first-inside tab (c .before .before .before .before .before .args .rest .now) (c .before .before .loop .at) (omega arith)) in search needs
 
-mul-read-entry : tie.Need-mul-read-entry Inv-loop μ-loop
-mul-read-entry c = omega arith
-
-shared-slice-read-read-entry : tie.Need-shared-slice-read-read-entry Inv-loop μ-loop
-shared-slice-read-read-entry c = omega arith
-
-read-entry-requires : tie.Need-read-entry-requires Inv-loop μ-loop
-read-entry-requires c κs = search needs
-
-enum-known-x : tie.Need-enum-known-x Inv-loop μ-loop
-enum-known-x c = search needs
-
-enum-told : tie.Need-enum-told Inv-loop μ-loop
-enum-told c = search needs
-
-bad-row-requires : tie.Need-bad-row-requires Inv-loop μ-loop
-bad-row-requires c κs = search needs
-
 returns : tie.Need-returns Inv-loop μ-loop
 returns c = let a = c .before .before .before .before .before .before .before .before .before .before .before .args in let l = c .before .before .before .before .before .before .before .before .loop in c .bad-row .ensures ∙ sym (l .inv .2 ∙ read-stop (a .rest .now) (a .most .now) (l .n) (l .at) (c .before .before .before .before .before .before .find .result) (l .i) (omega arith) (c .before .before .before .before .before .before .find .ensures) (omega arith) (sym (rw (c .before .enum-told .given .1) at (c .before .before .before .read-entry .ensures))))
-
-mul-n : tie.Need-mul-n Inv-loop μ-loop
-mul-n c = omega arith
-
-array-write-n : tie.Need-array-write-n Inv-loop μ-loop
-array-write-n c = search needs
-
-add-i : tie.Need-add-i Inv-loop μ-loop
-add-i c = omega arith
 
 returns-2 : tie.Need-returns-2 Inv-loop μ-loop
 returns-2 c = let a = c .before .before .before .before .before .before .before .before .before .before .before .before .before .args in let l = c .before .before .before .before .before .before .before .before .before .before .loop in sym (l .inv .2 ∙ read-end (a .rest .now) (a .most .now) (l .n) (l .at) (c .before .before .before .before .before .before .before .before .find .result) (l .i) (omega arith) (c .before .before .before .before .before .before .before .before .find .ensures) (omega arith) (c .before .before .before .x .given .0 .0) (sym (rw (c .before .before .before .x .given .1) at (c .before .before .before .before .before .read-entry .ensures))) (omega arith) (omega arith))
 
-bad-row-requires-2 : tie.Need-bad-row-requires-2 Inv-loop μ-loop
-bad-row-requires-2 c κs = search needs
-
 returns-3 : tie.Need-returns-3 Inv-loop μ-loop
 returns-3 c = let a = c .before .before .before .before .before .before .before .before .before .before .before .before .before .before .args in let l = c .before .before .before .before .before .before .before .before .before .before .before .loop in c .bad-row2 .ensures ∙ sym (l .inv .2 ∙ read-short (a .rest .now) (a .most .now) (l .n) (l .at) (c .before .before .before .before .before .before .before .before .before .find .result) (l .i) (omega arith) (c .before .before .before .before .before .before .before .before .before .find .ensures) (omega arith) (c .before .before .before .before .x .given .0 .0) (sym (rw (c .before .before .before .before .x .given .1) at (c .before .before .before .before .before .before .read-entry .ensures))) (omega arith) (omega arith))
 
-add-at : tie.Need-add-at Inv-loop μ-loop
-add-at c = omega arith
-
-loop-less : tie.Need-loop-less Inv-loop μ-loop
-loop-less c = omega arith
-
 loop-again : tie.Need-loop-again Inv-loop μ-loop
 loop-again c = let a = c .before .before .before .before .before .before .before .before .before .before .before .before .args in let l = c .before .before .before .before .before .before .before .before .before .loop in (omega arith, omega arith, l .inv .2 ∙ read-next (a .rest .now) (a .most .now) (l .n) (l .at) (c .before .before .before .before .before .before .before .find .result) (l .i) (omega arith) (c .before .before .before .before .before .before .before .find .ensures) (omega arith) (c .before .before .x .given .0 .0) (sym (rw (c .before .before .x .given .1) at (c .before .before .before .before .read-entry .ensures))) (omega arith))
-
-bad-row-requires-3 : tie.Need-bad-row-requires-3 Inv-loop μ-loop
-bad-row-requires-3 c κs = search needs
 
 returns-4 : tie.Need-returns-4 Inv-loop μ-loop
 returns-4 c = let a = c .before .before .before .before .before .args in let l = c .before .before .loop in c .bad-row3 .ensures ∙ sym (l .inv .2 ∙ read-over (a .most .now) (l .n) (drop (l .at) (a .rest .now)) (l .i) (omega arith))
 
 pub read-numbers-spec : {M : Type 1} → statement M
 read-numbers-spec =
-    tie.close (tie.spec Inv-loop μ-loop loop-holds find-requires sub-read-entry part-read-entry-start part-read-entry-end mul-read-entry
-    shared-slice-read-read-entry read-entry-requires enum-known-x enum-told bad-row-requires returns mul-n array-write-n add-i returns-2 bad-row-requires-2
-    returns-3 add-at loop-less loop-again bad-row-requires-3 returns-4)
+    tie.close (tie.spec Inv-loop μ-loop loop-holds (λ c κs. search needs) sub-read-entry part-read-entry-start part-read-entry-end (λ c. omega arith)
+    (λ c. omega arith) (λ c κs. search needs) (λ c. search needs) (λ c. search needs) (λ c κs. search needs) returns (λ c. omega arith) (λ c. search needs) (λ c. omega arith) returns-2 (λ c κs. search needs)
+    returns-3 (λ c. omega arith) (λ c. omega arith) loop-again (λ c κs. search needs) returns-4)

@@ -18,17 +18,11 @@ abbrev μ-loop : tie.MeasureT-loop
 returns : tie.Need-returns Inv-loop μ-loop
 returns c = sym (number-empty _ _ (c .if1 .taken))
 
-shared-slice-read-if3 : tie.Need-shared-slice-read-if3 Inv-loop μ-loop
-shared-slice-read-if3 c = omega arith
-
 returns-2 : tie.Need-returns-2 Inv-loop μ-loop
 returns-2 c = sym (number-zeros _ _ (omega arith) (c .if3 .taken))
 
 loop-holds : tie.Need-loop-holds Inv-loop μ-loop
 loop-holds c = (omega arith, let a = c .before .before .args in number-starts (a .most) (a .f .now) (omega arith) (⊎-elim (λ w. λ l. w .2 .left) (λ w. λ l. absurd (omega arith)) (c .if2 .came)))
-
-shared-slice-read-b : tie.Need-shared-slice-read-b Inv-loop μ-loop
-shared-slice-read-b c = omega arith
 
 returns-3 : tie.Need-returns-3 Inv-loop μ-loop
 returns-3 c = let a = c .before .before .before .before .before .before .args in sym (c .before .before .before .loop .inv .1 ∙ from-low (a .most) (a .f .now) (c .before .before .before .loop .i) (c .before .before .before .loop .v) (omega arith) (omega arith))
@@ -36,29 +30,11 @@ returns-3 c = let a = c .before .before .before .before .before .before .args in
 returns-4 : tie.Need-returns-4 Inv-loop μ-loop
 returns-4 c = let a = c .before .before .before .before .before .before .before .args in sym (c .before .before .before .before .loop .inv .1 ∙ from-high (a .most) (a .f .now) (c .before .before .before .before .loop .i) (c .before .before .before .before .loop .v) (omega arith) (omega arith))
 
-cast-d : tie.Need-cast-d Inv-loop μ-loop
-cast-d c = omega arith
-
 returns-5 : tie.Need-returns-5 Inv-loop μ-loop
 returns-5 c = let a = c .before .before .before .before .before .before .before .before .args in sym (c .before .before .before .before .before .loop .inv .1 ∙ from-large (a .most) (a .f .now) (c .before .before .before .before .before .loop .i) (c .before .before .before .before .before .loop .v) (omega arith) (omega arith) (omega arith) (omega arith))
 
-mul-w : tie.Need-mul-w Inv-loop μ-loop
-mul-w c = omega arith
-
-sub-if7 : tie.Need-sub-if7 Inv-loop μ-loop
-sub-if7 c = omega arith
-
 returns-6 : tie.Need-returns-6 Inv-loop μ-loop
 returns-6 c = let a = c .before .before .before .before .before .before .before .before .before .args in sym (c .before .before .before .before .before .before .loop .inv .1 ∙ from-large (a .most) (a .f .now) (c .before .before .before .before .before .before .loop .i) (c .before .before .before .before .before .before .loop .v) (omega arith) (omega arith) (omega arith) (omega arith))
-
-add-v : tie.Need-add-v Inv-loop μ-loop
-add-v c = omega arith
-
-add-i : tie.Need-add-i Inv-loop μ-loop
-add-i c = omega arith
-
-loop-less : tie.Need-loop-less Inv-loop μ-loop
-loop-less c = omega arith
 
 loop-again : tie.Need-loop-again Inv-loop μ-loop
 loop-again c = let a = c .before .before .before .before .before .before .before .before .before .args in (omega arith, c .before .before .before .before .before .before .loop .inv .1 ∙ from-more (a .most) (a .f .now) (c .before .before .before .before .before .before .loop .i) (c .before .before .before .before .before .before .loop .v) (omega arith) (omega arith) (omega arith))
@@ -71,5 +47,5 @@ returns-8 c = let a = c .before .before .before .before .before .args in sym (c 
 
 pub read-number-spec : {M : Type 1} → statement M
 read-number-spec =
-    tie.close (tie.spec Inv-loop μ-loop returns shared-slice-read-if3 returns-2 loop-holds shared-slice-read-b returns-3 returns-4 cast-d returns-5 mul-w
-    sub-if7 returns-6 add-v add-i loop-less loop-again returns-7 returns-8)
+    tie.close (tie.spec Inv-loop μ-loop returns (λ c. omega arith) returns-2 loop-holds (λ c. omega arith) returns-3 returns-4 (λ c. omega arith) returns-5 (λ c. omega arith)
+    (λ c. omega arith) returns-6 (λ c. omega arith) (λ c. omega arith) (λ c. omega arith) loop-again returns-7 returns-8)

@@ -18,56 +18,17 @@ abbrev μ-loop : tie.MeasureT-loop
 loop-holds : tie.Need-loop-holds Inv-loop μ-loop
 loop-holds c = (c .before .pre, refl)
 
-sub-loop : tie.Need-sub-loop Inv-loop μ-loop
-sub-loop c = omega arith
-
-shared-slice-read-if1 : tie.Need-shared-slice-read-if1 Inv-loop μ-loop
-shared-slice-read-if1 c = omega arith
-
 returns : tie.Need-returns Inv-loop μ-loop
 returns c = let l = c .before .before .before in let i = l .loop .i in let s = l .before .before .args .s .now in let x = l .before .before .args .c in omega (arith, first-here x s i (omega arith) (c .if1 .taken), l .loop .inv .1)
-
-add-if2 : tie.Need-add-if2 Inv-loop μ-loop
-add-if2 c = omega arith
-
-shared-slice-read-if2 : tie.Need-shared-slice-read-if2 Inv-loop μ-loop
-shared-slice-read-if2 c = omega arith
-
-add-result : tie.Need-add-result Inv-loop μ-loop
-add-result c = omega arith
 
 returns-2 : tie.Need-returns-2 Inv-loop μ-loop
 returns-2 c = let e1 = c .before .before in let l = e1 .before .before .before in let i = l .loop .i in let s = l .before .before .args .s .now in let x = l .before .before .args .c in omega (arith, first-skips x s i (i + 1) (omega arith) (omega arith) (e1 .if1 .left), first-here x s (i + 1) (omega arith) (c .if2 .taken), l .loop .inv .1)
 
-add-if3 : tie.Need-add-if3 Inv-loop μ-loop
-add-if3 c = omega arith
-
-shared-slice-read-if3 : tie.Need-shared-slice-read-if3 Inv-loop μ-loop
-shared-slice-read-if3 c = omega arith
-
-add-result-2 : tie.Need-add-result-2 Inv-loop μ-loop
-add-result-2 c = omega arith
-
 returns-3 : tie.Need-returns-3 Inv-loop μ-loop
 returns-3 c = let e2 = c .before .before in let e1 = e2 .before .before in let l = e1 .before .before .before in let i = l .loop .i in let s = l .before .before .args .s .now in let x = l .before .before .args .c in omega (arith, first-skips x s i (i + 1) (omega arith) (omega arith) (e1 .if1 .left), first-skips x s (i + 1) (i + 2) (omega arith) (omega arith) (e2 .if2 .left), first-here x s (i + 2) (omega arith) (c .if3 .taken), l .loop .inv .1)
 
-add-if4 : tie.Need-add-if4 Inv-loop μ-loop
-add-if4 c = omega arith
-
-shared-slice-read-if4 : tie.Need-shared-slice-read-if4 Inv-loop μ-loop
-shared-slice-read-if4 c = omega arith
-
-add-result-3 : tie.Need-add-result-3 Inv-loop μ-loop
-add-result-3 c = omega arith
-
 returns-4 : tie.Need-returns-4 Inv-loop μ-loop
 returns-4 c = let e3 = c .before .before in let e2 = e3 .before .before in let e1 = e2 .before .before in let l = e1 .before .before .before in let i = l .loop .i in let s = l .before .before .args .s .now in let x = l .before .before .args .c in omega (arith, first-skips x s i (i + 1) (omega arith) (omega arith) (e1 .if1 .left), first-skips x s (i + 1) (i + 2) (omega arith) (omega arith) (e2 .if2 .left), first-skips x s (i + 2) (i + 3) (omega arith) (omega arith) (e3 .if3 .left), first-here x s (i + 3) (omega arith) (c .if4 .taken), l .loop .inv .1)
-
-add-i : tie.Need-add-i Inv-loop μ-loop
-add-i c = omega arith
-
-loop-less : tie.Need-loop-less Inv-loop μ-loop
-loop-less c = omega arith
 
 loop-again : tie.Need-loop-again Inv-loop μ-loop
 loop-again c = let e3 = c .before .before in let e2 = e3 .before .before in let e1 = e2 .before .before in let l = e1 .before .before .before in let i = l .loop .i in let s = l .before .before .args .s .now in let x = l .before .before .args .c in (omega arith, omega (arith, first-skips x s i (i + 1) (omega arith) (omega arith) (e1 .if1 .left), first-skips x s (i + 1) (i + 2) (omega arith) (omega arith) (e2 .if2 .left), first-skips x s (i + 2) (i + 3) (omega arith) (omega arith) (e3 .if3 .left), first-skips x s (i + 3) (i + 4) (omega arith) (omega arith) (c .if4 .left), l .loop .inv .1))
@@ -81,5 +42,5 @@ returns-5 c = c .find-near .ensures ∙ c .before .before .loop .inv .1
 pub find-spec : {M : Type 1} → statement M
 find-spec =
     tie.close
-    (tie.spec Inv-loop μ-loop loop-holds sub-loop shared-slice-read-if1 returns add-if2 shared-slice-read-if2 add-result returns-2 add-if3 shared-slice-read-if3 add-result-2 returns-3 add-if4 shared-slice-read-if4 add-result-3 returns-4 add-i loop-less
+    (tie.spec Inv-loop μ-loop loop-holds (λ c. omega arith) (λ c. omega arith) returns (λ c. omega arith) (λ c. omega arith) (λ c. omega arith) returns-2 (λ c. omega arith) (λ c. omega arith) (λ c. omega arith) returns-3 (λ c. omega arith) (λ c. omega arith) (λ c. omega arith) returns-4 (λ c. omega arith) (λ c. omega arith)
     loop-again find-near-requires returns-5)

@@ -18,17 +18,8 @@ abbrev μ-loop : tie.MeasureT-loop
 loop-holds : tie.Need-loop-holds Inv-loop μ-loop
 loop-holds c = (c .pre, refl)
 
-shared-slice-read-if1 : tie.Need-shared-slice-read-if1 Inv-loop μ-loop
-shared-slice-read-if1 c = omega arith
-
 returns : tie.Need-returns Inv-loop μ-loop
 returns c = omega (arith, first-here (c .before .before .before .before .args .c) (c .before .before .before .before .args .s .now) (c .before .before .before .loop .i) (search needs) (c .if1 .taken), c .before .before .before .loop .inv .1)
-
-add-i : tie.Need-add-i Inv-loop μ-loop
-add-i c = omega arith
-
-loop-less : tie.Need-loop-less Inv-loop μ-loop
-loop-less c = omega arith
 
 loop-again : tie.Need-loop-again Inv-loop μ-loop
 loop-again c = (omega arith, omega (arith, first-past (c .before .before .before .before .args .c) (c .before .before .before .before .args .s .now) (c .before .before .before .loop .i) (search needs) (c .if1 .left), c .before .before .before .loop .inv .1))
@@ -37,4 +28,4 @@ returns-2 : tie.Need-returns-2 Inv-loop μ-loop
 returns-2 c = omega (arith, first-end (c .before .before .args .c) (c .before .before .args .s .now) (c .before .loop .i) (omega arith), c .before .loop .inv .1)
 
 pub find-near-spec : {M : Type 1} → statement M
-find-near-spec = tie.close (tie.spec Inv-loop μ-loop loop-holds shared-slice-read-if1 returns add-i loop-less loop-again returns-2)
+find-near-spec = tie.close (tie.spec Inv-loop μ-loop loop-holds (λ c. omega arith) returns (λ c. omega arith) (λ c. omega arith) loop-again returns-2)

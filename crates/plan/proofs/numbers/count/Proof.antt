@@ -4,9 +4,6 @@ use borrow.Author.Needs.{needs}
 use Rattle.plan.proofs.numbers.count.Statement.{statement}
 use Rattle.plan.proofs.numbers.count.Tie as tie
 
-mul-if1 : tie.Need-mul-if1
-mul-if1 c = search needs
-
 returns : tie.Need-returns
 returns c = whole-is (c .before .args .long) (c .if1 .taken)
 
@@ -14,4 +11,4 @@ returns-2 : tie.Need-returns-2
 returns-2 c = whole-not (c .before .args .long) (c .if1 .left)
 
 pub count-spec : {M : Type 1} → statement M
-count-spec = tie.close (tie.spec mul-if1 returns returns-2)
+count-spec = tie.close (tie.spec (λ c. search needs) returns returns-2)

@@ -23,5 +23,5 @@ unfolding f.Code.routine tablesOf
 run-in-spec 𝓤 H 𝓜 𝓖 𝓡 =
     entered 𝓤 H (tripleOf 𝓤 H (𝓖 .A) f.signature (f.spec 𝓤 H (𝓖 .A) (𝓜 .mem) (𝓡 .run)))
     (tables 𝓤 H 𝓜 𝓡 f.Code.env .C) (tables 𝓤 H 𝓜 𝓡 f.Code.env .Λ) f.Key.name f.Code.function (f.Code.unfolded 𝓤 H 𝓜 𝓡)
-    (f-meets 𝓤 H (𝓖 .A) (𝓜 .mem) (𝓡 .run) (givenOf 𝓤 H 𝓜 𝓖) (tablesOf 𝓤 H 𝓜 (tables 𝓤 H 𝓜 𝓡 f.Code.env)) (knows 𝓤 H 𝓜 𝓖 𝓡 f.Code.env f.Code.calls-lent·peek f.Code.calls-plan·open f.Code.calls-plan·turn f.Code.calls-plan·settle)
+    (f-meets 𝓤 H (𝓖 .A) (𝓜 .mem) (𝓡 .run) (givenOf 𝓤 H 𝓜 𝓖) (tablesOf 𝓤 H 𝓜 (tables 𝓤 H 𝓜 𝓡 f.Code.env)) (knows 𝓤 H 𝓜 𝓖 𝓡 f.Code.env f.Code.calls-inplace·marks·peek f.Code.calls-plan·open f.Code.calls-plan·turn f.Code.calls-plan·settle)
     (cited 𝓤 H (Read 𝓤 H (𝓖 .A) (𝓜 .mem) (𝓡 .run)) 𝓜 𝓡 f.Code.env g.Symbol.name g.Symbol.routine f.Code.calls-flat·request-at (g.Met.met 𝓤 H 𝓜 𝓖 𝓡)))

@@ -3,14 +3,8 @@ use borrow.Author.Needs.{needs}
 use Rattle.pool.proofs.host_irq.reserve_host_irq.Statement.{statement}
 use Rattle.pool.proofs.host_irq.reserve_host_irq.Tie as tie
 
-past-requires : tie.Need-past-requires
-past-requires c κs = search needs
-
-serve-requires : tie.Need-serve-requires
-serve-requires c κs = search needs
-
 returns : tie.Need-returns
 returns c = rw (c .before .past .ensures) at (c .serve .ensures)
 
 pub reserve-host-irq-spec : {M : Type 1} → statement M
-reserve-host-irq-spec = tie.close (tie.spec past-requires serve-requires returns)
+reserve-host-irq-spec = tie.close (tie.spec (λ c κs. search needs) (λ c κs. search needs) returns)

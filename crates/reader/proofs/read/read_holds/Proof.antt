@@ -8,15 +8,6 @@ use borrow.Author.Needs.{needs}
 use Rattle.reader.proofs.read.read_holds.Statement.{statement}
 use Rattle.reader.proofs.read.read_holds.Tie as tie
 
-read-number-requires : tie.Need-read-number-requires
-read-number-requires c κs = search needs
-
-enum-known-x : tie.Need-enum-known-x
-enum-known-x c = search needs
-
-enum-told : tie.Need-enum-told
-enum-told c = search needs
-
 returns : tie.Need-returns
 unfolding behindHold _andThen_
 returns c = rw (sym (rw (c .enum-told .given .1) at (c .before .before .read-number .ensures)), _andThen_)
@@ -24,12 +15,9 @@ returns c = rw (sym (rw (c .enum-told .given .1) at (c .before .before .read-num
 cast-read-hold : tie.Need-cast-read-hold
 cast-read-hold c = omega (arith, number-within n32 (c .before .before .before .before .before .before .before .args .owner .now) (c .before .x .given .0 .0) (sym (rw (c .before .x .given .1) at (c .before .before .before .read-number .ensures))))
 
-read-hold-requires : tie.Need-read-hold-requires
-read-hold-requires c κs = search needs
-
 returns-2 : tie.Need-returns-2
 unfolding behindHold _andThen_
 returns-2 c = rw (sym (rw (c .before .before .x .given .1) at (c .before .before .before .before .read-number .ensures)), _andThen_) (c .read-hold .ensures)
 
 pub read-holds-spec : {M : Type 1} → statement M
-read-holds-spec = tie.close (tie.spec read-number-requires enum-known-x enum-told returns cast-read-hold read-hold-requires returns-2)
+read-holds-spec = tie.close (tie.spec (λ c κs. search needs) (λ c. search needs) (λ c. search needs) returns cast-read-hold (λ c κs. search needs) returns-2)

@@ -10,38 +10,14 @@ use borrow.Author.Needs.{needs}
 use Rattle.reader.proofs.read.read_wants.Statement.{statement}
 use Rattle.reader.proofs.read.read_wants.Tie as tie
 
-find-requires : tie.Need-find-requires
-find-requires c κs = search needs
-
 returns : tie.Need-returns
 returns c = let a = c .before .before .before .before .before .args in sym (want-alone (a .requester .now) (a .slot .now) (a .rest .now) (c .before .find .result) (c .before .find .ensures) (c .if1 .taken))
-
-read-number-requires : tie.Need-read-number-requires
-read-number-requires c κs = search needs
-
-enum-known-x : tie.Need-enum-known-x
-enum-known-x c = search needs
-
-enum-told : tie.Need-enum-told
-enum-told c = search needs
 
 returns-2 : tie.Need-returns-2
 returns-2 c = let a = c .before .before .before .before .before .before .before .before .args in sym (want-no-requester (a .requester .now) (a .slot .now) (a .rest .now) (c .before .before .before .before .find .result) (c .before .before .before .before .find .ensures) (c .before .before .before .if1 .left) (sym (rw (c .enum-told .given .1) at (c .before .before .read-number .ensures))))
 
-read-number-requires-2 : tie.Need-read-number-requires-2
-read-number-requires-2 c κs = search needs
-
-enum-known-y : tie.Need-enum-known-y
-enum-known-y c = search needs
-
-enum-told-2 : tie.Need-enum-told-2
-enum-told-2 c = search needs
-
 returns-3 : tie.Need-returns-3
 returns-3 c = let a = c .before .before .before .before .before .before .before .before .before .before .before .before .args in sym (want-no-slot (a .requester .now) (a .slot .now) (a .rest .now) (c .before .before .before .before .before .before .before .before .find .result) (c .before .before .before .before .before .before .before .before .find .ensures) (c .before .before .before .before .before .before .before .if1 .left) (c .before .before .before .before .x .given .0 .0) (sym (rw (c .before .before .before .before .x .given .1) at (c .before .before .before .before .before .before .read-number .ensures))) (sym (rw (c .enum-told2 .given .1) at (c .before .before .read-number2 .ensures))))
-
-add-b : tie.Need-add-b
-add-b c = search needs
 
 cast-read-want : tie.Need-cast-read-want
 cast-read-want c = omega (arith, number-within n32 (c .before .before .before .before .before .before .before .before .before .before .before .before .before .args .requester .now) (c .before .before .before .before .before .x .given .0 .0) (sym (rw (c .before .before .before .before .before .x .given .1) at (c .before .before .before .before .before .before .before .read-number .ensures))))
@@ -52,22 +28,10 @@ cast-read-want-2 c = omega (arith, number-within n32 (c .before .before .before 
 slice-aggregate-read-want : tie.Need-slice-aggregate-read-want
 slice-aggregate-read-want c = part-length tab (c .before .before .before .before .before .before .before .before .before .before .before .before .before .before .args .rest .now) (c .before .before .before .before .before .before .before .before .before .before .find .result) (c .before .before .before .before .before .before .before .before .before .before .find .ensures)
 
-sub-read-want : tie.Need-sub-read-want
-sub-read-want c = search needs
-
-part-read-want-start : tie.Need-part-read-want-start
-part-read-want-start c = search needs
-
-part-read-want-end : tie.Need-part-read-want-end
-part-read-want-end c = search needs
-
-read-want-requires : tie.Need-read-want-requires
-read-want-requires c κs = search needs
-
 returns-4 : tie.Need-returns-4
 returns-4 c = let a = c .before .before .before .before .before .before .before .before .before .before .before .before .before .before .before .before .args in c .read-want .ensures ∙ sym (want-said (a .requester .now) (a .slot .now) (a .rest .now) (c .before .before .before .before .before .before .before .before .before .before .before .before .find .result) (c .before .before .before .before .before .before .before .before .before .before .before .before .find .ensures) (c .before .before .before .before .before .before .before .before .before .before .before .if1 .left) (c .before .before .before .before .before .before .before .before .x .given .0 .0) (c .before .before .before .before .y .given .0 .0) (sym (rw (c .before .before .before .before .before .before .before .before .x .given .1) at (c .before .before .before .before .before .before .before .before .before .before .read-number .ensures))) (sym (rw (c .before .before .before .before .y .given .1) at (c .before .before .before .before .before .before .read-number2 .ensures))))
 
 pub read-wants-spec : {M : Type 1} → statement M
 read-wants-spec =
-    tie.close (tie.spec find-requires returns read-number-requires enum-known-x enum-told returns-2 read-number-requires-2 enum-known-y enum-told-2 returns-3
-    add-b cast-read-want cast-read-want-2 slice-aggregate-read-want sub-read-want part-read-want-start part-read-want-end read-want-requires returns-4)
+    tie.close (tie.spec (λ c κs. search needs) returns (λ c κs. search needs) (λ c. search needs) (λ c. search needs) returns-2 (λ c κs. search needs) (λ c. search needs) (λ c. search needs) returns-3
+    (λ c. search needs) cast-read-want cast-read-want-2 slice-aggregate-read-want (λ c. search needs) (λ c. search needs) (λ c. search needs) (λ c κs. search needs) returns-4)

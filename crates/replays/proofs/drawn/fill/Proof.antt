@@ -13,32 +13,5 @@ Inv-loop seed requests₀ p₀ requests p = length requests ≡ length requests�
 abbrev μ-loop : tie.MeasureT-loop
 μ-loop seed requests₀ p₀ requests p = length requests₀ - p
 
-loop-holds : tie.Need-loop-holds Inv-loop μ-loop
-loop-holds c = search needs
-
-number-requires : tie.Need-number-requires Inv-loop μ-loop
-number-requires c κs = search needs
-
-mul-requests : tie.Need-mul-requests Inv-loop μ-loop
-mul-requests c = search needs
-
-slice-write-requests : tie.Need-slice-write-requests Inv-loop μ-loop
-slice-write-requests c = search needs
-
-add-p : tie.Need-add-p Inv-loop μ-loop
-add-p c = search needs
-
-loop-less : tie.Need-loop-less Inv-loop μ-loop
-loop-less c = omega arith
-
-loop-again : tie.Need-loop-again Inv-loop μ-loop
-loop-again c = search needs
-
-same-length : tie.Need-same-length Inv-loop μ-loop
-same-length c = search needs
-
-returns : tie.Need-returns Inv-loop μ-loop
-returns c = search needs
-
 pub fill-spec : {M : Type 1} → statement M
-fill-spec = tie.close (tie.spec Inv-loop μ-loop loop-holds number-requires mul-requests slice-write-requests add-p loop-less loop-again same-length returns)
+fill-spec = tie.close (tie.spec Inv-loop μ-loop (λ c. search needs) (λ c κs. search needs) (λ c. search needs) (λ c. search needs) (λ c. search needs) (λ c. omega arith) (λ c. search needs) (λ c. search needs) (λ c. search needs))

@@ -30,9 +30,6 @@ Inv-pools pc pi ps pe pn oc ox on controller need i₀ i = (i ≤ pn) × ((k : �
 abbrev μ-pools : tie.MeasureT-pools
 μ-pools pc pi ps pe pn oc ox on controller need i₀ i = pn - i
 
-one-input-requires : tie.Need-one-input-requires Inv-inputs μ-inputs Inv-pools μ-pools
-one-input-requires c κs = search needs
-
 pools-holds : tie.Need-pools-holds Inv-inputs μ-inputs Inv-pools μ-pools
 pools-holds c = (omega arith, λ k h. absurd (omega arith))
 
@@ -53,12 +50,6 @@ next-input-requires c κs =
     let u = rw (c .before .before .before .before .before .before .one-input .ensures) at (c .before .before .before .bases-of .ensures) in
     (search needs, c .inputs-test .taken, omega (arith, bases-fit _ _ _ _ u (c .inputs-test .taken)))
 
-enum-told : tie.Need-enum-told Inv-inputs μ-inputs Inv-pools μ-pools
-enum-told c = search needs
-
-enum-known-step : tie.Need-enum-known-step Inv-inputs μ-inputs Inv-pools μ-pools
-enum-known-step c = search needs
-
 inputs-less : tie.Need-inputs-less Inv-inputs μ-inputs Inv-pools μ-pools
 inputs-less c =
     let h = rw (c .before .step .given .1) at (c .before .before .before .next-input .ensures) in
@@ -69,12 +60,6 @@ inputs-again c =
     let h = rw (c .before .step .given .1) at (c .before .before .before .next-input .ensures) in
     let v = c .before .before .before .before .before .inputs .inv in
     (omega (arith, v .0, h .rises), tried-more _ _ _ _ _ _ (v .1) (h .tried))
-
-add-i : tie.Need-add-i Inv-inputs μ-inputs Inv-pools μ-pools
-add-i c = omega arith
-
-pools-less : tie.Need-pools-less Inv-inputs μ-inputs Inv-pools μ-pools
-pools-less c = omega arith
 
 pools-again : tie.Need-pools-again Inv-inputs μ-inputs Inv-pools μ-pools
 pools-again c =
@@ -111,5 +96,5 @@ returns-2 c =
 
 pub find-input-spec : {M : Type 1} → statement M
 find-input-spec =
-    tie.close (tie.spec Inv-inputs μ-inputs Inv-pools μ-pools one-input-requires pools-holds bases-of-requires mul-c element-copy-out-c inputs-holds
-    next-input-requires enum-told enum-known-step inputs-less inputs-again add-i pools-less pools-again returns returns-2)
+    tie.close (tie.spec Inv-inputs μ-inputs Inv-pools μ-pools (λ c κs. search needs) pools-holds bases-of-requires mul-c element-copy-out-c inputs-holds
+    next-input-requires (λ c. search needs) (λ c. search needs) inputs-less inputs-again (λ c. omega arith) (λ c. omega arith) pools-again returns returns-2)

@@ -21,35 +21,11 @@ abbrev μ-loop : tie.MeasureT-loop
 loop-holds : tie.Need-loop-holds Inv-loop μ-loop
 loop-holds c = (omega arith, first-start _)
 
-mul-if1 : tie.Need-mul-if1 Inv-loop μ-loop
-mul-if1 c = omega arith
-
-element-copy-out-if1 : tie.Need-element-copy-out-if1 Inv-loop μ-loop
-element-copy-out-if1 c = omega arith
-
-add-i : tie.Need-add-i Inv-loop μ-loop
-add-i c = omega arith
-
-loop-less : tie.Need-loop-less Inv-loop μ-loop
-loop-less c = omega arith
-
 loop-again : tie.Need-loop-again Inv-loop μ-loop
 loop-again c = (omega arith, first-more _ _ (c .before .before .before .loop .inv .1) (off-number _ _ _ _ 0 0 0 _ _ _ (c .if1 .taken)))
 
-mul-if2 : tie.Need-mul-if2 Inv-loop μ-loop
-mul-if2 c = omega arith
-
-element-copy-out-if2 : tie.Need-element-copy-out-if2 Inv-loop μ-loop
-element-copy-out-if2 c = omega arith
-
 returns : tie.Need-returns Inv-loop μ-loop
 returns c = sym (first-found _ _ _ (c .before .before .before .before .before .loop .inv .1) (on-one _ _ _ _ 0 0 0 _ _ _ (omega arith) (c .if2 .taken)) (omega arith))
-
-add-i-2 : tie.Need-add-i-2 Inv-loop μ-loop
-add-i-2 c = omega arith
-
-loop-less-2 : tie.Need-loop-less-2 Inv-loop μ-loop
-loop-less-2 c = omega arith
 
 loop-again-2 : tie.Need-loop-again-2 Inv-loop μ-loop
 loop-again-2 c = (omega arith, first-more _ _ (c .before .before .before .before .before .loop .inv .1) (off-controller _ _ _ _ 0 0 0 _ _ _ (c .if2 .left)))
@@ -61,5 +37,5 @@ returns-2 c =
 
 pub first-on-spec : {M : Type 1} → statement M
 first-on-spec =
-    tie.close (tie.spec Inv-loop μ-loop loop-holds mul-if1 element-copy-out-if1 add-i loop-less loop-again mul-if2 element-copy-out-if2 returns add-i-2
-    loop-less-2 loop-again-2 returns-2)
+    tie.close (tie.spec Inv-loop μ-loop loop-holds (λ c. omega arith) (λ c. omega arith) (λ c. omega arith) (λ c. omega arith) loop-again (λ c. omega arith) (λ c. omega arith) returns (λ c. omega arith)
+    (λ c. omega arith) loop-again-2 returns-2)

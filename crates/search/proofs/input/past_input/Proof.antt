@@ -9,23 +9,8 @@ use Rattle.search.proofs.MeetLaws.{on-one, off-number, off-controller}
 use Rattle.search.proofs.input.past_input.Statement.{statement}
 use Rattle.search.proofs.input.past_input.Tie as tie
 
-mul-if1 : tie.Need-mul-if1
-mul-if1 c = search needs
-
-element-copy-out-if1 : tie.Need-element-copy-out-if1
-element-copy-out-if1 c = search needs
-
 returns : tie.Need-returns
 returns c = inl (sym (input-meets _ _ _) ∙ off-number _ _ _ _ 0 0 0 _ _ _ (c .if1 .taken), refl)
-
-mul-if2 : tie.Need-mul-if2
-mul-if2 c = search needs
-
-element-copy-out-if2 : tie.Need-element-copy-out-if2
-element-copy-out-if2 c = search needs
-
-add-result : tie.Need-add-result
-add-result c = search needs
 
 returns-2 : tie.Need-returns-2
 returns-2 c =
@@ -35,4 +20,4 @@ returns-3 : tie.Need-returns-3
 returns-3 c = inl (sym (input-meets _ _ _) ∙ off-controller _ _ _ _ 0 0 0 _ _ _ (c .if2 .left), refl)
 
 pub past-input-spec : {M : Type 1} → statement M
-past-input-spec = tie.close (tie.spec mul-if1 element-copy-out-if1 returns mul-if2 element-copy-out-if2 add-result returns-2 returns-3)
+past-input-spec = tie.close (tie.spec (λ c. search needs) (λ c. search needs) returns (λ c. search needs) (λ c. search needs) (λ c. search needs) returns-2 returns-3)

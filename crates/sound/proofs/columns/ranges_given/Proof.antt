@@ -6,19 +6,13 @@ use Rattle.sound.specs.Tests.{givenRanges}
 use Rattle.sound.proofs.columns.ranges_given.Statement.{statement}
 use Rattle.sound.proofs.columns.ranges_given.Tie as tie
 
-pools-sound-requires : tie.Need-pools-sound-requires
-pools-sound-requires c κs = search needs
-
 returns : tie.Need-returns
 unfolding givenRanges
 returns c = rw (sym (c .before .pools-sound .ensures) ∙ not-true (c .before .pools-sound .result) (c .if1 .taken))
-
-table-sound-requires : tie.Need-table-sound-requires
-table-sound-requires c κs = search needs
 
 returns-2 : tie.Need-returns-2
 unfolding givenRanges
 returns-2 c = rw (sym (c .before .before .before .pools-sound .ensures) ∙ not-false (c .before .before .before .pools-sound .result) (c .before .before .if1 .left)) (c .table-sound .ensures)
 
 pub ranges-given-spec : {M : Type 1} → statement M
-ranges-given-spec = tie.close (tie.spec pools-sound-requires returns table-sound-requires returns-2)
+ranges-given-spec = tie.close (tie.spec (λ c κs. search needs) returns (λ c κs. search needs) returns-2)

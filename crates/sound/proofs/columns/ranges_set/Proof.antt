@@ -6,19 +6,13 @@ use Rattle.sound.specs.Tests.{setRanges}
 use Rattle.sound.proofs.columns.ranges_set.Statement.{statement}
 use Rattle.sound.proofs.columns.ranges_set.Tie as tie
 
-pools-sound-requires : tie.Need-pools-sound-requires
-pools-sound-requires c κs = search needs
-
 returns : tie.Need-returns
 unfolding setRanges
 returns c = rw (sym (c .before .pools-sound .ensures) ∙ not-true (c .before .pools-sound .result) (c .if1 .taken))
-
-holders-sound-requires : tie.Need-holders-sound-requires
-holders-sound-requires c κs = search needs
 
 returns-2 : tie.Need-returns-2
 unfolding setRanges
 returns-2 c = rw (sym (c .before .before .before .before .pools-sound .ensures) ∙ not-false (c .before .before .before .before .pools-sound .result) (c .before .before .before .if1 .left)) (c .holders-sound .ensures)
 
 pub ranges-set-spec : {M : Type 1} → statement M
-ranges-set-spec = tie.close (tie.spec pools-sound-requires returns holders-sound-requires returns-2)
+ranges-set-spec = tie.close (tie.spec (λ c κs. search needs) returns (λ c κs. search needs) returns-2)

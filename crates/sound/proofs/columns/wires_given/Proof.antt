@@ -6,22 +6,13 @@ use Rattle.sound.specs.Tests.{givenWires}
 use Rattle.sound.proofs.columns.wires_given.Statement.{statement}
 use Rattle.sound.proofs.columns.wires_given.Tie as tie
 
-input-limits-requires : tie.Need-input-limits-requires
-input-limits-requires c κs = search needs
-
-pools-sound-requires : tie.Need-pools-sound-requires
-pools-sound-requires c κs = search needs
-
 returns : tie.Need-returns
 unfolding givenWires
 returns c = rw (sym (rw (c .before .before .input-limits .ensures) at (c .before .pools-sound .ensures)) ∙ not-true (c .before .pools-sound .result) (c .if1 .taken))
-
-table-sound-requires : tie.Need-table-sound-requires
-table-sound-requires c κs = search needs
 
 returns-2 : tie.Need-returns-2
 unfolding givenWires
 returns-2 c = rw (sym (rw (c .before .before .before .before .input-limits .ensures) at (c .before .before .before .pools-sound .ensures)) ∙ not-false (c .before .before .before .pools-sound .result) (c .before .before .if1 .left)) (c .table-sound .ensures)
 
 pub wires-given-spec : {M : Type 1} → statement M
-wires-given-spec = tie.close (tie.spec input-limits-requires pools-sound-requires returns table-sound-requires returns-2)
+wires-given-spec = tie.close (tie.spec (λ c κs. search needs) (λ c κs. search needs) returns (λ c κs. search needs) returns-2)

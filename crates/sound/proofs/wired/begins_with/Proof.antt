@@ -10,21 +10,12 @@ use Rattle.tables.specs.Views.{wires}
 use Rattle.sound.proofs.wired.begins_with.Statement.{statement}
 use Rattle.sound.proofs.wired.begins_with.Tie as tie
 
-capped-requires : tie.Need-capped-requires
-capped-requires c κs = search needs
-
-capped-requires-2 : tie.Need-capped-requires-2
-capped-requires-2 c κs = search needs
-
 returns : tie.Need-returns
 returns c = let a = c .before .before .before .args in sym (wires-begin-is (wires (a .m) (a .controller .now) (a .input .now) (a .trigger .now) (a .sharing .now) (a .owner .now)) (wires (a .n) (a .controller2 .now) (a .input2 .now) (a .trigger2 .now) (a .sharing2 .now) (a .owner2 .now)) ∙ rw (lt-leb (min (a .m) rowLimit) (min (a .n) rowLimit) (omega arith)))
-
-rows-same-requires : tie.Need-rows-same-requires
-rows-same-requires c κs = omega arith
 
 returns-2 : tie.Need-returns-2
 returns-2 c = let a = c .before .before .before .before .args in rw (c .before .before .before .capped .ensures) at (c .rows-same .ensures) ∙ sym (wires-begin-is (wires (a .m) (a .controller .now) (a .input .now) (a .trigger .now) (a .sharing .now) (a .owner .now)) (wires (a .n) (a .controller2 .now) (a .input2 .now) (a .trigger2 .now) (a .sharing2 .now) (a .owner2 .now)) ∙ rw (le-leb (min (a .m) rowLimit) (min (a .n) rowLimit) (omega arith)))
 
 pub begins-with-spec : {M : Type 1} → statement M
 begins-with-spec =
-    tie.close (tie.spec capped-requires capped-requires-2 returns rows-same-requires returns-2)
+    tie.close (tie.spec (λ c κs. search needs) (λ c κs. search needs) returns (λ c κs. omega arith) returns-2)

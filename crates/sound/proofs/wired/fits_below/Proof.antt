@@ -21,20 +21,8 @@ abbrev μ-loop : tie.MeasureT-loop
 loop-holds : tie.Need-loop-holds Inv-loop μ-loop
 loop-holds c = (omega arith, all-start _)
 
-wire-at-requires : tie.Need-wire-at-requires Inv-loop μ-loop
-wire-at-requires c κs = search needs
-
-wires-fit-requires : tie.Need-wires-fit-requires Inv-loop μ-loop
-wires-fit-requires c κs = search needs
-
 returns : tie.Need-returns Inv-loop μ-loop
 returns c = sym (all-stop _ _ _ (sym (rw (c .before .before .wire-at .ensures) at (c .before .wires-fit .ensures)) ∙ not-true (c .before .wires-fit .result) (c .if1 .taken)) (omega arith))
-
-add-j : tie.Need-add-j Inv-loop μ-loop
-add-j c = omega arith
-
-loop-less : tie.Need-loop-less Inv-loop μ-loop
-loop-less c = omega arith
 
 loop-again : tie.Need-loop-again Inv-loop μ-loop
 loop-again c = (omega arith, all-more _ _ (c .before .before .before .before .loop .inv .1) (sym (rw (c .before .before .wire-at .ensures) at (c .before .wires-fit .ensures)) ∙ not-false (c .before .wires-fit .result) (c .if1 .left)))
@@ -43,4 +31,4 @@ returns-2 : tie.Need-returns-2 Inv-loop μ-loop
 returns-2 c = let e : c .before .loop .j ≡ c .before .before .args .k = omega arith in sym (rw e at (c .before .loop .inv .1))
 
 pub fits-below-spec : {M : Type 1} → statement M
-fits-below-spec = tie.close (tie.spec Inv-loop μ-loop loop-holds wire-at-requires wires-fit-requires returns add-j loop-less loop-again returns-2)
+fits-below-spec = tie.close (tie.spec Inv-loop μ-loop loop-holds (λ c κs. search needs) (λ c κs. search needs) returns (λ c. omega arith) (λ c. omega arith) loop-again returns-2)

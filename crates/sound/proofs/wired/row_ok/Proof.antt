@@ -12,20 +12,11 @@ use Rattle.sound.proofs.wired.row_ok.Tie as tie
 is-good : (c : tie.Else1) → let a = c .before .before .before .args in goodRow input (wireOf (wireAt (wires 0 (a .controller .now) (a .input .now) (a .trigger .now) (a .sharing .now) (a .owner .now)) (a .k))) ≡ true
 is-good c = sym (rw (c .before .before .wire-at .ensures) at (c .before .good-row .ensures)) ∙ not-false (c .before .good-row .result) (c .if1 .left)
 
-wire-at-requires : tie.Need-wire-at-requires
-wire-at-requires c κs = search needs
-
-good-row-requires : tie.Need-good-row-requires
-good-row-requires c κs = search needs
-
 returns : tie.Need-returns
 returns c = sym (wire-bad _ _ _ (sym (rw (c .before .before .wire-at .ensures) at (c .before .good-row .ensures)) ∙ not-true (c .before .good-row .result) (c .if1 .taken)))
 
 returns-2 : tie.Need-returns-2
 returns-2 c = sym (wire-high _ _ _ _ (is-good (c .before .before)) (c .before .before .before .before .before .pre .1) (rw (c .before .before .before .before .wire-at .ensures) at (c .if2 .taken)))
-
-fits-below-requires : tie.Need-fits-below-requires
-fits-below-requires c κs = search needs
 
 returns-3 : tie.Need-returns-3
 returns-3 c = rw (c .before .before .before .before .before .wire-at .ensures) at (c .fits-below .ensures) ∙ sym (wire-rest _ _ _ (is-good (c .before .before .before)))
@@ -33,4 +24,4 @@ returns-3 c = rw (c .before .before .before .before .before .wire-at .ensures) a
 pub row-ok-spec : {M : Type 1} → statement M
 row-ok-spec =
     tie.close
-    (tie.spec wire-at-requires good-row-requires returns returns-2 fits-below-requires returns-3)
+    (tie.spec (λ c κs. search needs) (λ c κs. search needs) returns returns-2 (λ c κs. search needs) returns-3)

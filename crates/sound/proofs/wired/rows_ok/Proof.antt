@@ -6,8 +6,8 @@ use mathlib.Core.Bool.{true}
 use mathlib.Core.Path.{_∙_, _≡_, sym}
 use native.Mathlib.Omega.{arith}
 use Rattle.sound.specs.Tests.{wireOk}
-use Rattle.spans.proofs.HighLaws.{high-more, high-start}
-use Rattle.spans.specs.Tests.{NoneAbove}
+use Rattle.table_tests.proofs.HighLaws.{high-more, high-start}
+use Rattle.table_tests.specs.Tests.{NoneAbove}
 use Rattle.tables.proofs.BelowLaws.{all-more, all-start, all-stop}
 use Rattle.tables.specs.Below.{allBelow}
 use Rattle.tables.specs.Views.{wires}
@@ -23,26 +23,8 @@ abbrev μ-loop : tie.MeasureT-loop
 loop-holds : tie.Need-loop-holds Inv-loop μ-loop
 loop-holds c = (omega arith, (all-start _, high-start _ _))
 
-row-ok-requires : tie.Need-row-ok-requires Inv-loop μ-loop
-row-ok-requires c κs = search needs
-
 returns : tie.Need-returns Inv-loop μ-loop
 returns c = sym (all-stop _ _ _ (sym (c .before .row-ok .ensures) ∙ not-true (c .before .row-ok .result) (c .if1 .taken)) (omega arith))
-
-mul-higher : tie.Need-mul-higher Inv-loop μ-loop
-mul-higher c = omega arith
-
-element-copy-out-higher : tie.Need-element-copy-out-higher Inv-loop μ-loop
-element-copy-out-higher c = omega arith
-
-higher-requires : tie.Need-higher-requires Inv-loop μ-loop
-higher-requires c κs = search needs
-
-add-k : tie.Need-add-k Inv-loop μ-loop
-add-k c = omega arith
-
-loop-less : tie.Need-loop-less Inv-loop μ-loop
-loop-less c = omega arith
 
 loop-again : tie.Need-loop-again Inv-loop μ-loop
 loop-again c = (omega arith, (all-more _ _ (c .before .before .before .before .before .loop .inv .1 .0) (sym (c .before .before .before .row-ok .ensures) ∙ not-false (c .before .before .before .row-ok .result) (c .before .before .if1 .left)), high-more _ _ _ _ (c .before .before .before .before .before .loop .inv .1 .1) (c .higher .ensures)))
@@ -52,5 +34,5 @@ returns-2 c = let e : c .before .loop .k ≡ c .before .before .args .n = omega 
 
 pub rows-ok-spec : {M : Type 1} → statement M
 rows-ok-spec =
-    tie.close (tie.spec Inv-loop μ-loop loop-holds row-ok-requires returns mul-higher element-copy-out-higher higher-requires add-k loop-less loop-again
+    tie.close (tie.spec Inv-loop μ-loop loop-holds (λ c κs. search needs) returns (λ c. omega arith) (λ c. omega arith) (λ c κs. search needs) (λ c. omega arith) (λ c. omega arith) loop-again
     returns-2)

@@ -21,23 +21,8 @@ abbrev μ-loop : tie.MeasureT-loop
 loop-holds : tie.Need-loop-holds Inv-loop μ-loop
 loop-holds c = (omega arith, all-start _)
 
-wire-at-requires : tie.Need-wire-at-requires Inv-loop μ-loop
-wire-at-requires c κs = search needs
-
-wire-at-requires-2 : tie.Need-wire-at-requires-2 Inv-loop μ-loop
-wire-at-requires-2 c κs = search needs
-
-same-row-requires : tie.Need-same-row-requires Inv-loop μ-loop
-same-row-requires c κs = search needs
-
 returns : tie.Need-returns Inv-loop μ-loop
 returns c = sym (all-stop _ _ _ (sym (rw (c .before .before .before .wire-at .ensures, c .before .before .wire-at2 .ensures) at (c .before .same-row .ensures)) ∙ not-true (c .before .same-row .result) (c .if1 .taken)) (omega arith))
-
-add-k : tie.Need-add-k Inv-loop μ-loop
-add-k c = omega arith
-
-loop-less : tie.Need-loop-less Inv-loop μ-loop
-loop-less c = omega arith
 
 loop-again : tie.Need-loop-again Inv-loop μ-loop
 loop-again c = (omega arith, all-more _ _ (c .before .before .before .before .before .loop .inv .1) (sym (rw (c .before .before .before .wire-at .ensures, c .before .before .wire-at2 .ensures) at (c .before .same-row .ensures)) ∙ not-false (c .before .same-row .result) (c .if1 .left)))
@@ -47,4 +32,4 @@ returns-2 c = let e : c .before .loop .k ≡ c .before .before .args .m = omega 
 
 pub rows-same-spec : {M : Type 1} → statement M
 rows-same-spec =
-    tie.close (tie.spec Inv-loop μ-loop loop-holds wire-at-requires wire-at-requires-2 same-row-requires returns add-k loop-less loop-again returns-2)
+    tie.close (tie.spec Inv-loop μ-loop loop-holds (λ c κs. search needs) (λ c κs. search needs) (λ c κs. search needs) returns (λ c. omega arith) (λ c. omega arith) loop-again returns-2)

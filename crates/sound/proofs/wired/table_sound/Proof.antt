@@ -7,9 +7,6 @@ use Rattle.sound.specs.Tests.{wireOk}
 use Rattle.sound.proofs.wired.table_sound.Statement.{statement}
 use Rattle.sound.proofs.wired.table_sound.Tie as tie
 
-tidy-requires : tie.Need-tidy-requires
-tidy-requires c κs = search needs
-
 returns : tie.Need-returns
 returns c = sym (wires-is _ _ ∙ rw (sym (c .before .tidy .ensures) ∙ not-true (c .before .tidy .result) (c .if1 .taken)))
 
@@ -21,4 +18,4 @@ unfolding wireOk
 returns-2 c = c .rows-ok .ensures ∙ sym (wires-is _ _ ∙ rw (sym (c .before .before .tidy .ensures) ∙ not-false (c .before .before .tidy .result) (c .before .if1 .left)))
 
 pub table-sound-spec : {M : Type 1} → statement M
-table-sound-spec = tie.close (tie.spec tidy-requires returns rows-ok-requires returns-2)
+table-sound-spec = tie.close (tie.spec (λ c κs. search needs) returns rows-ok-requires returns-2)

@@ -11,11 +11,8 @@ use Rattle.sound.proofs.wired.tidy.Tie as tie
 returns : tie.Need-returns
 returns c = sym (wires-tidy _ ∙ rw (lt-leb (c .before .args .n) rowLimit (omega arith)))
 
-unused-zero-requires : tie.Need-unused-zero-requires
-unused-zero-requires c κs = search needs
-
 returns-2 : tie.Need-returns-2
 returns-2 c = c .unused-zero .ensures ∙ sym (wires-tidy _ ∙ rw (le-leb (c .before .before .args .n) rowLimit (omega arith)))
 
 pub tidy-spec : {M : Type 1} → statement M
-tidy-spec = tie.close (tie.spec returns unused-zero-requires returns-2)
+tidy-spec = tie.close (tie.spec returns (λ c κs. search needs) returns-2)

@@ -8,23 +8,8 @@ use borrow.Author.Needs.{needs}
 use Rattle.writers.proofs.output.put_got.Statement.{statement}
 use Rattle.writers.proofs.output.put_got.Tie as tie
 
-shared-slice-read-k : tie.Need-shared-slice-read-k
-shared-slice-read-k c = search needs
-
-slice-aggregate-put-bytes : tie.Need-slice-aggregate-put-bytes
-slice-aggregate-put-bytes c = search needs
-
 put-bytes-requires : tie.Need-put-bytes-requires
 put-bytes-requires c κs = omega (arith, c .before .before .before .before .before .pre .1, got-length (c .before .before .before .before .before .args .r .now) (omega arith))
-
-sub-put-numbers : tie.Need-sub-put-numbers
-sub-put-numbers c = search needs
-
-part-put-numbers-start : tie.Need-part-put-numbers-start
-part-put-numbers-start c = search needs
-
-part-put-numbers-end : tie.Need-part-put-numbers-end
-part-put-numbers-end c = search needs
 
 put-numbers-requires : tie.Need-put-numbers-requires
 put-numbers-requires c κs = omega (arith, c .before .before .before .before .before .before .before .before .before .before .pre .1, got-length (c .before .before .before .before .before .before .before .before .before .before .args .r .now) (omega arith), c .before .before .before .before .put-bytes .ensures .0, c .before .before .before .before .put-bytes .kept .0)
@@ -32,17 +17,8 @@ put-numbers-requires c κs = omega (arith, c .before .before .before .before .be
 put-kind-requires : tie.Need-put-kind-requires
 put-kind-requires c κs = omega (arith, c .before .before .before .before .before .before .before .before .before .before .before .before .before .before .pre .1, got-length (c .before .before .before .before .before .before .before .before .before .before .before .before .before .before .args .r .now) (omega arith), c .before .before .before .before .before .before .before .before .put-bytes .ensures .0, c .before .before .before .before .before .before .before .before .put-bytes .kept .0, c .before .before .before .put-numbers .ensures .0, c .before .before .before .put-numbers .kept .0)
 
-carried-requires : tie.Need-carried-requires
-carried-requires c κs = search needs
-
 add-n : tie.Need-add-n
 add-n c = omega (arith, c .carried .ensures, carried-few (getD (c .before .before .before .before .before .before .before .before .before .before .before .before .before .before .before .before .before .before .args .r .now) 0 0))
-
-sub-put-numbers-2 : tie.Need-sub-put-numbers-2
-sub-put-numbers-2 c = omega arith
-
-part-put-numbers-start-2 : tie.Need-part-put-numbers-start-2
-part-put-numbers-start-2 c = search needs
 
 part-put-numbers-end-2 : tie.Need-part-put-numbers-end-2
 part-put-numbers-end-2 c = let h : 3 + c .before .carried .result ≤ length (c .before .before .before .before .before .before .before .before .before .before .before .before .before .before .before .before .before .before .before .args .r .now) = omega (arith, c .before .before .before .before .before .before .before .before .before .before .before .before .before .before .before .before .before .before .before .pre .0, c .before .carried .ensures, carried-few (getD (c .before .before .before .before .before .before .before .before .before .before .before .before .before .before .before .before .before .before .before .args .r .now) 0 0)) in search needs
@@ -67,6 +43,6 @@ returns c =
 
 pub put-got-spec : {M : Type 1} → statement M
 put-got-spec =
-    tie.close (tie.spec shared-slice-read-k slice-aggregate-put-bytes put-bytes-requires sub-put-numbers part-put-numbers-start part-put-numbers-end
-    put-numbers-requires put-kind-requires carried-requires add-n sub-put-numbers-2 part-put-numbers-start-2 part-put-numbers-end-2 put-numbers-requires-2
+    tie.close (tie.spec (λ c. search needs) (λ c. search needs) put-bytes-requires (λ c. search needs) (λ c. search needs) (λ c. search needs)
+    put-numbers-requires put-kind-requires (λ c κs. search needs) add-n (λ c. omega arith) (λ c. search needs) part-put-numbers-end-2 put-numbers-requires-2
     slice-write-out add-result same-length returns)

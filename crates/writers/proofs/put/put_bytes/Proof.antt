@@ -17,26 +17,11 @@ abbrev μ-loop : tie.MeasureT-loop
 loop-holds : tie.Need-loop-holds Inv-loop μ-loop
 loop-holds c = (omega arith, refl)
 
-add-j : tie.Need-add-j Inv-loop μ-loop
-add-j c = omega arith
-
-shared-slice-read-out : tie.Need-shared-slice-read-out Inv-loop μ-loop
-shared-slice-read-out c = omega arith
-
 slice-write-out : tie.Need-slice-write-out Inv-loop μ-loop
 slice-write-out c = let a = c .before .before .before .args in omega (arith, ap length (c .before .before .loop .inv .1), length-sets (a .out .now) (a .at) (take (c .before .before .loop .i) (a .w .now)))
 
-add-i : tie.Need-add-i Inv-loop μ-loop
-add-i c = omega arith
-
-loop-less : tie.Need-loop-less Inv-loop μ-loop
-loop-less c = omega arith
-
 loop-again : tie.Need-loop-again Inv-loop μ-loop
 loop-again c = let a = c .before .before .before .args in (omega arith, rw (c .before .before .loop .inv .1) (sets-more (a .out .now) (a .at) (a .w .now) (c .before .before .loop .i) (omega arith)))
-
-add-result : tie.Need-add-result Inv-loop μ-loop
-add-result c = omega arith
 
 same-length : tie.Need-same-length Inv-loop μ-loop
 same-length c = let a = c .before .before .args in ap length (c .before .loop .inv .1) ∙ length-sets (a .out .now) (a .at) (take (c .before .loop .i) (a .w .now))
@@ -46,4 +31,4 @@ returns c = let a = c .before .before .args in (omega arith, c .before .loop .in
 
 pub put-bytes-spec : {M : Type 1} → statement M
 put-bytes-spec =
-    tie.close (tie.spec Inv-loop μ-loop loop-holds add-j shared-slice-read-out slice-write-out add-i loop-less loop-again add-result same-length returns)
+    tie.close (tie.spec Inv-loop μ-loop loop-holds (λ c. omega arith) (λ c. omega arith) slice-write-out (λ c. omega arith) (λ c. omega arith) loop-again (λ c. omega arith) same-length returns)

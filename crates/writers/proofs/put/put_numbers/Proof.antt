@@ -27,12 +27,6 @@ slice-write-out c =
     let h : Put (a .out .now) (a .at) (tabbed (take (l .i) (a .xs .now))) (l .p) (l .out) = l .inv .1 in
     omega (arith, c .before .before .before .before .pre, h .0, put-length (a .out .now) (a .at) (tabbed (take (l .i) (a .xs .now))) (l .p) (l .out) h, tabbed-room (a .xs .now) (l .i) (omega arith))
 
-mul-x : tie.Need-mul-x Inv-loop μ-loop
-mul-x c = omega arith
-
-shared-slice-read-x : tie.Need-shared-slice-read-x Inv-loop μ-loop
-shared-slice-read-x c = omega arith
-
 add-put-number : tie.Need-add-put-number Inv-loop μ-loop
 add-put-number c =
     let a = c .before .before .before .before .before .before .args in let l = c .before .before .before .loop in
@@ -44,12 +38,6 @@ put-number-requires c κs =
     let a = c .before .before .before .before .before .before .args in let l = c .before .before .before .loop in
     let h : Put (a .out .now) (a .at) (tabbed (take (l .i) (a .xs .now))) (l .p) (l .out) = l .inv .1 in
     omega (arith, c .before .before .before .before .before .before .pre, h .0, length-set (l .out) (l .p) tab, put-length (a .out .now) (a .at) (tabbed (take (l .i) (a .xs .now))) (l .p) (l .out) h, tabbed-room (a .xs .now) (l .i) (omega arith))
-
-add-i : tie.Need-add-i Inv-loop μ-loop
-add-i c = omega arith
-
-loop-less : tie.Need-loop-less Inv-loop μ-loop
-loop-less c = omega arith
 
 loop-again : tie.Need-loop-again Inv-loop μ-loop
 loop-again c =
@@ -69,5 +57,5 @@ returns c =
 
 pub put-numbers-spec : {M : Type 1} → statement M
 put-numbers-spec =
-    tie.close (tie.spec Inv-loop μ-loop loop-holds slice-write-out mul-x shared-slice-read-x add-put-number put-number-requires add-i loop-less loop-again
+    tie.close (tie.spec Inv-loop μ-loop loop-holds slice-write-out (λ c. omega arith) (λ c. omega arith) add-put-number put-number-requires (λ c. omega arith) (λ c. omega arith) loop-again
     same-length returns)

@@ -1,0 +1,19 @@
+-- By what there are rows for. Assumes nothing.
+use borrow.Author.Needs.{needs}
+use Rattle.adding.proofs.turn.Statement.{statement}
+use Rattle.adding.proofs.turn.Tie as tie
+
+returns : tie.Need-returns
+returns c = rw (c .enum-told .given .1)
+
+returns-2 : tie.Need-returns-2
+returns-2 c = rw (c .enum-told2 .given .1)
+
+returns-3 : tie.Need-returns-3
+returns-3 c = rw (c .before .enum-told3 .given .1, c .turn-in .ensures)
+
+returns-4 : tie.Need-returns-4
+returns-4 c = rw (c .enum-told4 .given .1)
+
+pub turn-spec : {M : Type 1} → statement M
+turn-spec = tie.close (tie.spec (λ c. search needs) (λ c. search needs) (λ c. search needs) (λ c κs. search needs) (λ c. search needs) returns returns-2 returns-3 returns-4)

@@ -1,0 +1,50 @@
+-- What the tables of one kind answer to what they are asked. Assumes nothing.
+use mathlib.Core.Path.{_≡_}
+use Prim.Native.Nat.{ℕ, _<_, _≤_}
+use lib.Dec.{T as Holds}
+use Rattle.definition.specs.Tables.{poolLimit, rowLimit, input, sameSpan, blankSpan, used, tidy}
+use Rattle.tables.specs.Views.{spanOf, rangeOf, wireOf, poolView, rangesView, wiresView}
+use Rattle.tables.specs.Sized.{SizedRanges, SizedWires}
+use Rattle.tables.specs.declared.Pool.{Pool}
+use Rattle.tables.specs.declared.Ranges.{Ranges}
+use Rattle.tables.specs.declared.Wires.{Wires}
+use Rattle.tables.specs.declared.PoolRow.{PoolRow}
+use Rattle.insert.specs.Answers.{telling, heard, addAny, reserveAny, Told}
+use Rattle.insert.specs.declared.Reply.{Reply}
+use Rattle.adding.specs.declared.To.{To}
+use Rattle.adding.specs.declared.To.the-variants as T
+use Rattle.adding.specs.declared.Ask.{Ask}
+use Rattle.adding.specs.declared.WireAsk.{WireAsk}
+
+-- counts are within sizes, and unused rows of pools are zero
+abbrev pub Tidy : Pool → Type 0
+Tidy t = Holds (tidy poolLimit (sameSpan blankSpan) (poolView t))
+
+abbrev pub Fit : Pool → Pool → ℕ → Type 0
+Fit a f n = Tidy a × (Tidy f × (n ≤ rowLimit))
+
+-- what a pool answers
+abbrev pub Adding : Pool → PoolRow → Reply → Type 0
+Adding t r a = heard a ≡ telling (addAny (spanOf r) (used (poolView t)))
+
+-- .. and the table that is asked: of a reservation that is accepted it is known that there is room
+abbrev pub Tells : Pool → Pool → Ranges → Ask → To → Reply → Type 0
+Tells a f t k T.Nowhere r = Unit {0}
+Tells a f t k T.Automatic r = Adding a (k .range) r
+Tells a f t k T.Fixed r = Adding f (k .range) r
+Tells a f t k T.Held r = (heard r ≡ telling (reserveAny (rangeOf (k .row)) (used (rangesView t)))) × (r .number ≡ 0 → t .n < rowLimit)
+
+abbrev pub TellsWire : Pool → Pool → Wires → WireAsk → To → Reply → Type 0
+TellsWire a f t k T.Nowhere r = Unit {0}
+TellsWire a f t k T.Automatic r = Adding a (k .range) r
+TellsWire a f t k T.Fixed r = Adding f (k .range) r
+TellsWire a f t k T.Held r = Told input (wireOf (k .row)) (wiresView t) r × (r .number ≡ 0 → t .n < rowLimit)
+
+-- .. and what is seen of whole tables in memory: the columns of the reservations have their full length too
+pub record Sees (a f : Pool) (t : Ranges) (k : Ask) (r : Reply) : Type 0 where
+  pub sized : SizedRanges t
+  pub tells : Tells a f t k (k .to) r
+
+pub record SeesWire (a f : Pool) (t : Wires) (k : WireAsk) (r : Reply) : Type 0 where
+  pub sized : SizedWires t
+  pub tells : TellsWire a f t k (k .to) r

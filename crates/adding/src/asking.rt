@@ -1,0 +1,83 @@
+// What the tables of each kind are asked.
+use super::Adds;
+use super::Ask;
+use super::To;
+use super::WireAsk;
+use super::goes;
+use super::range_for;
+use tables::Kind;
+ghost use mathlib.Core.Path.{_≡_};
+ghost use Rattle.tables.specs.declared.Kind.the-variants as K;
+ghost use Rattle.adding.specs.Adds.{askOf, wireAskOf};
+
+// The tables of a kind of ranges.
+fn range(q: Adds, k: Kind) -> Ask
+    ensures { λ a. ⌜ a ≡ askOf q k ⌝ }
+{
+    let range = range_for(q, k);
+    let row = q.row;
+    let to = q.to;
+    let what = q.what;
+    if goes(what, k) {
+        return Ask { to, range, row };
+    }
+    Ask {
+        to: To::Nowhere,
+        range,
+        row,
+    }
+}
+
+// The tables of inputs.
+pub fn input(q: Adds) -> WireAsk
+    ensures { λ a. ⌜ a ≡ wireAskOf q ⌝ }
+{
+    let range = q.first;
+    let row = q.wire;
+    let to = q.to;
+    let what = q.what;
+    if goes(what, Kind::Input) {
+        return WireAsk { to, range, row };
+    }
+    WireAsk {
+        to: To::Nowhere,
+        range,
+        row,
+    }
+}
+
+pub fn mmio(q: Adds) -> Ask
+    ensures { λ a. ⌜ a ≡ askOf q K.Mmio ⌝ }
+{
+    range(q, Kind::Mmio)
+}
+
+pub fn pio(q: Adds) -> Ask
+    ensures { λ a. ⌜ a ≡ askOf q K.Pio ⌝ }
+{
+    range(q, Kind::Pio)
+}
+
+pub fn host(q: Adds) -> Ask
+    ensures { λ a. ⌜ a ≡ askOf q K.Host ⌝ }
+{
+    range(q, Kind::Host)
+}
+
+pub fn device(q: Adds) -> Ask
+    ensures { λ a. ⌜ a ≡ askOf q K.Device ⌝ }
+{
+    range(q, Kind::Device)
+}
+
+pub fn event(q: Adds) -> Ask
+    ensures { λ a. ⌜ a ≡ askOf q K.Event ⌝ }
+{
+    range(q, Kind::Event)
+}
+
+pub fn lpi(q: Adds) -> Ask
+    ensures { λ a. ⌜ a ≡ askOf q K.Lpi ⌝ }
+{
+    range(q, Kind::Lpi)
+}

@@ -1,0 +1,66 @@
+// The rows for the reservation tables: what a verdict has stored in each.
+use super::To;
+use super::Verdict;
+use super::enter::stays;
+use lent_table::store::Put;
+use lent_table::store::WirePut;
+use tables::Kind;
+ghost use mathlib.Core.Path.{_≡_};
+ghost use Rattle.tables.specs.declared.Kind.the-variants as K;
+ghost use Rattle.adding.specs.Judged.{heldPutOf, wirePutOf};
+
+// The row for a reservation table of ranges.
+fn range(v: Verdict, k: Kind) -> Put
+    ensures { λ p. ⌜ p ≡ heldPutOf v k ⌝ }
+{
+    let go = stays(v, To::Held, k);
+    let q = v.adds;
+    let row = q.row;
+    Put { go, row }
+}
+
+// .. of inputs.
+pub fn input(v: Verdict) -> WirePut
+    ensures { λ p. ⌜ p ≡ wirePutOf v ⌝ }
+{
+    let go = stays(v, To::Held, Kind::Input);
+    let q = v.adds;
+    let row = q.wire;
+    WirePut { go, row }
+}
+
+pub fn mmio(v: Verdict) -> Put
+    ensures { λ p. ⌜ p ≡ heldPutOf v K.Mmio ⌝ }
+{
+    range(v, Kind::Mmio)
+}
+
+pub fn pio(v: Verdict) -> Put
+    ensures { λ p. ⌜ p ≡ heldPutOf v K.Pio ⌝ }
+{
+    range(v, Kind::Pio)
+}
+
+pub fn host(v: Verdict) -> Put
+    ensures { λ p. ⌜ p ≡ heldPutOf v K.Host ⌝ }
+{
+    range(v, Kind::Host)
+}
+
+pub fn device(v: Verdict) -> Put
+    ensures { λ p. ⌜ p ≡ heldPutOf v K.Device ⌝ }
+{
+    range(v, Kind::Device)
+}
+
+pub fn event(v: Verdict) -> Put
+    ensures { λ p. ⌜ p ≡ heldPutOf v K.Event ⌝ }
+{
+    range(v, Kind::Event)
+}
+
+pub fn lpi(v: Verdict) -> Put
+    ensures { λ p. ⌜ p ≡ heldPutOf v K.Lpi ⌝ }
+{
+    range(v, Kind::Lpi)
+}

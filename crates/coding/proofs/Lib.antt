@@ -1,2 +1,0 @@
-pub mod NarrowLaws
-pub mod SizeLaws

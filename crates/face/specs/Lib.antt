@@ -1,5 +1,0 @@
-pub mod Face
-pub mod Rows
-pub mod Lent
-pub mod Reading
-pub mod Back

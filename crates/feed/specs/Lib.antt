@@ -1,2 +1,0 @@
-pub mod Sofar
-pub mod Step

@@ -1,0 +1,105 @@
+-- What is promised of the calls of one kind: the definition's answer on the state that has these tables and fresh ones of all other kinds. Assumes nothing.
+use mathlib.Core.Path.{_≡_}
+use mathlib.Core.Bool.{Bool, true, false}
+use mathlib.Core.List.{List, [], _∷_}
+use Prim.Native.Nat.{ℕ, _<_}
+use lib.Dec.{eqb}
+use Rattle.definition.specs.Tables.{poolLimit, rowLimit, Kind, input, nature, Span, Row, Table, used, blankSpan, blankRow}
+use Rattle.definition.specs.Base.{malformed, badInput, Said, silence, tell, Answer, accepted, refused, require}
+use Rattle.definition.specs.Pools.{Claim}
+use Rattle.definition.specs.Request.{Use, automatic, fixed, resolve}
+use Rattle.definition.specs.Request as R
+use Rattle.definition.specs.Calls.{State, state, zeros, pushAll, poolsOf, ownersOf, sound, want, serve}
+use Rattle.tables.specs.Views.{kindOf, poolView, rangesView, wiresView}
+use Rattle.table_tests.specs.Tests.{limitsOf}
+use Rattle.sound.specs.Tests.{setRanges, setWires}
+use Rattle.search.specs.Asks.{needOf}
+use Rattle.search.specs.declared.Need.{Need}
+use Rattle.choose.specs.Told.{choiceOf, refusalOf, told, chosenIn}
+use Rattle.choose.specs.Wired.{wireAsked}
+use Rattle.choose.specs.declared.Choice.{Choice}
+use Rattle.choose.specs.declared.Chosen.{Chosen}
+use Rattle.choose.specs.declared.Chosen.the-variants.{Stands, Refused}
+use Rattle.choose.specs.declared.wired.Wire.{Wire}
+use Rattle.kinds.specs.Grants.{rowGot}
+use Rattle.kinds.specs.declared.RangeTables.{RangeTables}
+use Rattle.kinds.specs.declared.RangeAnswer.{RangeAnswer}
+use Rattle.kinds.specs.declared.WireTables.{WireTables}
+use Rattle.kinds.specs.declared.WireAnswer.{WireAnswer}
+
+-- ---- a state with tables of one kind
+
+abbrev pub onlyAt : {A : Type 0} → Kind → Kind → A → A → A
+onlyAt k j a b = elim (eqb (nature k .number) (nature j .number)) [ true ↦ a | false ↦ b ]
+
+abbrev pub poolAs : Table Span → Table Span → Use → Table Span
+poolAs a f automatic = a
+poolAs a f fixed = f
+
+abbrev pub tablesAt : Kind → Table Span → Table Span → Table Row → Table Row → Said → State
+tablesAt k a f h o w =
+    state (λ u j. onlyAt k j (poolAs a f u) (zeros poolLimit blankSpan)) (λ j. onlyAt k j h (zeros rowLimit (blankRow j)))
+    (λ j. onlyAt k j o (zeros rowLimit (blankRow j))) w
+
+abbrev pub rangeState : Kind → RangeTables → Said → State
+rangeState k t w = tablesAt k (poolView (t .auto)) (poolView (t .fixed)) (rangesView (t .held)) (rangesView (t .owners)) w
+
+abbrev pub wireState : WireTables → Said → State
+wireState t w = tablesAt input (poolView (t .auto)) (poolView (t .fixed)) (wiresView (t .held)) (wiresView (t .owners)) w
+
+-- ---- the answer of a call that judges the tables of ks
+
+abbrev pub answerOf : List Kind → R.Request → State → Answer (List Claim)
+answerOf ks r v = require (sound ks v) malformed (resolve (poolsOf v) (ownersOf v) r)
+
+abbrev pub asked : ℕ → ℕ → R.Want → R.Request
+asked q s w = record { requester = q; slot = s; want = w }
+
+-- the five numbers of an answer
+abbrev pub saidBy : Chosen → Said
+saidBy (Stands b e) = silence
+saidBy (Refused y) = tell 0 (refusalOf y)
+
+-- the first number of the row that an accepted answer was granted, and its end, say which row it is
+abbrev pub rowsSaid : Answer (List Claim) → Chosen → Type 0
+rowsSaid (accepted []) c = ⊥
+rowsSaid (accepted (x ∷ cs)) c = c ≡ Stands (x .row .start) (x .row .end)
+rowsSaid (refused y) (Stands b e) = ⊥
+rowsSaid (refused y) (Refused z) = refusalOf z ≡ y
+
+pub record ServesRange (k : Kind) (t : RangeTables) (q s : ℕ) (w : R.Want) (r : RangeAnswer) : Type 0 where
+  pub tables : (i : Said) → rangeState k (r .tables) (saidBy (r .chosen)) ≡ serve (k ∷ []) (want (asked q s w)) (rangeState k t i)
+  pub answer : (i : Said) → rowsSaid (answerOf (k ∷ []) (asked q s w) (rangeState k t i)) (r .chosen)
+
+pub record ServesWire (t : WireTables) (q s : ℕ) (w : R.Want) (r : WireAnswer) : Type 0 where
+  pub tables : (i : Said) → wireState (r .tables) (saidBy (r .chosen)) ≡ serve (input ∷ []) (want (asked q s w)) (wireState t i)
+  pub answer : (i : Said) → rowsSaid (answerOf (input ∷ []) (asked q s w) (wireState t i)) (r .chosen)
+
+-- ---- the core under them
+
+pub record Sense (s a : ℕ) : Type 0 where
+  pub size : 0 < s
+  pub align : 0 < a
+
+abbrev pub Sensible : Bool → Need → Type 0
+Sensible good n = good ≡ true → Sense (n .size) (n .alignment)
+
+pub record RangeServed (t : RangeTables) (good : Bool) (n : Need) (c : Choice) (r : RangeAnswer) : Type 0 where
+  pub answer :
+      told (needOf n) (r .chosen)
+      ≡ require (setRanges (limitsOf (kindOf (n .kind))) (t .auto) (t .fixed) (t .held) (t .owners)) malformed
+      (require good badInput (chosenIn (used (poolView (t .auto))) (used (poolView (t .fixed))) (used (rangesView (t .owners))) (needOf n) (choiceOf c)))
+  pub auto : r .tables .auto ≡ t .auto
+  pub fixed : r .tables .fixed ≡ t .fixed
+  pub held : r .tables .held ≡ t .held
+  pub owners : rangesView (r .tables .owners) ≡ pushAll (rangesView (t .owners)) (rowGot (told (needOf n) (r .chosen)))
+
+pub record WireServed (t : WireTables) (good : Bool) (w : Wire) (c : Choice) (r : WireAnswer) : Type 0 where
+  pub answer :
+      told (wireAsked w) (r .chosen)
+      ≡ require (setWires (t .auto) (t .fixed) (t .held) (t .owners)) malformed
+      (require good badInput (chosenIn (used (poolView (t .auto))) (used (poolView (t .fixed))) (used (wiresView (t .owners))) (wireAsked w) (choiceOf c)))
+  pub auto : r .tables .auto ≡ t .auto
+  pub fixed : r .tables .fixed ≡ t .fixed
+  pub held : r .tables .held ≡ t .held
+  pub owners : wiresView (r .tables .owners) ≡ pushAll (wiresView (t .owners)) (rowGot (told (wireAsked w) (r .chosen)))

@@ -1,0 +1,196 @@
+// What a request is granted, with its rows recorded, over tables by value: looked at and judged as in place, then pushed. Tables are taken to be sound here.
+use choose::Choice;
+use choose::Chosen;
+use choose::wired::Wire;
+use decide::ask;
+use decide::grant;
+use decide::value;
+use lent_table::look::Ask;
+use lent_table::look::WireAsk;
+use msi::Msi;
+use msi::MsiChosen;
+use search::Need;
+use tables::Pool;
+use tables::RangeRow;
+use tables::Ranges;
+use tables::WireRow;
+use tables::Wires;
+ghost use mathlib.Core.Path.{_≡_};
+ghost use mathlib.Core.List.{[], _∷_};
+ghost use Prim.Native.Nat.{_≤_, _<_};
+ghost use Rattle.definition.specs.Tables.{poolLimit, rowLimit};
+ghost use Rattle.definition.specs.Calls.{pushAll};
+ghost use Rattle.tables.specs.Views.{rangeOf, wireOf, rangesView, wiresView};
+ghost use Rattle.search.specs.Finds.{InOrder};
+ghost use Rattle.kinds.specs.Grants.{ReadyDevice, ReadyEvent, ReadyLpi, RangeGrants, WireGrants, MsiDecides, MsiGrants};
+
+// The owner table afterwards, and what was chosen.
+pub struct RangeGrant {
+    pub owners: Ranges,
+    pub chosen: Chosen,
+}
+
+pub struct WireGrant {
+    pub owners: Wires,
+    pub chosen: Chosen,
+}
+
+pub struct MsiGrant {
+    pub devices: Ranges,
+    pub events: Ranges,
+    pub lpis: Ranges,
+    pub chosen: MsiChosen,
+}
+
+// A row more at the end of a table, as the definition has it.
+pub fn record_range(t: Ranges, r: RangeRow) -> Ranges
+    requires { ⌜ t .n < rowLimit ⌝ }
+    ensures { λ s. ⌜ rangesView s ≡ pushAll (rangesView t) (rangeOf r ∷ []) ⌝ }
+{
+    tables::push_range(t, r)
+}
+
+pub fn record_wire(t: Wires, r: WireRow) -> Wires
+    requires { ⌜ t .n < rowLimit ⌝ }
+    ensures { λ s. ⌜ wiresView s ≡ pushAll (wiresView t) (wireOf r ∷ []) ⌝ }
+{
+    tables::push_wire(t, r)
+}
+
+// A range of the need's kind, at the end of its owner table.
+pub fn grant_range(
+    owners: Ranges,
+    auto: Pool,
+    fixed: Pool,
+    need: Need,
+    choice: Choice,
+) -> RangeGrant
+    requires { ⌜ (InOrder auto) × (fixed .n ≤ poolLimit) × (owners .n ≤ rowLimit) × (0 < need .size) × (0 < need .alignment) ⌝ }
+    ensures { λ r. ⌜ RangeGrants auto fixed owners need choice r ⌝ }
+{
+    let ask = Ask {
+        go: true,
+        need,
+        choice,
+    };
+    let seen = value::see_range(auto, fixed, owners, ask);
+    let got = grant::standing(seen);
+    match got {
+        Chosen::Refused(y) => RangeGrant {
+            owners,
+            chosen: Chosen::Refused(y),
+        },
+        Chosen::Stands(b, e) => {
+            let row = grant::row(need, b, e);
+            let next = record_range(owners, row);
+            RangeGrant {
+                owners: next,
+                chosen: Chosen::Stands(b, e),
+            }
+        }
+    }
+}
+
+// An input, at the end of the owner table of inputs.
+pub fn grant_wire(owners: Wires, auto: Pool, fixed: Pool, wire: Wire, choice: Choice) -> WireGrant
+    requires { ⌜ (InOrder auto) × (fixed .n ≤ poolLimit) × (owners .n ≤ rowLimit) ⌝ }
+    ensures { λ r. ⌜ WireGrants auto fixed owners wire choice r ⌝ }
+{
+    let ask = WireAsk {
+        go: true,
+        wire,
+        choice,
+    };
+    let seen = value::see_wire(auto, fixed, owners, ask);
+    let got = grant::standing(seen);
+    match got {
+        Chosen::Refused(y) => WireGrant {
+            owners,
+            chosen: Chosen::Refused(y),
+        },
+        Chosen::Stands(b, e) => {
+            let row = WireRow {
+                controller: wire.controller,
+                input: b,
+                trigger: wire.trigger,
+                sharing: wire.sharing,
+                owner: wire.requester,
+            };
+            let next = record_wire(owners, row);
+            WireGrant {
+                owners: next,
+                chosen: Chosen::Stands(b, e),
+            }
+        }
+    }
+}
+
+// What the chain of three answers: events are looked for once the device stands, LPIs once the events do.
+pub fn choose_msi(
+    devices: Ranges,
+    events: Ranges,
+    lpis: Ranges,
+    da: Pool,
+    df: Pool,
+    ea: Pool,
+    ef: Pool,
+    la: Pool,
+    lf: Pool,
+    m: Msi,
+) -> MsiChosen
+    requires { ⌜ (ReadyDevice da (df .n) (devices .n)) × (ReadyEvent ea (ef .n) (events .n)) × (ReadyLpi la (lf .n) (lpis .n)) × (0 < m .count) ⌝ }
+    ensures { λ c. ⌜ MsiDecides devices events lpis da df ea ef la lf m c ⌝ }
+{
+    let a = ask::device_of(m);
+    let device = value::see_range(da, df, devices, a);
+    let d = device.chosen;
+    let first = msi::device(d);
+    let a = ask::event_of(m, first);
+    let event = value::see_range(ea, ef, events, a);
+    let e = event.chosen;
+    let second = msi::event(e);
+    let a = ask::lpi_of(m, second);
+    let lpi = value::see_range(la, lf, lpis, a);
+    let l = lpi.chosen;
+    let third = msi::lpi(l);
+    msi::chain(first, second, third, device.at, event.at, lpi.at)
+}
+
+// All three or none: nothing is recorded until they stand and a row is free for each.
+pub fn grant_msi(
+    devices: Ranges,
+    events: Ranges,
+    lpis: Ranges,
+    da: Pool,
+    df: Pool,
+    ea: Pool,
+    ef: Pool,
+    la: Pool,
+    lf: Pool,
+    m: Msi,
+) -> MsiGrant
+    requires { ⌜ (ReadyDevice da (df .n) (devices .n)) × (ReadyEvent ea (ef .n) (events .n)) × (ReadyLpi la (lf .n) (lpis .n)) × (0 < m .count) ⌝ }
+    ensures { λ r. ⌜ MsiGrants devices events lpis da df ea ef la lf m r ⌝ }
+{
+    let got = choose_msi(devices, events, lpis, da, df, ea, ef, la, lf, m);
+    match got {
+        MsiChosen::Refused(y) => MsiGrant {
+            devices,
+            events,
+            lpis,
+            chosen: MsiChosen::Refused(y),
+        },
+        MsiChosen::Stands(device, event, lpi) => {
+            let rows = msi::rows(m, device, event, lpi);
+            let d = record_range(devices, rows.device);
+            let e = record_range(events, rows.event);
+            let l = record_range(lpis, rows.lpi);
+            MsiGrant {
+                devices: d,
+                events: e,
+                lpis: l,
+                chosen: MsiChosen::Stands(device, event, lpi),
+            }
+        }
+    }
+}

@@ -1,0 +1,3 @@
+pub mod SizedLaws
+pub mod Item
+pub mod Walk

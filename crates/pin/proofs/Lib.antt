@@ -1,4 +1,0 @@
-pub mod PinLaws
-pub mod NarrowLaws
-pub mod ChoiceLaws
-pub mod BackLaws

@@ -1,3 +1,0 @@
-pub mod PutLaws
-pub mod StepLaws
-pub mod PlanLaws

@@ -1,0 +1,21 @@
+-- Two counts, capped by the size, then row by row. Assumes nothing.
+use Prim.Native.Nat.{min}
+use borrow.Author.Needs.{needs}
+use borrow.Author.Tests.{le-leb, lt-leb}
+use mathlib.Core.Path.{_∙_, sym}
+use native.Mathlib.Omega.{arith}
+use Rattle.definition.specs.Tables.{rowLimit}
+use Rattle.table_tests.proofs.BeginLaws.{ranges-begin-is}
+use Rattle.tables.specs.Views.{ranges}
+use Rattle.table_tests.proofs.range.begins_with.Statement.{statement}
+use Rattle.table_tests.proofs.range.begins_with.Tie as tie
+
+returns : tie.Need-returns
+returns c = let a = c .before .before .before .args in sym (ranges-begin-is (ranges (a .m) (a .controller .now) (a .its .now) (a .device .now) (a .start .now) (a .end .now) (a .owner .now)) (ranges (a .n) (a .controller2 .now) (a .its2 .now) (a .device2 .now) (a .start2 .now) (a .end2 .now) (a .owner2 .now)) ∙ rw (lt-leb (min (a .m) rowLimit) (min (a .n) rowLimit) (omega arith)))
+
+returns-2 : tie.Need-returns-2
+returns-2 c = let a = c .before .before .before .before .args in rw (c .before .before .before .capped .ensures) at (c .rows-same .ensures) ∙ sym (ranges-begin-is (ranges (a .m) (a .controller .now) (a .its .now) (a .device .now) (a .start .now) (a .end .now) (a .owner .now)) (ranges (a .n) (a .controller2 .now) (a .its2 .now) (a .device2 .now) (a .start2 .now) (a .end2 .now) (a .owner2 .now)) ∙ rw (le-leb (min (a .m) rowLimit) (min (a .n) rowLimit) (omega arith)))
+
+pub begins-with-spec : {M : Type 1} → statement M
+begins-with-spec =
+    tie.close (tie.spec (λ c κs. search needs) (λ c κs. search needs) returns (λ c κs. omega arith) returns-2)

@@ -1,0 +1,35 @@
+-- The loop keeps that each row passed is the same in both tables. Assumes nothing.
+use Prim.Native.Nat.{_-_, _≤_}
+use borrow.Author.Needs.{needs}
+use borrow.Author.Tests.{not-false, not-true}
+use mathlib.Core.Bool.{true}
+use mathlib.Core.Path.{_∙_, _≡_, sym}
+use native.Mathlib.Omega.{arith}
+use Rattle.definition.specs.Tables.{sameRow}
+use Rattle.tables.proofs.BelowLaws.{all-more, all-start, all-stop}
+use Rattle.tables.specs.Below.{allBelow}
+use Rattle.tables.specs.Views.{rangeAt, rangeOf, ranges}
+use Rattle.table_tests.proofs.range.rows_same.Statement.{statement}
+use Rattle.table_tests.proofs.range.rows_same.Tie as tie
+
+abbrev Inv-loop : tie.InvT-loop
+Inv-loop m controller its device start end owner controller2 its2 device2 start2 end2 owner2 k₀ k = (k ≤ m) × (allBelow (λ j. sameRow (rangeOf (rangeAt (ranges 0 controller its device start end owner) j)) (rangeOf (rangeAt (ranges 0 controller2 its2 device2 start2 end2 owner2) j))) k ≡ true)
+
+abbrev μ-loop : tie.MeasureT-loop
+μ-loop m controller its device start end owner controller2 its2 device2 start2 end2 owner2 k₀ k = m - k
+
+loop-holds : tie.Need-loop-holds Inv-loop μ-loop
+loop-holds c = (omega arith, all-start _)
+
+returns : tie.Need-returns Inv-loop μ-loop
+returns c = sym (all-stop _ _ _ (sym (rw (c .before .before .before .range-at .ensures, c .before .before .range-at2 .ensures) at (c .before .same-row .ensures)) ∙ not-true (c .before .same-row .result) (c .if1 .taken)) (omega arith))
+
+loop-again : tie.Need-loop-again Inv-loop μ-loop
+loop-again c = (omega arith, all-more _ _ (c .before .before .before .before .before .loop .inv .1) (sym (rw (c .before .before .before .range-at .ensures, c .before .before .range-at2 .ensures) at (c .before .same-row .ensures)) ∙ not-false (c .before .same-row .result) (c .if1 .left)))
+
+returns-2 : tie.Need-returns-2 Inv-loop μ-loop
+returns-2 c = let e : c .before .loop .k ≡ c .before .before .args .m = omega arith in sym (rw e at (c .before .loop .inv .1))
+
+pub rows-same-spec : {M : Type 1} → statement M
+rows-same-spec =
+    tie.close (tie.spec Inv-loop μ-loop loop-holds (λ c κs. search needs) (λ c κs. search needs) (λ c κs. search needs) returns (λ c. omega arith) (λ c. omega arith) loop-again returns-2)

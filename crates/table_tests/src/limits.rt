@@ -1,0 +1,109 @@
+// What the rows of a kind keep to.
+use tables::ROWS;
+ghost use mathlib.Core.Path.{_≡_};
+ghost use Prim.Native.Nat.{min, max};
+ghost use Rattle.definition.specs.Tables.{rowLimit, mmio, pio, input, host, device, event, lpi};
+ghost use Rattle.table_tests.specs.Tests.{limitsOf};
+
+// The largest number of a kind's width, and of each number of its domain: 0 where the kind does not use it.
+pub struct Limits {
+    pub top: u64,
+    pub controller: u32,
+    pub its: u32,
+    pub device: u32,
+}
+
+const TOP_64: u64 = 18446744073709551615;
+
+const TOP_32: u32 = 4294967295;
+
+pub fn mmio_limits() -> Limits
+    ensures { λ r. ⌜ r ≡ limitsOf mmio ⌝ }
+{
+    Limits {
+        top: TOP_64,
+        controller: 0,
+        its: 0,
+        device: 0,
+    }
+}
+
+pub fn pio_limits() -> Limits
+    ensures { λ r. ⌜ r ≡ limitsOf pio ⌝ }
+{
+    Limits {
+        top: 65535,
+        controller: 0,
+        its: 0,
+        device: 0,
+    }
+}
+
+pub fn input_limits() -> Limits
+    ensures { λ r. ⌜ r ≡ limitsOf input ⌝ }
+{
+    Limits {
+        top: TOP_64,
+        controller: TOP_32,
+        its: 0,
+        device: 0,
+    }
+}
+
+pub fn host_limits() -> Limits
+    ensures { λ r. ⌜ r ≡ limitsOf host ⌝ }
+{
+    Limits {
+        top: TOP_64,
+        controller: 0,
+        its: 0,
+        device: 0,
+    }
+}
+
+pub fn device_limits() -> Limits
+    ensures { λ r. ⌜ r ≡ limitsOf device ⌝ }
+{
+    Limits {
+        top: 4294967295,
+        controller: TOP_32,
+        its: TOP_32,
+        device: 0,
+    }
+}
+
+pub fn event_limits() -> Limits
+    ensures { λ r. ⌜ r ≡ limitsOf event ⌝ }
+{
+    Limits {
+        top: 4294967295,
+        controller: TOP_32,
+        its: TOP_32,
+        device: TOP_32,
+    }
+}
+
+pub fn lpi_limits() -> Limits
+    ensures { λ r. ⌜ r ≡ limitsOf lpi ⌝ }
+{
+    Limits {
+        top: 4294967295,
+        controller: TOP_32,
+        its: 0,
+        device: 0,
+    }
+}
+
+// A count, or the number of rows where that is less: the rows that a table has under a count that is too high.
+pub fn capped(n: usize) -> usize
+    ensures { λ r. ⌜ r ≡ min n rowLimit ⌝ }
+{
+    if ROWS < n { ROWS } else { n }
+}
+
+// The higher of two numbers.
+pub fn higher(a: u64, b: u64) -> u64
+    ensures { λ r. ⌜ r ≡ max a b ⌝ }
+{
+    if a < b { b } else { a }
+}
