@@ -14,7 +14,7 @@ ghost use Rattle.decide.specs.Kept.{AllFree, Finds, kept, answer};
 
 pub mod marks;
 
-// What the request is granted, and where its rows go. Only the tables that it asks are looked into: what an idle look costs, six times over, is as much as a whole request.
+// What the request is granted, and where its rows go. Only the tables that it asks are looked into: the idle looks into the others would be a third of a request.
 pub fn find(s: &State, r: Request) -> Granted
     requires { ⌜ T (sound kinds (stateView (now s))) ⌝ }
     ensures { λ g. ⌜ Finds (now (s .entry)) (requestOf r) g ⌝ }
