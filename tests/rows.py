@@ -33,13 +33,13 @@ KINDS = range(1, 8)
 # columns by number, from 1: a pool's, a range table's, an input table's
 POOL_COLUMNS = ["controller", "its", "start", "end"]
 RANGE_COLUMNS = ["controller", "its", "device", "start", "end", "owner"]
-WIRE_COLUMNS = ["controller", "input", "trigger", "sharing", "owner"]
+INPUT_COLUMNS = ["controller", "input", "trigger", "sharing", "owner"]
 
 
 def columns(table, kind):
     if table < 2:
         return POOL_COLUMNS
-    return WIRE_COLUMNS if kind == 3 else RANGE_COLUMNS
+    return INPUT_COLUMNS if kind == 3 else RANGE_COLUMNS
 
 
 class Table:
@@ -176,11 +176,11 @@ class State:
         if not self.given():
             return self.say(1)
         rng = lambda c, i, d, s, e: dict(controller=c, its=i, device=d, start=s, end=e, owner=owner)
-        wire = lambda c, n, t, s: dict(controller=c, input=n, trigger=t, sharing=s, owner=owner)
+        one = lambda c, n, t, s: dict(controller=c, input=n, trigger=t, sharing=s, owner=owner)
         if k in (1, 2, 4):
             rows = [(k, rng(0, 0, 0, x[0], x[1]))]
         elif k == 3:
-            rows = [(3, wire(*x[:4]))]
+            rows = [(3, one(*x[:4]))]
         elif k == 5:
             rows = [(5, rng(x[0], x[1], 0, x[2], x[3]))]
         elif k == 6:
@@ -188,7 +188,7 @@ class State:
         elif k == 7:
             rows = [(7, rng(x[0], 0, 0, x[1], x[2]))]
         else:
-            rows = [(3, wire(x[0], x[1], x[2], 0)), (4, rng(0, 0, 0, x[3], x[3] + 1))]
+            rows = [(3, one(x[0], x[1], x[2], 0)), (4, rng(0, 0, 0, x[3], x[3] + 1))]
         for kind, r in rows:
             if kind == 3 and (r["trigger"] > 3 or r["sharing"] > 1):
                 return self.say(2)

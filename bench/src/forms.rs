@@ -1,7 +1,7 @@
 // 01's forms by value, which nothing that ships leans on: one request over the whole state, and over the tables of its kind.
 
 use crate::face::Flat;
-use crate::tables::{MsiSet, Ranges, Set, State, Wires};
+use crate::tables::{MsiSet, Ranges, Set, State, Inputs};
 
 mod symbols {
     use super::*;
@@ -11,7 +11,7 @@ mod symbols {
         pub fn timed_allocate(state: *mut State, request: *const u64, n: usize);
         pub fn timed_mmio(tables: *mut Set<Ranges>, request: *const u64, n: usize);
         pub fn timed_pio(tables: *mut Set<Ranges>, request: *const u64, n: usize);
-        pub fn timed_input(tables: *mut Set<Wires>, request: *const u64, n: usize);
+        pub fn timed_input(tables: *mut Set<Inputs>, request: *const u64, n: usize);
         pub fn timed_host(tables: *mut Set<Ranges>, request: *const u64, n: usize);
         pub fn timed_msi(tables: *mut MsiSet, request: *const u64, n: usize);
     }
@@ -21,7 +21,7 @@ mod symbols {
 pub enum OfKind {
     Mmio(Set<Ranges>),
     Pio(Set<Ranges>),
-    Input(Set<Wires>),
+    Input(Set<Inputs>),
     Host(Set<Ranges>),
     Msi(MsiSet),
 }

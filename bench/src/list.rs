@@ -24,8 +24,8 @@ pub enum Id {
 pub enum Want {
     Mmio { size: u64, alignment: u64, choice: Choice },
     Pio { size: u64, alignment: u64, choice: Choice },
-    WiredIrq { controller: u32, trigger: u32, sharing: u32, choice: Choice },
-    HostIrq { choice: Choice },
+    Input { controller: u32, trigger: u32, sharing: u32, choice: Choice },
+    Host { choice: Choice },
     Msi { controller: u32, its: u32, count: u32, device: Id, event: Id, lpi: Id },
 }
 
@@ -45,9 +45,9 @@ impl Request {
                 Want::Pio { size: size.into(), alignment: alignment.into(), choice: choice(base) }
             }
             Need::Input { controller, trigger, sharing, input } => {
-                Want::WiredIrq { controller, trigger, sharing, choice: choice(input) }
+                Want::Input { controller, trigger, sharing, choice: choice(input) }
             }
-            Need::Host { irq } => Want::HostIrq { choice: choice(irq) },
+            Need::Host { irq } => Want::Host { choice: choice(irq) },
             Need::Msi { controller, its, count, device, event, lpi } => {
                 Want::Msi { controller, its, count, device: id(device), event: id(event), lpi: id(lpi) }
             }

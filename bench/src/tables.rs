@@ -27,7 +27,7 @@ pub struct Ranges {
 
 #[repr(C)]
 #[derive(Clone, Copy, PartialEq)]
-pub struct Wires {
+pub struct Inputs {
     pub n: usize,
     pub controller: [u32; ROWS],
     pub input: [u64; ROWS],
@@ -53,7 +53,7 @@ pub struct Pools {
 pub struct Holders {
     pub mmio: Ranges,
     pub pio: Ranges,
-    pub input: Wires,
+    pub input: Inputs,
     pub host: Ranges,
     pub device: Ranges,
     pub event: Ranges,
@@ -116,7 +116,7 @@ impl State {
         Set { auto: self.auto.pio, fixed: self.fixed.pio, held: self.held.pio, owners: self.owners.pio }
     }
 
-    pub fn input(&self) -> Set<Wires> {
+    pub fn input(&self) -> Set<Inputs> {
         Set { auto: self.auto.input, fixed: self.fixed.input, held: self.held.input, owners: self.owners.input }
     }
 
@@ -152,7 +152,7 @@ fn holders(tables: &Tables, place: Place) -> Holders {
     Holders {
         mmio: of(Kind::Mmio),
         pio: of(Kind::Pio),
-        input: wires(tables.of(place, Kind::Input)),
+        input: inputs(tables.of(place, Kind::Input)),
         host: of(Kind::Host),
         device: of(Kind::Device),
         event: of(Kind::Event),
@@ -182,8 +182,8 @@ fn ranges(rows: &[Row]) -> Ranges {
     }
 }
 
-fn wires(rows: &[Row]) -> Wires {
-    Wires {
+fn inputs(rows: &[Row]) -> Inputs {
+    Inputs {
         n: rows.len(),
         controller: column(rows, |row| row.domain[0]),
         input: column(rows, |row| row.start),

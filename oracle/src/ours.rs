@@ -34,7 +34,7 @@ struct Ranges {
 
 /// A table of reserved or owned inputs.
 #[repr(C)]
-struct Wires {
+struct Inputs {
     n: u64,
     controller: [u32; ROWS],
     input: [u64; ROWS],
@@ -47,7 +47,7 @@ struct Wires {
 struct Holders {
     mmio: Ranges,
     pio: Ranges,
-    input: Wires,
+    input: Inputs,
     host: Ranges,
     device: Ranges,
     event: Ranges,
@@ -278,7 +278,7 @@ fn range_rows(table: &Ranges) -> Vec<Row> {
     })
 }
 
-fn wire_rows(table: &Wires) -> Vec<Row> {
+fn input_rows(table: &Inputs) -> Vec<Row> {
     let used = (table.n as usize).min(ROWS);
     let zero = zeros(&table.controller[used..])
         && zeros(&table.input[used..])
@@ -299,7 +299,7 @@ fn holder_rows(holders: &Holders) -> [Vec<Row>; 7] {
     [
         range_rows(&holders.mmio),
         range_rows(&holders.pio),
-        wire_rows(&holders.input),
+        input_rows(&holders.input),
         range_rows(&holders.host),
         range_rows(&holders.device),
         range_rows(&holders.event),

@@ -8,7 +8,7 @@ use Rattle.definition.specs.Tables.{top, nature, fits, fitsSpan, Span}
 use Rattle.definition.specs.Pools.{In, Claim, spans, heldRows}
 use Rattle.tables.specs.declared.PoolRow.{PoolRow}
 use Rattle.tables.specs.declared.RangeRow.{RangeRow}
-use Rattle.tables.specs.declared.WireRow.{WireRow}
+use Rattle.tables.specs.declared.InputRow.{InputRow}
 use Rattle.request.specs.Calls.{poolCall, holdCall}
 use Rattle.request.specs.declared.call.Use.{Use}
 use Rattle.request.specs.declared.call.Use.the-variants as U
@@ -18,7 +18,7 @@ use Rattle.request.specs.declared.call.Hold.{Hold}
 use Rattle.request.specs.declared.call.Hold.the-variants as H
 use Rattle.request.specs.declared.call.Call.{Call}
 use Rattle.request.specs.declared.call.Call.the-variants as C
-use Rattle.adding.specs.Rows.{poolRow, heldRow, wireRow, noPoolRow, noRow, noWire}
+use Rattle.adding.specs.Rows.{poolRow, heldRow, inputRow, noPoolRow, noRow, noInput}
 use Rattle.tables.specs.Views.{sameOf}
 use Rattle.tables.specs.declared.Kind.{Kind}
 use Rattle.tables.specs.declared.Kind.the-variants as K
@@ -28,7 +28,7 @@ use Rattle.adding.specs.declared.What.{What}
 use Rattle.adding.specs.declared.What.the-variants as W
 use Rattle.adding.specs.declared.Adds.{Adds}
 use Rattle.adding.specs.declared.Ask.{Ask}
-use Rattle.adding.specs.declared.WireAsk.{WireAsk}
+use Rattle.adding.specs.declared.InputAsk.{InputAsk}
 
 -- one of two
 abbrev pub pick : {A : Type 0} → Bool → A → A → A
@@ -38,10 +38,10 @@ pick false a b = b
 -- ---- calls
 
 abbrev pub ranged : To → What → PoolRow → PoolRow → PoolRow → Adds
-ranged to k a b c = record { to = to; what = k; first = a; second = b; third = c; row = noRow; wire = noWire }
+ranged to k a b c = record { to = to; what = k; first = a; second = b; third = c; row = noRow; input = noInput }
 
-abbrev pub held : What → RangeRow → WireRow → Adds
-held k r w = record { to = T.Held; what = k; first = noPoolRow; second = noPoolRow; third = noPoolRow; row = r; wire = w }
+abbrev pub held : What → RangeRow → InputRow → Adds
+held k r w = record { to = T.Held; what = k; first = noPoolRow; second = noPoolRow; third = noPoolRow; row = r; input = w }
 
 abbrev pub useTo : Use → To
 useTo U.Automatic = T.Automatic
@@ -58,14 +58,14 @@ poolAdds to (P.Input c s e) = once to (W.One K.Input) (poolRow c 0 s e)
 poolAdds to (P.Msi c i d e l) = ranged to W.Domain (poolRow c i (d .start .0) (d .end .0)) (poolRow c i (e .start .0) (e .end .0)) (poolRow c 0 (l .start .0) (l .end .0))
 
 abbrev pub holdAdds : ℕ → Hold → Adds
-holdAdds o (H.Mmio s e) = held (W.One K.Mmio) (heldRow 0 0 0 s e o) noWire
-holdAdds o (H.Pio s e) = held (W.One K.Pio) (heldRow 0 0 0 s e o) noWire
-holdAdds o (H.Host s e) = held (W.One K.Host) (heldRow 0 0 0 s e o) noWire
-holdAdds o (H.Input c n t s) = held (W.One K.Input) noRow (wireRow c n t s o)
-holdAdds o (H.Devices c i d) = held (W.One K.Device) (heldRow c i 0 (d .start .0) (d .end .0) o) noWire
-holdAdds o (H.Events c i v e) = held (W.One K.Event) (heldRow c i (v .0) (e .start .0) (e .end .0) o) noWire
-holdAdds o (H.Lpis c l) = held (W.One K.Lpi) (heldRow c 0 0 (l .start .0) (l .end .0) o) noWire
-holdAdds o (H.Pair c n t h) = held W.Pair (heldRow 0 0 0 h (min (suc h) (top 64)) o) (wireRow c n t 0 o)
+holdAdds o (H.Mmio s e) = held (W.One K.Mmio) (heldRow 0 0 0 s e o) noInput
+holdAdds o (H.Pio s e) = held (W.One K.Pio) (heldRow 0 0 0 s e o) noInput
+holdAdds o (H.Host s e) = held (W.One K.Host) (heldRow 0 0 0 s e o) noInput
+holdAdds o (H.Input c n t s) = held (W.One K.Input) noRow (inputRow c n t s o)
+holdAdds o (H.Devices c i d) = held (W.One K.Device) (heldRow c i 0 (d .start .0) (d .end .0) o) noInput
+holdAdds o (H.Events c i v e) = held (W.One K.Event) (heldRow c i (v .0) (e .start .0) (e .end .0) o) noInput
+holdAdds o (H.Lpis c l) = held (W.One K.Lpi) (heldRow c 0 0 (l .start .0) (l .end .0) o) noInput
+holdAdds o (H.Pair c n t h) = held W.Pair (heldRow 0 0 0 h (min (suc h) (top 64)) o) (inputRow c n t 0 o)
 
 abbrev pub nothing : Adds
 nothing = once T.Nowhere W.Nothing noPoolRow
@@ -179,5 +179,5 @@ sent q k = pick (goesTo (q .what) k) (q .to) T.Nowhere
 abbrev pub askOf : Adds → Kind → Ask
 askOf q k = record { to = sent q k; range = rangeFor q k; row = q .row }
 
-abbrev pub wireAskOf : Adds → WireAsk
-wireAskOf q = record { to = sent q K.Input; range = q .first; row = q .wire }
+abbrev pub inputAskOf : Adds → InputAsk
+inputAskOf q = record { to = sent q K.Input; range = q .first; row = q .input }

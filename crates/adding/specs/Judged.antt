@@ -8,7 +8,7 @@ use Rattle.tables.specs.Views.{spanOf}
 use Rattle.insert.specs.Answers.{storedOr, addAny, earlierOf}
 use Rattle.insert.specs.declared.Reply.{Reply}
 use Rattle.lent_table.specs.declared.store.Put.{Put}
-use Rattle.lent_table.specs.declared.store.WirePut.{WirePut}
+use Rattle.lent_table.specs.declared.store.InputPut.{InputPut}
 use Rattle.adding.specs.Adds.{pick, goesTo, turnOf, rangeFor}
 use Rattle.tables.specs.declared.Kind.{Kind}
 use Rattle.tables.specs.declared.Kind.the-variants as K
@@ -73,8 +73,8 @@ poolPutOf v to k = record { go = staysOf v to k; row = rangeFor (v .adds) k }
 abbrev pub heldPutOf : Verdict → Kind → Put
 heldPutOf v k = record { go = staysOf v T.Held k; row = v .adds .row }
 
-abbrev pub wirePutOf : Verdict → WirePut
-wirePutOf v = record { go = staysOf v T.Held K.Input; row = v .adds .wire }
+abbrev pub inputPutOf : Verdict → InputPut
+inputPutOf v = record { go = staysOf v T.Held K.Input; row = v .adds .input }
 
 -- a pool table with the range, or as it was
 abbrev pub enteredView : PoolPut → Table Span → Table Span

@@ -4,7 +4,7 @@ use Prim.Native.Nat.{ℕ, _≤_}
 use Rattle.definition.specs.Tables.{top}
 use Rattle.tables.specs.declared.PoolRow.{PoolRow}
 use Rattle.tables.specs.declared.RangeRow.{RangeRow}
-use Rattle.tables.specs.declared.WireRow.{WireRow}
+use Rattle.tables.specs.declared.InputRow.{InputRow}
 
 abbrev pub poolRow : ℕ → ℕ → ℕ → ℕ → PoolRow
 poolRow c i s e = record { controller = c; its = i; start = s; end = e }
@@ -12,8 +12,8 @@ poolRow c i s e = record { controller = c; its = i; start = s; end = e }
 abbrev pub heldRow : ℕ → ℕ → ℕ → ℕ → ℕ → ℕ → RangeRow
 heldRow c i d s e o = record { controller = c; its = i; device = d; start = s; end = e; owner = o }
 
-abbrev pub wireRow : ℕ → ℕ → ℕ → ℕ → ℕ → WireRow
-wireRow c x t s o = record { controller = c; input = x; trigger = t; sharing = s; owner = o }
+abbrev pub inputRow : ℕ → ℕ → ℕ → ℕ → ℕ → InputRow
+inputRow c x t s o = record { controller = c; input = x; trigger = t; sharing = s; owner = o }
 
 abbrev pub noPoolRow : PoolRow
 noPoolRow = poolRow 0 0 0 0
@@ -21,8 +21,8 @@ noPoolRow = poolRow 0 0 0 0
 abbrev pub noRow : RangeRow
 noRow = heldRow 0 0 0 0 0 0
 
-abbrev pub noWire : WireRow
-noWire = wireRow 0 0 0 0 0
+abbrev pub noInput : InputRow
+noInput = inputRow 0 0 0 0 0
 
 pub record IsPoolRow (c i s e : ℕ) (r : PoolRow) : Type 0 where
   pub is : r ≡ poolRow c i s e

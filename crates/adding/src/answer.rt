@@ -1,16 +1,16 @@
 // What the tables of one kind answer, read through references.
 use super::Ask;
+use super::InputAsk;
 use super::To;
-use super::WireAsk;
 use super::plain;
 use insert::Reply;
+use tables::Inputs;
 use tables::POOL_ROWS;
 use tables::Pool;
 use tables::ROWS;
 use tables::Ranges;
-use tables::Wires;
-ghost use Rattle.tables.specs.Views.{pool, ranges, wires};
-ghost use Rattle.adding.specs.Looks.{Fit, Tells, TellsWire, Sees, SeesWire};
+ghost use Rattle.tables.specs.Views.{pool, ranges, inputs};
+ghost use Rattle.adding.specs.Looks.{Fit, Tells, TellsInput, Sees, SeesInput};
 
 pub fn range_columns<'a>(
     pc: &'a [u32; POOL_ROWS],
@@ -46,7 +46,7 @@ pub fn range_columns<'a>(
     }
 }
 
-pub fn wire_columns<'a>(
+pub fn input_columns<'a>(
     pc: &'a [u32; POOL_ROWS],
     pi: &'a [u32; POOL_ROWS],
     ps: &'a [u64; POOL_ROWS],
@@ -63,10 +63,10 @@ pub fn wire_columns<'a>(
     hs: &'a [u32; ROWS],
     ho: &'a [u32; ROWS],
     hn: &'a usize,
-    ask: WireAsk,
+    ask: InputAsk,
 ) -> Reply
     requires { ⌜ Fit (pool (now pn) (now pc) (now pi) (now ps) (now pe)) (pool (now nf) (now fc) (now fi) (now fs) (now fe)) (now hn) ⌝ }
-    ensures { λ r. ⌜ TellsWire (pool (now (pn .entry)) (now (pc .entry)) (now (pi .entry)) (now (ps .entry)) (now (pe .entry))) (pool (now (nf .entry)) (now (fc .entry)) (now (fi .entry)) (now (fs .entry)) (now (fe .entry))) (wires (now (hn .entry)) (now (hc .entry)) (now (hx .entry)) (now (ht .entry)) (now (hs .entry)) (now (ho .entry))) ask (ask .to) r ⌝ }
+    ensures { λ r. ⌜ TellsInput (pool (now (pn .entry)) (now (pc .entry)) (now (pi .entry)) (now (ps .entry)) (now (pe .entry))) (pool (now (nf .entry)) (now (fc .entry)) (now (fi .entry)) (now (fs .entry)) (now (fe .entry))) (inputs (now (hn .entry)) (now (hc .entry)) (now (hx .entry)) (now (ht .entry)) (now (hs .entry)) (now (ho .entry))) ask (ask .to) r ⌝ }
 {
     let range = ask.range;
     let row = ask.row;
@@ -107,11 +107,11 @@ pub fn range<'a>(auto: &'a Pool, fixed: &'a Pool, held: &'a Ranges, ask: Ask) ->
 }
 
 // .. those of inputs.
-pub fn wire<'a>(auto: &'a Pool, fixed: &'a Pool, held: &'a Wires, ask: WireAsk) -> Reply
+pub fn input<'a>(auto: &'a Pool, fixed: &'a Pool, held: &'a Inputs, ask: InputAsk) -> Reply
     requires { ⌜ Fit (now auto) (now fixed) (now held .n) ⌝ }
-    ensures { λ r. ⌜ SeesWire (now (auto .entry)) (now (fixed .entry)) (now (held .entry)) ask r ⌝ }
+    ensures { λ r. ⌜ SeesInput (now (auto .entry)) (now (fixed .entry)) (now (held .entry)) ask r ⌝ }
 {
-    wire_columns(
+    input_columns(
         &auto.controller,
         &auto.its,
         &auto.start,

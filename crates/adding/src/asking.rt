@@ -1,14 +1,14 @@
 // What the tables of each kind are asked.
 use super::Adds;
 use super::Ask;
+use super::InputAsk;
 use super::To;
-use super::WireAsk;
 use super::goes;
 use super::range_for;
 use tables::Kind;
 ghost use mathlib.Core.Path.{_≡_};
 ghost use Rattle.tables.specs.declared.Kind.the-variants as K;
-ghost use Rattle.adding.specs.Adds.{askOf, wireAskOf};
+ghost use Rattle.adding.specs.Adds.{askOf, inputAskOf};
 
 // The tables of a kind of ranges.
 fn range(q: Adds, k: Kind) -> Ask
@@ -29,17 +29,17 @@ fn range(q: Adds, k: Kind) -> Ask
 }
 
 // The tables of inputs.
-pub fn input(q: Adds) -> WireAsk
-    ensures { λ a. ⌜ a ≡ wireAskOf q ⌝ }
+pub fn input(q: Adds) -> InputAsk
+    ensures { λ a. ⌜ a ≡ inputAskOf q ⌝ }
 {
     let range = q.first;
-    let row = q.wire;
+    let row = q.input;
     let to = q.to;
     let what = q.what;
     if goes(what, Kind::Input) {
-        return WireAsk { to, range, row };
+        return InputAsk { to, range, row };
     }
-    WireAsk {
+    InputAsk {
         to: To::Nowhere,
         range,
         row,

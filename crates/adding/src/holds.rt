@@ -11,12 +11,12 @@ use request::call::Events;
 use request::call::Hold;
 use request::call::Lpis;
 use tables::DeviceId;
+use tables::InputRow;
 use tables::Kind;
 use tables::RangeRow;
-use tables::WireRow;
 ghost use mathlib.Core.Path.{_≡_};
 ghost use Rattle.request.specs.declared.call.Hold.the-variants.{Devices as devicesHeld, Events as eventsHeld, Lpis as lpisHeld, Pair as pairHeld};
-ghost use Rattle.adding.specs.Rows.{IsRangeRow, wireRow, noRow};
+ghost use Rattle.adding.specs.Rows.{IsRangeRow, inputRow, noRow};
 ghost use Rattle.adding.specs.Adds.{held, HoldAsked};
 
 // A row of the numbers given.
@@ -47,10 +47,10 @@ pub fn no_row() -> RangeRow
 }
 
 // A row of an input.
-pub fn wire(controller: u32, input: u64, trigger: u32, sharing: u32, owner: u32) -> WireRow
-    ensures { λ r. ⌜ r ≡ wireRow controller input trigger sharing owner ⌝ }
+pub fn input_row(controller: u32, input: u64, trigger: u32, sharing: u32, owner: u32) -> InputRow
+    ensures { λ r. ⌜ r ≡ inputRow controller input trigger sharing owner ⌝ }
 {
-    WireRow {
+    InputRow {
         controller: controller,
         input: input,
         trigger: trigger,
@@ -60,7 +60,7 @@ pub fn wire(controller: u32, input: u64, trigger: u32, sharing: u32, owner: u32)
 }
 
 // Rows for the reservations: a range, an input, or one of each.
-fn rows(what: What, row: RangeRow, input: WireRow) -> Adds
+fn rows(what: What, row: RangeRow, input: InputRow) -> Adds
     ensures { λ q. ⌜ q ≡ held what row input ⌝ }
 {
     let none = no_pool_row();
@@ -71,7 +71,7 @@ fn rows(what: What, row: RangeRow, input: WireRow) -> Adds
         second: none,
         third: none,
         row,
-        wire: input,
+        input,
     }
 }
 
@@ -87,7 +87,7 @@ fn of_devices(owner: u32, controller: u32, its: u32, ids: Devices) -> Adds
         wide(ids.end.0),
         owner,
     );
-    rows(What::One(Kind::Device), r, wire(0, 0, 0, 0, 0))
+    rows(What::One(Kind::Device), r, input_row(0, 0, 0, 0, 0))
 }
 
 // A range of EventIDs of one DeviceID.
@@ -102,7 +102,7 @@ fn of_events(owner: u32, controller: u32, its: u32, id: DeviceId, ids: Events) -
         wide(ids.end.0),
         owner,
     );
-    rows(What::One(Kind::Event), r, wire(0, 0, 0, 0, 0))
+    rows(What::One(Kind::Event), r, input_row(0, 0, 0, 0, 0))
 }
 
 // A range of LPIs of one controller.
@@ -110,7 +110,7 @@ fn of_lpis(owner: u32, controller: u32, ids: Lpis) -> Adds
     ensures { λ q. ⌜ HoldAsked owner (lpisHeld controller ids) q ⌝ }
 {
     let r = row(controller, 0, 0, wide(ids.start.0), wide(ids.end.0), owner);
-    rows(What::One(Kind::Lpi), r, wire(0, 0, 0, 0, 0))
+    rows(What::One(Kind::Lpi), r, input_row(0, 0, 0, 0, 0))
 }
 
 // An input, Exclusive, with a host IRQ.
@@ -118,7 +118,11 @@ fn of_pair(owner: u32, controller: u32, input: u64, trigger: u32, irq: u64) -> A
     ensures { λ q. ⌜ HoldAsked owner (pairHeld controller input trigger irq) q ⌝ }
 {
     let r = row(0, 0, 0, irq, past(irq), owner);
-    rows(What::Pair, r, wire(controller, input, trigger, 0, owner))
+    rows(
+        What::Pair,
+        r,
+        input_row(controller, input, trigger, 0, owner),
+    )
 }
 
 // Something held by an owner.
@@ -129,22 +133,22 @@ pub fn of_hold(owner: u32, h: Hold) -> Adds
         Hold::Mmio(a, b) => rows(
             What::One(Kind::Mmio),
             row(0, 0, 0, a, b, owner),
-            wire(0, 0, 0, 0, 0),
+            input_row(0, 0, 0, 0, 0),
         ),
         Hold::Pio(a, b) => rows(
             What::One(Kind::Pio),
             row(0, 0, 0, wide16(a), wide16(b), owner),
-            wire(0, 0, 0, 0, 0),
+            input_row(0, 0, 0, 0, 0),
         ),
         Hold::Host(a, b) => rows(
             What::One(Kind::Host),
             row(0, 0, 0, a, b, owner),
-            wire(0, 0, 0, 0, 0),
+            input_row(0, 0, 0, 0, 0),
         ),
         Hold::Input(c, n, trigger, sharing) => rows(
             What::One(Kind::Input),
             no_row(),
-            wire(c, n, trigger, sharing, owner),
+            input_row(c, n, trigger, sharing, owner),
         ),
         Hold::Devices(c, its, ids) => of_devices(owner, c, its, ids),
         Hold::Events(c, its, id, ids) => of_events(owner, c, its, id, ids),

@@ -6,11 +6,11 @@ use pools::of_pool;
 use pools::ranges;
 use pools::use_to;
 use request::call::Call;
+use tables::InputRow;
 use tables::Kind;
 use tables::Pool;
 use tables::PoolRow;
 use tables::RangeRow;
-use tables::WireRow;
 ghost use mathlib.Core.Path.{_≡_};
 ghost use mathlib.Core.Bool.{not};
 ghost use lib.Dec.{T};
@@ -52,7 +52,7 @@ pub struct Adds {
     pub second: PoolRow,
     pub third: PoolRow,
     pub row: RangeRow,
-    pub wire: WireRow,
+    pub input: InputRow,
 }
 
 // What the tables of one kind are asked: whether the table that `to` names takes the row.
@@ -63,10 +63,10 @@ pub struct Ask {
 }
 
 // .. those of inputs.
-pub struct WireAsk {
+pub struct InputAsk {
     pub to: To,
     pub range: PoolRow,
-    pub row: WireRow,
+    pub row: InputRow,
 }
 
 // What comes of the answers: how many of the call's rows are stored, in their turn, and what is said.

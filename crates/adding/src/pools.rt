@@ -2,8 +2,8 @@
 use super::Adds;
 use super::To;
 use super::What;
+use super::holds::input_row;
 use super::holds::no_row;
-use super::holds::wire;
 use insert::wide;
 use insert::wide16;
 use request::call::Devices;
@@ -46,7 +46,7 @@ pub fn ranges(to: To, what: What, first: PoolRow, second: PoolRow, third: PoolRo
     ensures { λ q. ⌜ q ≡ ranged to what first second third ⌝ }
 {
     let row = no_row();
-    let none = wire(0, 0, 0, 0, 0);
+    let none = input_row(0, 0, 0, 0, 0);
     Adds {
         to,
         what,
@@ -54,7 +54,7 @@ pub fn ranges(to: To, what: What, first: PoolRow, second: PoolRow, third: PoolRo
         second,
         third,
         row,
-        wire: none,
+        input: none,
     }
 }
 

@@ -2,12 +2,12 @@
 use super::To;
 use super::Verdict;
 use super::enter::stays;
+use lent_table::store::InputPut;
 use lent_table::store::Put;
-use lent_table::store::WirePut;
 use tables::Kind;
 ghost use mathlib.Core.Path.{_≡_};
 ghost use Rattle.tables.specs.declared.Kind.the-variants as K;
-ghost use Rattle.adding.specs.Judged.{heldPutOf, wirePutOf};
+ghost use Rattle.adding.specs.Judged.{heldPutOf, inputPutOf};
 
 // The row for a reservation table of ranges.
 fn range(v: Verdict, k: Kind) -> Put
@@ -20,13 +20,13 @@ fn range(v: Verdict, k: Kind) -> Put
 }
 
 // .. of inputs.
-pub fn input(v: Verdict) -> WirePut
-    ensures { λ p. ⌜ p ≡ wirePutOf v ⌝ }
+pub fn input(v: Verdict) -> InputPut
+    ensures { λ p. ⌜ p ≡ inputPutOf v ⌝ }
 {
     let go = stays(v, To::Held, Kind::Input);
     let q = v.adds;
-    let row = q.wire;
-    WirePut { go, row }
+    let row = q.input;
+    InputPut { go, row }
 }
 
 pub fn mmio(v: Verdict) -> Put

@@ -8,7 +8,7 @@ use Rattle.definition.specs.Pools.{Claim}
 use Rattle.definition.specs.Plan.{written, grant, recordOf}
 use Rattle.request.specs.Asked.{wantOf, requestOf}
 use Rattle.request.specs.declared.Want.{Want}
-use Rattle.request.specs.declared.Want.the-variants.{Mmio, Pio, WiredIrq, HostIrq, Msi}
+use Rattle.request.specs.declared.Want.the-variants.{Mmio, Pio, Input, Host, Msi}
 use Rattle.request.specs.declared.Request.{Request}
 use Rattle.decide.specs.Outcome.{firstsIn}
 use Rattle.allocation.specs.Records.{listOf, recordFor, recordIn}
@@ -33,6 +33,6 @@ record-granted r cs = go (r .want)
     go : (w : Want) → listOf (recordFor r (firstsIn (wantOf w) cs) w) ≡ recordOf (grant (record { requester = r .requester; slot = r .slot; want = wantOf w }) cs)
     go (Mmio s a c) = refl
     go (Pio s a c) = refl
-    go (WiredIrq k t s c) = refl
-    go (HostIrq c) = refl
+    go (Input k t s c) = refl
+    go (Host c) = refl
     go (Msi k i n d e l) = refl

@@ -6,7 +6,7 @@ use Rattle.definition.specs.Request as R
 use Rattle.tables.specs.Views.{stateView}
 use Rattle.tables.specs.declared.State.{State}
 use Rattle.request.specs.declared.Want.{Want}
-use Rattle.request.specs.declared.Want.the-variants.{Mmio, Pio, WiredIrq, HostIrq, Msi}
+use Rattle.request.specs.declared.Want.the-variants.{Mmio, Pio, Input, Host, Msi}
 use Rattle.request.specs.declared.Request.{Request}
 use Rattle.decide.specs.Outcome.{basesIn, after}
 use Rattle.decide.specs.Kept.{answer}
@@ -24,8 +24,8 @@ recorded k r a b c d e f = record { kind = k; requester = r .requester; slot = r
 abbrev pub recordFor : Request → Bases → Want → Record
 recordFor r b (Mmio s a c) = recorded 1 r (b .base) s 0 0 0 0
 recordFor r b (Pio s a c) = recorded 2 r (b .base) s 0 0 0 0
-recordFor r b (WiredIrq k t s c) = recorded 3 r k (b .base) t s 0 0
-recordFor r b (HostIrq c) = recorded 4 r (b .base) 0 0 0 0 0
+recordFor r b (Input k t s c) = recorded 3 r k (b .base) t s 0 0
+recordFor r b (Host c) = recorded 4 r (b .base) 0 0 0 0 0
 recordFor r b (Msi k i n d e l) = recorded 5 r k i (b .device .0) (b .event .0) (b .lpi .0) n
 
 abbrev pub recordIn : Request → Bases → Record

@@ -68,7 +68,7 @@ pub fn find(s: State, r: Request) -> Granted
     let a = ask::pio(q);
     let pio = value::see_range(s.auto.pio, s.fixed.pio, s.owners.pio, a);
     let a = ask::input(q);
-    let input = value::see_wire(s.auto.input, s.fixed.input, s.owners.input, a);
+    let input = value::see_input(s.auto.input, s.fixed.input, s.owners.input, a);
     let a = ask::host(q);
     let host = value::see_range(s.auto.host, s.fixed.host, s.owners.host, a);
     let a = ask::device(q);
@@ -90,7 +90,7 @@ pub fn rows_kept(h: Holders, g: Granted) -> Holders
     let p = put::pio(g);
     let pio = value::put_range(h.pio, p);
     let p = put::input(g);
-    let input = value::put_wire(h.input, p);
+    let input = value::put_input(h.input, p);
     let p = put::host(g);
     let host = value::put_range(h.host, p);
     let p = put::device(g);
@@ -160,7 +160,7 @@ pub fn record_of(r: Request, bases: Bases) -> Record
     match want {
         Want::Mmio { size, .. } => line(1, q, slot, x, size, 0, 0, 0, 0),
         Want::Pio { size, .. } => line(2, q, slot, x, size, 0, 0, 0, 0),
-        Want::WiredIrq {
+        Want::Input {
             controller,
             trigger,
             sharing,
@@ -176,7 +176,7 @@ pub fn record_of(r: Request, bases: Bases) -> Record
             0,
             0,
         ),
-        Want::HostIrq { .. } => line(4, q, slot, x, 0, 0, 0, 0, 0),
+        Want::Host { .. } => line(4, q, slot, x, 0, 0, 0, 0, 0),
         Want::Msi {
             controller,
             its,

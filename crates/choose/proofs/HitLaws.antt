@@ -8,9 +8,9 @@ use Rattle.definition.specs.Base.{firstOf}
 use Rattle.definition.specs.Tables.{rowLimit, nature, Row, rangeRow, meets, joins, used}
 use Rattle.definition.specs.Request.{rowAt, obstacle, unjoined}
 use Rattle.tables.specs.Below.{first}
-use Rattle.tables.specs.Views.{kindOf, rangesView, wiresView}
+use Rattle.tables.specs.Views.{kindOf, rangesView, inputsView}
 use Rattle.tables.specs.declared.Ranges.{Ranges}
-use Rattle.tables.specs.declared.Wires.{Wires}
+use Rattle.tables.specs.declared.Inputs.{Inputs}
 use Rattle.tables.specs.declared.Hit.{Hit}
 use Rattle.tables.proofs.ListedLaws.{listed-length}
 use Rattle.search.specs.Asks.{needOf}
@@ -18,7 +18,7 @@ use Rattle.tables.specs.declared.Kind.{Kind}
 use Rattle.tables.specs.declared.Kind.the-variants.{Mmio, Pio, Input, Host, Device, Event, Lpi}
 use Rattle.search.specs.declared.Need.{Need}
 use Rattle.tables.proofs.IndexLaws.{rowHit, first-listed}
-use Rattle.search.proofs.FoundLaws.{rangeIn, wireIn, ranges-used, wires-used}
+use Rattle.search.proofs.FoundLaws.{rangeIn, inputIn, ranges-used, inputs-used}
 
 pub top-fits : (k : Kind) → nature (kindOf k) .top < 2 ^ 64
 top-fits Mmio = omega arith
@@ -32,8 +32,8 @@ top-fits Lpi = omega arith
 pub ranges-length : (t : Ranges) → t .n ≤ rowLimit → length (used (rangesView t)) ≡ t .n
 ranges-length t l = ap length (ranges-used t l) ∙ listed-length (rangeIn t) (t .n)
 
-pub wires-length : (t : Wires) → t .n ≤ rowLimit → length (used (wiresView t)) ≡ t .n
-wires-length t l = ap length (wires-used t l) ∙ listed-length (wireIn t) (t .n)
+pub inputs-length : (t : Inputs) → t .n ≤ rowLimit → length (used (inputsView t)) ≡ t .n
+inputs-length t l = ap length (inputs-used t l) ∙ listed-length (inputIn t) (t .n)
 
 -- ranges never join, so the first that meets is in the way
 range-first : (n : Need) (b : ℕ) (o : Option Row) → unjoined (rowAt (needOf n) b) o ≡ o

@@ -30,20 +30,20 @@ choiceOf (Fixed b) = at b
 abbrev pub refusalOf : Refusal → F.Refusal
 refusalOf Malformed = malformed
 refusalOf BadInput = badInput
-refusalOf (FixedNotAllowed s) = fixedNotAllowed s
-refusalOf (Exhausted s) = exhausted s
-refusalOf (Conflict s o d) = conflict s o d
+refusalOf (FixedNotAllowed namespace) = fixedNotAllowed namespace
+refusalOf (Exhausted namespace) = exhausted namespace
+refusalOf (Conflict namespace owner detail) = conflict namespace owner detail
 refusalOf Full = full
 refusalOf Short = short
 
 -- the row that stands, or the refusal
 abbrev pub told : R.Need → Chosen → Answer Row
-told n (Stands b e) = accepted (record { dom = n .dom; start = b; end = e; trigger = n .trigger; sharing = n .sharing; owner = n .owner })
+told n (Stands b e) = accepted (record { dom = n .dom; start = b; end = e; trigger = n .trigger; sharing = n .sharing; owner = n .requester })
 told n (Refused y) = refused (refusalOf y)
 
 -- rows of ranges carry no trigger
 abbrev pub DetailIs : Kind → ℕ → Type 0
-DetailIs k d = (w r : Row) → w .trigger ≡ 0 → r .trigger ≡ 0 → d ≡ R.detail (kindOf k) w r
+DetailIs k detail = (w r : Row) → w .trigger ≡ 0 → r .trigger ≡ 0 → detail ≡ R.detail (kindOf k) w r
 
 -- ---- the definition's answer over the lists of one kind
 
@@ -53,19 +53,19 @@ poolsIn ps fs fixed k = fs
 
 -- `place`, which reads the lists of the need's kind and no others: law `place-in`
 abbrev pub placeIn : List Span → List Span → List Row → R.Need → R.Choice → Answer Row
-placeIn ps fs rs n c = R.place (poolsIn ps fs) (λ k. rs) n c
+placeIn ps fs rs n choice = R.place (poolsIn ps fs) (λ k. rs) n choice
 
 -- .. then 9 where the table has no free row: law `one-is` of `decide` ties it to `resolve`
 unfoldable pub roomed : List Row → Answer Row → Answer Row
 roomed rs a = a then λ r. require (ltb (length rs) rowLimit) full (accepted r)
 
 abbrev pub chosenIn : List Span → List Span → List Row → R.Need → R.Choice → Answer Row
-chosenIn ps fs rs n c = roomed rs (placeIn ps fs rs n c)
+chosenIn ps fs rs n choice = roomed rs (placeIn ps fs rs n choice)
 
 -- an automatic answer reads no fixed pool and no owner, a fixed one no automatic pool
 abbrev pub AutomaticIs : Pool → ℕ → List ℕ → List ℕ → List ℕ → List ℕ → List ℕ → Need → Chosen → Type 0
-AutomaticIs p on c i d s e n r =
-    (fs : List Span) (o : List ℕ) → told (needOf n) r ≡ placeIn (used (poolView p)) fs (used (rangesView (ranges on c i d s e o))) (needOf n) auto
+AutomaticIs p on c i d s e n x =
+    (fs : List Span) (o : List ℕ) → told (needOf n) x ≡ placeIn (used (poolView p)) fs (used (rangesView (ranges on c i d s e o))) (needOf n) auto
 
 abbrev pub FixedIs : Pool → Ranges → Need → ℕ → Chosen → Type 0
-FixedIs p t n b r = (ps : List Span) → told (needOf n) r ≡ placeIn ps (used (poolView p)) (used (rangesView t)) (needOf n) (at b)
+FixedIs p t n b x = (ps : List Span) → told (needOf n) x ≡ placeIn ps (used (poolView p)) (used (rangesView t)) (needOf n) (at b)

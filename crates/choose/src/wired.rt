@@ -4,19 +4,19 @@ use super::Chosen;
 use super::Refusal;
 use search::Found;
 use tables::Hit;
+use tables::InputRow;
 use tables::POOL_ROWS;
 use tables::ROWS;
-use tables::WireRow;
 ghost use mathlib.Core.Path.{_≡_};
 ghost use Prim.Native.Nat.{_≤_, _<_};
 ghost use Rattle.definition.specs.Tables.{poolLimit, rowLimit, used};
-ghost use Rattle.tables.specs.Views.{pool, wires, wireOf, poolView, wiresView};
+ghost use Rattle.tables.specs.Views.{pool, inputs, inputOf, poolView, inputsView};
 ghost use Rattle.search.specs.Finds.{InOrder};
 ghost use Rattle.choose.specs.Told.{choiceOf, told, placeIn};
-ghost use Rattle.choose.specs.Wired.{wireAsked, Judges, AutomaticInput, FixedInput};
+ghost use Rattle.choose.specs.Wired.{inputAsked, Judges, AutomaticInput, FixedInput};
 
 // What a request asks of a controller's inputs.
-pub struct Wire {
+pub struct InputNeed {
     pub controller: u32,
     pub trigger: u32,
     pub sharing: u32,
@@ -30,13 +30,13 @@ pub enum Sharing {
 }
 
 // Both must be Shared with one trigger: 2 where the triggers differ, whatever the sharing, else 3.
-pub fn validate_sharing(wire: Wire, held: WireRow) -> Sharing
-    ensures { λ r. ⌜ Judges wire (wireOf held) r ⌝ }
+pub fn validate_sharing(need: InputNeed, held: InputRow) -> Sharing
+    ensures { λ r. ⌜ Judges need (inputOf held) r ⌝ }
 {
-    if wire.trigger != held.trigger {
+    if need.trigger != held.trigger {
         return Sharing::Clashes(2);
     }
-    if wire.sharing != 1 {
+    if need.sharing != 1 {
         return Sharing::Clashes(3);
     }
     if held.sharing != 1 {
@@ -55,12 +55,12 @@ pub fn automatic<'a>(
     oc: &'a [u32; ROWS],
     ox: &'a [u64; ROWS],
     on: usize,
-    wire: Wire,
+    need: InputNeed,
 ) -> Chosen
     requires { ⌜ (InOrder (pool pn (now pc) (now pi) (now ps) (now pe))) × (on ≤ rowLimit) ⌝ }
-    ensures { λ r. ⌜ AutomaticInput (pool pn (now (pc .entry)) (now (pi .entry)) (now (ps .entry)) (now (pe .entry))) on (now (oc .entry)) (now (ox .entry)) wire r ⌝ }
+    ensures { λ r. ⌜ AutomaticInput (pool pn (now (pc .entry)) (now (pi .entry)) (now (ps .entry)) (now (pe .entry))) on (now (oc .entry)) (now (ox .entry)) need r ⌝ }
 {
-    let found = search::input::find_input(pc, pi, ps, pe, pn, oc, ox, on, wire.controller);
+    let found = search::input::find_input(pc, pi, ps, pe, pn, oc, ox, on, need.controller);
     match found {
         Found::Nothing => Chosen::Refused(Refusal::Exhausted(3)),
         Found::At(b) => {
@@ -83,21 +83,21 @@ pub fn fixed<'a>(
     oh: &'a [u32; ROWS],
     ow: &'a [u32; ROWS],
     on: usize,
-    wire: Wire,
+    need: InputNeed,
     b: u64,
 ) -> Chosen
     requires { ⌜ (nf ≤ poolLimit) × (on ≤ rowLimit) ⌝ }
-    ensures { λ r. ⌜ FixedInput (pool nf (now (fc .entry)) (now (fi .entry)) (now (fs .entry)) (now (fe .entry))) (wires on (now (oc .entry)) (now (ox .entry)) (now (ot .entry)) (now (oh .entry)) (now (ow .entry))) wire b r ⌝ }
+    ensures { λ r. ⌜ FixedInput (pool nf (now (fc .entry)) (now (fi .entry)) (now (fs .entry)) (now (fe .entry))) (inputs on (now (oc .entry)) (now (ox .entry)) (now (ot .entry)) (now (oh .entry)) (now (ow .entry))) need b r ⌝ }
 {
-    let need = search::input::one_input(wire.controller);
-    if search::range_allowed(fc, fi, fs, fe, nf, need, b) {
+    let one = search::input::one_input(need.controller);
+    if search::range_allowed(fc, fi, fs, fe, nf, one, b) {
         let e = b + 1;
-        let hit = search::input::first_on(oc, ox, on, wire.controller, b);
+        let hit = search::input::first_on(oc, ox, on, need.controller, b);
         let Hit::At(k) = hit else {
             return Chosen::Stands(b, e);
         };
-        let row = tables::wire_at(k, oc, ox, ot, oh, ow);
-        let judged = validate_sharing(wire, row);
+        let row = tables::input_at(k, oc, ox, ot, oh, ow);
+        let judged = validate_sharing(need, row);
         match judged {
             Sharing::Joins => {
                 return Chosen::Stands(b, e);
@@ -128,14 +128,14 @@ pub fn place<'a>(
     oh: &'a [u32; ROWS],
     ow: &'a [u32; ROWS],
     on: usize,
-    wire: Wire,
+    need: InputNeed,
     choice: Choice,
 ) -> Chosen
     requires { ⌜ (InOrder (pool pn (now pc) (now pi) (now ps) (now pe))) × (nf ≤ poolLimit) × (on ≤ rowLimit) ⌝ }
-    ensures { λ r. ⌜ told (wireAsked wire) r ≡ placeIn (used (poolView (pool pn (now (pc .entry)) (now (pi .entry)) (now (ps .entry)) (now (pe .entry))))) (used (poolView (pool nf (now (fc .entry)) (now (fi .entry)) (now (fs .entry)) (now (fe .entry))))) (used (wiresView (wires on (now (oc .entry)) (now (ox .entry)) (now (ot .entry)) (now (oh .entry)) (now (ow .entry))))) (wireAsked wire) (choiceOf choice) ⌝ }
+    ensures { λ r. ⌜ told (inputAsked need) r ≡ placeIn (used (poolView (pool pn (now (pc .entry)) (now (pi .entry)) (now (ps .entry)) (now (pe .entry))))) (used (poolView (pool nf (now (fc .entry)) (now (fi .entry)) (now (fs .entry)) (now (fe .entry))))) (used (inputsView (inputs on (now (oc .entry)) (now (ox .entry)) (now (ot .entry)) (now (oh .entry)) (now (ow .entry))))) (inputAsked need) (choiceOf choice) ⌝ }
 {
     match choice {
-        Choice::Auto => automatic(pc, pi, ps, pe, pn, oc, ox, on, wire),
-        Choice::Fixed(b) => fixed(fc, fi, fs, fe, nf, oc, ox, ot, oh, ow, on, wire, b),
+        Choice::Auto => automatic(pc, pi, ps, pe, pn, oc, ox, on, need),
+        Choice::Fixed(b) => fixed(fc, fi, fs, fe, nf, oc, ox, ot, oh, ow, on, need, b),
     }
 }

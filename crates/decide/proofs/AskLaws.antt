@@ -13,9 +13,9 @@ use Rattle.tables.specs.declared.State.{State}
 use Rattle.choose.specs.Told.{choiceOf}
 use Rattle.request.specs.Asked.{wantOf, requestOf}
 use Rattle.request.specs.declared.Want.{Want}
-use Rattle.request.specs.declared.Want.the-variants.{Mmio, Pio, WiredIrq, HostIrq, Msi}
+use Rattle.request.specs.declared.Want.the-variants.{Mmio, Pio, Input, Host, Msi}
 use Rattle.request.specs.declared.Request.{Request}
-use Rattle.request.proofs.GoodLaws.{memory-says, ports-says, msi-says, request-says}
+use Rattle.request.proofs.GoodLaws.{mmio-says, pio-says, msi-says, request-says}
 use Rattle.lent_table.specs.Look.{Fit, Asks}
 use Rattle.tables.specs.declared.Pool.{Pool}
 use Rattle.tables.specs.declared.Ranges.{Ranges}
@@ -58,10 +58,10 @@ module _ (a f : Pool) (t : Ranges) (fits : Fit a f (t .n)) (m : M.Msi) (some : 0
 module _ (s : State) (t : T (sound kinds (stateView s))) where
   -- a request that makes sense: a range has a size and an alignment, an MSI request wants some events
   good-asks : (q : ℕ) (w : Want) → goodWant (wantOf w) ≡ true → Asking s (wanted q w)
-  good-asks q (Mmio n a c) g = let h = memory-says n a (choiceOf c) g in record { mmio = λ e. (fit s mmio t, (h .size, h .align)); pio = off; input = off; host = off; device = off; event = λ d. off; lpi = λ e. off }
-  good-asks q (Pio n a c) g = let h = ports-says n a (choiceOf c) g in record { mmio = off; pio = λ e. (fit s pio t, (h .size, h .align)); input = off; host = off; device = off; event = λ d. off; lpi = λ e. off }
-  good-asks q (WiredIrq k v n c) g = record { mmio = off; pio = off; input = λ e. fit s input t; host = off; device = off; event = λ d. off; lpi = λ e. off }
-  good-asks q (HostIrq c) g = record { mmio = off; pio = off; input = off; host = λ e. (fit s host t, (omega arith, omega arith)); device = off; event = λ d. off; lpi = λ e. off }
+  good-asks q (Mmio n a c) g = let h = mmio-says n a (choiceOf c) g in record { mmio = λ e. (fit s mmio t, (h .size, h .alignment)); pio = off; input = off; host = off; device = off; event = λ d. off; lpi = λ e. off }
+  good-asks q (Pio n a c) g = let h = pio-says n a (choiceOf c) g in record { mmio = off; pio = λ e. (fit s pio t, (h .size, h .alignment)); input = off; host = off; device = off; event = λ d. off; lpi = λ e. off }
+  good-asks q (Input k v n c) g = record { mmio = off; pio = off; input = λ e. fit s input t; host = off; device = off; event = λ d. off; lpi = λ e. off }
+  good-asks q (Host c) g = record { mmio = off; pio = off; input = off; host = λ e. (fit s host t, (omega arith, omega arith)); device = off; event = λ d. off; lpi = λ e. off }
   good-asks q (Msi k i n d x l) g =
       let m : M.Msi = record { controller = k; its = i; count = n; requester = q; device = d; event = x; lpi = l } in
       let some : 0 < m .count = msi-says k i n (deviceChoice d) (eventChoice x) (lpiChoice l) g in

@@ -4,8 +4,8 @@ use mathlib.Core.List.{[], _∷_}
 use types.Run.{OneOf, miss}
 use denote.Enum.Declared.{tagOf}
 use Rattle.lent_table.specs.declared.look.Seen.{Seen}
-use Rattle.decide.specs.Query.{idle, idleWire, asked}
-use Rattle.decide.specs.Granted.{noPut, noWirePut, puts}
+use Rattle.decide.specs.Query.{idle, idleInput, asked}
+use Rattle.decide.specs.Granted.{noPut, noInputPut, puts}
 use Rattle.decide.specs.declared.Query.{Query}
 use Rattle.decide.specs.declared.Query.the-variants as Q
 use Rattle.decide.specs.declared.Rows.{Rows}
@@ -16,7 +16,7 @@ use Rattle.decide.proofs.Rows as RT
 pub record Unasked (q : Query) : Type 0 where
   pub mmio : OneOf (0 ∷ 2 ∷ 3 ∷ 4 ∷ 5 ∷ []) (tagOf QT.the-type q) → asked q .mmio ≡ idle
   pub pio : OneOf (0 ∷ 1 ∷ 3 ∷ 4 ∷ 5 ∷ []) (tagOf QT.the-type q) → asked q .pio ≡ idle
-  pub input : OneOf (0 ∷ 1 ∷ 2 ∷ 4 ∷ 5 ∷ []) (tagOf QT.the-type q) → asked q .input ≡ idleWire
+  pub input : OneOf (0 ∷ 1 ∷ 2 ∷ 4 ∷ 5 ∷ []) (tagOf QT.the-type q) → asked q .input ≡ idleInput
   pub host : OneOf (0 ∷ 1 ∷ 2 ∷ 3 ∷ 5 ∷ []) (tagOf QT.the-type q) → asked q .host ≡ idle
   pub device : OneOf (0 ∷ 1 ∷ 2 ∷ 3 ∷ 4 ∷ []) (tagOf QT.the-type q) → asked q .device ≡ idle
   pub event : OneOf (0 ∷ 1 ∷ 2 ∷ 3 ∷ 4 ∷ []) (tagOf QT.the-type q) → (d : Seen) → asked q .event d ≡ idle
@@ -33,7 +33,7 @@ ask-else (Q.Msi x) = record { mmio = λ m. refl; pio = λ m. refl; input = λ m.
 pub record Unput (r : Rows) : Type 0 where
   pub mmio : OneOf (0 ∷ 2 ∷ 3 ∷ 4 ∷ 5 ∷ []) (tagOf RT.the-type r) → puts r .mmio ≡ noPut
   pub pio : OneOf (0 ∷ 1 ∷ 3 ∷ 4 ∷ 5 ∷ []) (tagOf RT.the-type r) → puts r .pio ≡ noPut
-  pub input : OneOf (0 ∷ 1 ∷ 2 ∷ 4 ∷ 5 ∷ []) (tagOf RT.the-type r) → puts r .input ≡ noWirePut
+  pub input : OneOf (0 ∷ 1 ∷ 2 ∷ 4 ∷ 5 ∷ []) (tagOf RT.the-type r) → puts r .input ≡ noInputPut
   pub host : OneOf (0 ∷ 1 ∷ 2 ∷ 3 ∷ 5 ∷ []) (tagOf RT.the-type r) → puts r .host ≡ noPut
   pub device : OneOf (0 ∷ 1 ∷ 2 ∷ 3 ∷ 4 ∷ []) (tagOf RT.the-type r) → puts r .device ≡ noPut
   pub event : OneOf (0 ∷ 1 ∷ 2 ∷ 3 ∷ 4 ∷ []) (tagOf RT.the-type r) → puts r .event ≡ noPut

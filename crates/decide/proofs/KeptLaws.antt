@@ -12,20 +12,20 @@ use Rattle.definition.specs.Pools.{at-kind, Claim, rowsOf}
 use Rattle.definition.specs.Request as R
 use Rattle.definition.specs.Calls.{state, saying, pushAll}
 use Rattle.definition.specs.Plan.{baseAt}
-use Rattle.tables.specs.Views.{poolsView, holdersView, stateView, rangesView, rangeOf, wireOf}
+use Rattle.tables.specs.Views.{poolsView, holdersView, stateView, rangesView, rangeOf, inputOf}
 use Rattle.tables.specs.Whole.{pushedRange}
-use Rattle.tables.specs.Sized.{SizedRanges, SizedWires}
+use Rattle.tables.specs.Sized.{SizedRanges, SizedInputs}
 use Rattle.tables.specs.declared.State.{State}
 use Rattle.tables.specs.declared.Ranges.{Ranges}
 use Rattle.tables.specs.declared.RangeRow.{RangeRow}
-use Rattle.tables.proofs.PushLaws.{push-range-view, push-wire-view}
+use Rattle.tables.proofs.PushLaws.{push-range-view, push-input-view}
 use Rattle.search.specs.declared.Need.{Need}
 use Rattle.choose.specs.Told.{refusalOf, told, chosenIn}
-use Rattle.choose.specs.Wired.{wireAsked}
+use Rattle.choose.specs.Wired.{inputAsked}
 use Rattle.choose.specs.declared.Refusal.{Refusal}
 use Rattle.choose.specs.declared.Chosen.{Chosen}
 use Rattle.choose.specs.declared.Chosen.the-variants.{Stands, Refused}
-use Rattle.choose.specs.declared.wired.Wire.{Wire}
+use Rattle.choose.specs.declared.wired.InputNeed.{InputNeed}
 use Rattle.request.specs.Asked.{saidOf}
 use Rattle.msi.specs.Msi.{msiRows}
 use Rattle.msi.specs.Msi as MsiSpec
@@ -35,7 +35,7 @@ use Rattle.tables.specs.declared.EventId.{EventId}
 use Rattle.tables.specs.declared.Lpi.{Lpi}
 use Rattle.lent_table.specs.Store.{Free}
 use Rattle.decide.specs.Outcome.{someBase, someMsi, firstsIn, basesIn, after}
-use Rattle.decide.specs.Granted.{granted, refusal, rowFor, wireFor, given, wireGranted, msiGranted}
+use Rattle.decide.specs.Granted.{granted, refusal, rowFor, inputFor, given, inputGranted, msiGranted}
 use Rattle.decide.specs.Granted as Said
 use Rattle.decide.specs.Kept.{keptHolders, AllFree, answer, Finds}
 use Rattle.decide.specs.declared.Rows.the-variants as W
@@ -100,12 +100,12 @@ module _ (s : State) (q : R.Request) where
         granted-finds _ (granted (W.Host (rowFor n b e)) (someBase b)) a (record { mmio = none _; pio = none _; input = none _; host = λ _. l; device = none _; event = none _; lpi = none _ }) refl (one _)
         (record { mmio = refl; pio = refl; input = refl; host = pushed (s .owners .host) (rowFor n b e) z l; device = refl; event = refl; lpi = refl })
 
-    pub input-finds : SizedWires (s .owners .input) → (w : Wire) (b e : ℕ) → s .owners .input .n < rowLimit → e ≡ b + 1 → claimOf input (told (wireAsked w) (Stands b e)) ≡ answer s q → Finds s q (wireGranted w b e)
+    pub input-finds : SizedInputs (s .owners .input) → (w : InputNeed) (b e : ℕ) → s .owners .input .n < rowLimit → e ≡ b + 1 → claimOf input (told (inputAsked w) (Stands b e)) ≡ answer s q → Finds s q (inputGranted w b e)
     unfolding pushAll rowsOf sameKind
     input-finds z w b e l h a =
-        granted-finds (at-kind input (wireOf (wireFor w b)) ∷ []) (wireGranted w b e) (ap (λ x. claimOf input (told (wireAsked w) (Stands b x))) (sym (h ∙ add-one b)) ∙ a)
+        granted-finds (at-kind input (inputOf (inputFor w b)) ∷ []) (inputGranted w b e) (ap (λ x. claimOf input (told (inputAsked w) (Stands b x))) (sym (h ∙ add-one b)) ∙ a)
         (record { mmio = none _; pio = none _; input = λ _. l; host = none _; device = none _; event = none _; lpi = none _ }) refl (one _)
-        (record { mmio = refl; pio = refl; input = push-wire-view (s .owners .input) (w .controller) b (w .trigger) (w .sharing) (w .requester) z l; host = refl; device = refl; event = refl; lpi = refl })
+        (record { mmio = refl; pio = refl; input = push-input-view (s .owners .input) (w .controller) b (w .trigger) (w .sharing) (w .requester) z l; host = refl; device = refl; event = refl; lpi = refl })
 
   -- a device, its events and LPIs
   module _ (z : SizedRanges (s .owners .device)) (z′ : SizedRanges (s .owners .event)) (z″ : SizedRanges (s .owners .lpi))

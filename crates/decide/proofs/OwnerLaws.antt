@@ -4,13 +4,13 @@ use mathlib.Core.List.{List}
 use Rattle.definition.specs.Tables.{Kind, mmio, pio, input, host, device, event, lpi}
 use Rattle.definition.specs.Pools.{Claim, rowsOf}
 use Rattle.definition.specs.Calls.{pushAll}
-use Rattle.tables.specs.Views.{rangesView, wiresView, holdersView}
+use Rattle.tables.specs.Views.{rangesView, inputsView, holdersView}
 use Rattle.tables.specs.declared.Holders.{Holders}
 
 pub record Grown (h t : Holders) (cs : List Claim) : Type 0 where
   pub mmio : rangesView (t .mmio) ≡ pushAll (rangesView (h .mmio)) (rowsOf mmio cs)
   pub pio : rangesView (t .pio) ≡ pushAll (rangesView (h .pio)) (rowsOf pio cs)
-  pub input : wiresView (t .input) ≡ pushAll (wiresView (h .input)) (rowsOf input cs)
+  pub input : inputsView (t .input) ≡ pushAll (inputsView (h .input)) (rowsOf input cs)
   pub host : rangesView (t .host) ≡ pushAll (rangesView (h .host)) (rowsOf host cs)
   pub device : rangesView (t .device) ≡ pushAll (rangesView (h .device)) (rowsOf device cs)
   pub event : rangesView (t .event) ≡ pushAll (rangesView (h .event)) (rowsOf event cs)

@@ -19,18 +19,18 @@ use Rattle.search.specs.Asks.{needOf}
 use Rattle.tables.specs.declared.Kind.the-variants as K
 use Rattle.search.specs.declared.Need.{Need}
 use Rattle.choose.specs.Told.{choiceOf, chosenIn}
-use Rattle.choose.specs.Wired.{wireAsked}
+use Rattle.choose.specs.Wired.{inputAsked}
 use Rattle.choose.specs.declared.Choice.{Choice}
 use Rattle.choose.specs.declared.Refusal.the-variants.{BadInput}
-use Rattle.choose.specs.declared.wired.Wire.{Wire}
-use Rattle.choose.proofs.HitLaws.{ranges-length, wires-length}
+use Rattle.choose.specs.declared.wired.InputNeed.{InputNeed}
+use Rattle.choose.proofs.HitLaws.{ranges-length, inputs-length}
 use Rattle.msi.specs.declared.Msi as M
 use Rattle.request.specs.Asked.{wantOf, requestOf}
 use Rattle.request.specs.declared.Want.{Want}
-use Rattle.request.specs.declared.Want.the-variants.{Mmio, Pio, WiredIrq, HostIrq, Msi}
+use Rattle.request.specs.declared.Want.the-variants.{Mmio, Pio, Input, Host, Msi}
 use Rattle.request.specs.declared.Request.{Request}
 use Rattle.msi.proofs.ListLaws.{msi-is}
-use Rattle.lent_table.specs.Look.{Sees, SeesWire}
+use Rattle.lent_table.specs.Look.{Sees, SeesInput}
 use Rattle.lent_table.specs.declared.look.Seen.{Seen}
 use Rattle.decide.specs.Outcome.{claimed}
 use Rattle.decide.specs.Query.{needing, ask, wanted, queryOf, asked}
@@ -67,14 +67,14 @@ module _ (s : State) (t : T (sound kinds (stateView s))) where
     wanted-finds r i (Pio v a c) is y =
         let n : Need = needing K.Pio v a r in
         range-finds _ pio (s .auto .pio) (s .fixed .pio) (s .owners .pio) n c p (counted s pio t) y (is ∙ one-claimed (stateView s) r (wantOf (Pio v a c)) (needOf n) (choiceOf c) refl) (pio-finds s _ (λ cs. refl) (y .sized) n)
-    wanted-finds r i (HostIrq c) is y =
+    wanted-finds r i (Host c) is y =
         let n : Need = needing K.Host 1 1 r in
-        range-finds _ host (s .auto .host) (s .fixed .host) (s .owners .host) n c h (counted s host t) y (is ∙ one-claimed (stateView s) r (wantOf (HostIrq c)) (needOf n) (choiceOf c) refl) (host-finds s _ (λ cs. refl) (y .sized) n)
-    wanted-finds r i (WiredIrq k g v c) is y =
-        let x : Wire = record { controller = k; trigger = g; sharing = v; requester = r } in
-        given-finds s _ input (wireAsked x) _ _ _ (choiceOf c) (standing (w .at) (w .chosen)) _ (is ∙ one-claimed (stateView s) r (wantOf (WiredIrq k g v c)) (wireAsked x) (choiceOf c) refl)
-        (standing-is _ _ _ (wireAsked x) (choiceOf c) (w .chosen) (w .at) (y .chosen refl) (wires-length (s .owners .input) (counted s input t) ∙ sym (y .at)))
-        (λ b e u. input-finds s _ (λ cs. refl) (y .sized) x b e (omega (arith, wires-length (s .owners .input) (counted s input t))))
+        range-finds _ host (s .auto .host) (s .fixed .host) (s .owners .host) n c h (counted s host t) y (is ∙ one-claimed (stateView s) r (wantOf (Host c)) (needOf n) (choiceOf c) refl) (host-finds s _ (λ cs. refl) (y .sized) n)
+    wanted-finds r i (Input k g v c) is y =
+        let x : InputNeed = record { controller = k; trigger = g; sharing = v; requester = r } in
+        given-finds s _ input (inputAsked x) _ _ _ (choiceOf c) (standing (w .at) (w .chosen)) _ (is ∙ one-claimed (stateView s) r (wantOf (Input k g v c)) (inputAsked x) (choiceOf c) refl)
+        (standing-is _ _ _ (inputAsked x) (choiceOf c) (w .chosen) (w .at) (y .chosen refl) (inputs-length (s .owners .input) (counted s input t) ∙ sym (y .at)))
+        (λ b e u. input-finds s _ (λ cs. refl) (y .sized) x b e (omega (arith, inputs-length (s .owners .input) (counted s input t))))
     wanted-finds r i (Msi k j c dc ec lc) is y =
         let x : M.Msi = record { controller = k; its = j; count = c; requester = r; device = dc; event = ec; lpi = lc } in
         msi-verdict-finds s t _ x (λ cs. refl) (is ∙ msi-is x (poolsOf (stateView s)) (ownersOf (stateView s))) d e l (y .0) (y .1 .0) (y .1 .1)
@@ -118,7 +118,7 @@ module _ (s : State) (x : Seen) where
   pio-seen (Q.Host n c) t y = absurd t
   pio-seen (Q.Msi v) t y = absurd t
 
-  pub input-seen : (q : Query) → T (asked q .input .go) → SeesWire (s .auto .input) (s .fixed .input) (s .owners .input) (asked q .input) x → SeeingOwn s q x x x x x x x
+  pub input-seen : (q : Query) → T (asked q .input .go) → SeesInput (s .auto .input) (s .fixed .input) (s .owners .input) (asked q .input) x → SeeingOwn s q x x x x x x x
   input-seen Q.Nothing t y = absurd t
   input-seen (Q.Mmio n c) t y = absurd t
   input-seen (Q.Pio n c) t y = absurd t

@@ -10,12 +10,12 @@ use Rattle.choose.specs.declared.Refusal.{Refusal}
 use Rattle.choose.specs.declared.Refusal.the-variants.{Malformed, BadInput, FixedNotAllowed, Exhausted, Conflict, Full, Short}
 use Rattle.choose.specs.declared.Chosen.{Chosen}
 use Rattle.choose.specs.declared.Chosen.the-variants.{Stands, Refused}
-use Rattle.choose.specs.declared.wired.Wire.{Wire}
+use Rattle.choose.specs.declared.wired.InputNeed.{InputNeed}
 use Rattle.tables.specs.declared.DeviceId.{DeviceId}
 use Rattle.tables.specs.declared.EventId.{EventId}
 use Rattle.tables.specs.declared.Lpi.{Lpi}
 use Rattle.tables.specs.declared.RangeRow.{RangeRow}
-use Rattle.tables.specs.declared.WireRow.{WireRow}
+use Rattle.tables.specs.declared.InputRow.{InputRow}
 use Rattle.request.specs.declared.Said.{Said}
 use Rattle.msi.specs.Msi.{deviceIn, eventIn, lpiIn, chained, rowsOf}
 use Rattle.msi.specs.declared.Msi.{Msi}
@@ -23,7 +23,7 @@ use Rattle.msi.specs.declared.MsiChosen.{MsiChosen}
 use Rattle.msi.specs.declared.MsiChosen.the-variants as M
 use Rattle.lent_table.specs.declared.look.Seen.{Seen}
 use Rattle.lent_table.specs.declared.store.Put.{Put}
-use Rattle.lent_table.specs.declared.store.WirePut.{WirePut}
+use Rattle.lent_table.specs.declared.store.InputPut.{InputPut}
 use Rattle.decide.specs.Outcome.{noBases, someBase, someMsi}
 use Rattle.decide.specs.declared.Bases.{Bases}
 use Rattle.decide.specs.declared.Query.{Query}
@@ -55,8 +55,8 @@ refusal y = record { rows = R.Nothing; bases = noBases; said = numbersOf y }
 abbrev pub rowFor : Need → ℕ → ℕ → RangeRow
 rowFor n b e = record { controller = n .controller; its = n .its; device = n .device; start = b; end = e; owner = n .requester }
 
-abbrev pub wireFor : Wire → ℕ → WireRow
-wireFor w b = record { controller = w .controller; input = b; trigger = w .trigger; sharing = w .sharing; owner = w .requester }
+abbrev pub inputFor : InputNeed → ℕ → InputRow
+inputFor w b = record { controller = w .controller; input = b; trigger = w .trigger; sharing = w .sharing; owner = w .requester }
 
 -- what stands, if the table has a free row for it
 abbrev pub orFull : Bool → ℕ → ℕ → Chosen
@@ -88,11 +88,11 @@ rangeGranted n b e = granted (placed (n .kind) (rowFor n b e)) (someBase b)
 abbrev pub rangeVerdict : Need → Seen → Granted
 rangeVerdict n x = given (rangeGranted n) (standing (x .at) (x .chosen))
 
-abbrev pub wireGranted : Wire → ℕ → ℕ → Granted
-wireGranted w b e = granted (R.Input (wireFor w b)) (someBase b)
+abbrev pub inputGranted : InputNeed → ℕ → ℕ → Granted
+inputGranted w b e = granted (R.Input (inputFor w b)) (someBase b)
 
-abbrev pub wireVerdict : Wire → Seen → Granted
-wireVerdict w x = given (wireGranted w) (standing (x .at) (x .chosen))
+abbrev pub inputVerdict : InputNeed → Seen → Granted
+inputVerdict w x = given (inputGranted w) (standing (x .at) (x .chosen))
 
 abbrev pub msiGranted : Msi → DeviceId → EventId → Lpi → Granted
 msiGranted m d e l = granted (R.Msi (rowsOf m d e l)) (someMsi d e l)
@@ -109,7 +109,7 @@ abbrev pub verdictOf : Query → Seen → Seen → Seen → Seen → Seen → Se
 verdictOf Q.Nothing m p w h d e l = refusal BadInput
 verdictOf (Q.Mmio n c) m p w h d e l = rangeVerdict n m
 verdictOf (Q.Pio n c) m p w h d e l = rangeVerdict n p
-verdictOf (Q.Input x c) m p w h d e l = wireVerdict x w
+verdictOf (Q.Input x c) m p w h d e l = inputVerdict x w
 verdictOf (Q.Host n c) m p w h d e l = rangeVerdict n h
 verdictOf (Q.Msi x) m p w h d e l = msiVerdict x d e l
 
@@ -118,31 +118,31 @@ verdictOf (Q.Msi x) m p w h d e l = msiVerdict x d e l
 abbrev pub put : RangeRow → Put
 put r = record { go = true; row = r }
 
-abbrev pub putInput : WireRow → WirePut
+abbrev pub putInput : InputRow → InputPut
 putInput r = record { go = true; row = r }
 
 abbrev pub noPut : Put
 noPut = record { go = false; row = record { controller = 0; its = 0; device = 0; start = 0; end = 0; owner = 0 } }
 
-abbrev pub noWirePut : WirePut
-noWirePut = record { go = false; row = record { controller = 0; input = 0; trigger = 0; sharing = 0; owner = 0 } }
+abbrev pub noInputPut : InputPut
+noInputPut = record { go = false; row = record { controller = 0; input = 0; trigger = 0; sharing = 0; owner = 0 } }
 
 pub record Puts : Type 0 where
   pub mmio : Put
   pub pio : Put
-  pub input : WirePut
+  pub input : InputPut
   pub host : Put
   pub device : Put
   pub event : Put
   pub lpi : Put
 
-abbrev putting : Put → Put → WirePut → Put → Put → Put → Put → Puts
+abbrev putting : Put → Put → InputPut → Put → Put → Put → Put → Puts
 putting m p w h d e l = record { mmio = m; pio = p; input = w; host = h; device = d; event = e; lpi = l }
 
 abbrev pub puts : Rows → Puts
-puts R.Nothing = putting noPut noPut noWirePut noPut noPut noPut noPut
-puts (R.Mmio r) = putting (put r) noPut noWirePut noPut noPut noPut noPut
-puts (R.Pio r) = putting noPut (put r) noWirePut noPut noPut noPut noPut
+puts R.Nothing = putting noPut noPut noInputPut noPut noPut noPut noPut
+puts (R.Mmio r) = putting (put r) noPut noInputPut noPut noPut noPut noPut
+puts (R.Pio r) = putting noPut (put r) noInputPut noPut noPut noPut noPut
 puts (R.Input r) = putting noPut noPut (putInput r) noPut noPut noPut noPut
-puts (R.Host r) = putting noPut noPut noWirePut (put r) noPut noPut noPut
-puts (R.Msi r) = putting noPut noPut noWirePut noPut (put (r .device)) (put (r .event)) (put (r .lpi))
+puts (R.Host r) = putting noPut noPut noInputPut (put r) noPut noPut noPut
+puts (R.Msi r) = putting noPut noPut noInputPut noPut (put (r .device)) (put (r .event)) (put (r .lpi))

@@ -9,14 +9,14 @@ use Rattle.tables.specs.Views.{stateView}
 use Rattle.tables.specs.Whole.{holders}
 use Rattle.tables.specs.declared.Holders.{Holders}
 use Rattle.tables.specs.declared.State.{State}
-use Rattle.lent_table.specs.Store.{Free, putRange, putWire}
+use Rattle.lent_table.specs.Store.{Free, putRange, putInput}
 use Rattle.decide.specs.Outcome.{basesIn, after}
 use Rattle.decide.specs.Granted.{puts}
 use Rattle.decide.specs.declared.Granted.{Granted}
 
 abbrev pub keptHolders : Granted → Holders → Holders
 keptHolders g h =
-    holders (putRange (h .mmio) (puts (g .rows) .mmio)) (putRange (h .pio) (puts (g .rows) .pio)) (putWire (h .input) (puts (g .rows) .input)) (putRange (h .host) (puts (g .rows) .host))
+    holders (putRange (h .mmio) (puts (g .rows) .mmio)) (putRange (h .pio) (puts (g .rows) .pio)) (putInput (h .input) (puts (g .rows) .input)) (putRange (h .host) (puts (g .rows) .host))
     (putRange (h .device) (puts (g .rows) .device)) (putRange (h .event) (puts (g .rows) .event)) (putRange (h .lpi) (puts (g .rows) .lpi))
 
 abbrev pub kept : Granted → State → State

@@ -4,7 +4,7 @@ use mathlib.Core.List.{List}
 use Prim.Native.Nat.{ℕ}
 use Rattle.definition.specs.Base.{full, Answer, accepted, refused, require, _then_}
 use Rattle.definition.specs.Pools.{Claim, room}
-use Rattle.definition.specs.Request.{Want, memory, ports, wire, irq, msi, claims}
+use Rattle.definition.specs.Request.{Want, mmioWant, pioWant, inputWant, hostWant, msiWant, claims}
 use Rattle.definition.specs.Calls.{State, poolsOf, ownersOf, granting, settle}
 use Rattle.definition.specs.Plan.{baseAt}
 use Rattle.tables.specs.declared.DeviceId.{DeviceId}
@@ -23,18 +23,18 @@ someMsi d e l = record { accepted = true; base = 0; device = d; event = e; lpi =
 
 -- the first numbers of the rows granted: three of an MSI request, one of any other
 abbrev pub baseIn : Want → List Claim → ℕ
-baseIn (memory s a c) cs = baseAt 0 cs
-baseIn (ports s a c) cs = baseAt 0 cs
-baseIn (wire k t s c) cs = baseAt 0 cs
-baseIn (irq c) cs = baseAt 0 cs
-baseIn (msi k i n d e l) cs = 0
+baseIn (mmioWant s a c) cs = baseAt 0 cs
+baseIn (pioWant s a c) cs = baseAt 0 cs
+baseIn (inputWant k t s c) cs = baseAt 0 cs
+baseIn (hostWant c) cs = baseAt 0 cs
+baseIn (msiWant k i n d e l) cs = 0
 
 abbrev pub threeIn : Want → ℕ → List Claim → ℕ
-threeIn (memory s a c) j cs = 0
-threeIn (ports s a c) j cs = 0
-threeIn (wire k t s c) j cs = 0
-threeIn (irq c) j cs = 0
-threeIn (msi k i n d e l) j cs = baseAt j cs
+threeIn (mmioWant s a c) j cs = 0
+threeIn (pioWant s a c) j cs = 0
+threeIn (inputWant k t s c) j cs = 0
+threeIn (hostWant c) j cs = 0
+threeIn (msiWant k i n d e l) j cs = baseAt j cs
 
 abbrev pub firstsIn : Want → List Claim → Bases
 firstsIn w cs = record { accepted = true; base = baseIn w cs; device = record { 0 = threeIn w 0 cs }; event = record { 0 = threeIn w 1 cs }; lpi = record { 0 = threeIn w 2 cs } }

@@ -8,7 +8,7 @@ use Rattle.search.specs.declared.Need.{Need}
 use Rattle.choose.specs.Ids.{plainDevice, plainEvent, plainLpi}
 use Rattle.choose.specs.declared.Choice.{Choice}
 use Rattle.choose.specs.declared.Choice.the-variants.{Auto}
-use Rattle.choose.specs.declared.wired.Wire.{Wire}
+use Rattle.choose.specs.declared.wired.InputNeed.{InputNeed}
 use Rattle.msi.specs.Msi.{deviceNeed, eventNeed, lpiNeed, deviceIn, eventIn}
 use Rattle.msi.specs.declared.Msi.{Msi}
 use Rattle.msi.specs.declared.DeviceChosen.{DeviceChosen}
@@ -20,7 +20,7 @@ use Rattle.request.specs.declared.Want as W
 use Rattle.request.specs.declared.Want.the-variants as Want
 use Rattle.request.specs.declared.Request.{Request}
 use Rattle.lent_table.specs.declared.look.Ask.{Ask}
-use Rattle.lent_table.specs.declared.look.WireAsk.{WireAsk}
+use Rattle.lent_table.specs.declared.look.InputAsk.{InputAsk}
 use Rattle.lent_table.specs.declared.look.Seen.{Seen}
 use Rattle.decide.specs.declared.Query.{Query}
 use Rattle.decide.specs.declared.Query.the-variants as Q
@@ -32,8 +32,8 @@ needing k s a q = record { kind = k; controller = 0; its = 0; device = 0; size =
 abbrev pub wanted : ℕ → W.Want → Query
 wanted q (Want.Mmio s a c) = Q.Mmio (needing K.Mmio s a q) c
 wanted q (Want.Pio s a c) = Q.Pio (needing K.Pio s a q) c
-wanted q (Want.WiredIrq k t s c) = Q.Input (record { controller = k; trigger = t; sharing = s; requester = q }) c
-wanted q (Want.HostIrq c) = Q.Host (needing K.Host 1 1 q) c
+wanted q (Want.Input k t s c) = Q.Input (record { controller = k; trigger = t; sharing = s; requester = q }) c
+wanted q (Want.Host c) = Q.Host (needing K.Host 1 1 q) c
 wanted q (Want.Msi k i n d e l) = Q.Msi (record { controller = k; its = i; count = n; requester = q; device = d; event = e; lpi = l })
 
 -- what makes no sense asks nothing
@@ -49,14 +49,14 @@ queryOf r = ifGood (goodRequest (requestOf r)) (wanted (r .requester) (r .want))
 abbrev pub ask : Need → Choice → Ask
 ask n c = record { go = true; need = n; choice = c }
 
-abbrev pub askWire : Wire → Choice → WireAsk
-askWire w c = record { go = true; wire = w; choice = c }
+abbrev pub askInput : InputNeed → Choice → InputAsk
+askInput w c = record { go = true; need = w; choice = c }
 
 abbrev pub idle : Ask
 idle = record { go = false; need = needing K.Mmio 0 0 0; choice = Auto }
 
-abbrev pub idleWire : WireAsk
-idleWire = record { go = false; wire = record { controller = 0; trigger = 0; sharing = 0; requester = 0 }; choice = Auto }
+abbrev pub idleInput : InputAsk
+idleInput = record { go = false; need = record { controller = 0; trigger = 0; sharing = 0; requester = 0 }; choice = Auto }
 
 -- events are asked for once the device stands, LPIs once the events do
 abbrev pub deviceAsk : Msi → Ask
@@ -73,22 +73,22 @@ lpiAsk m (E′.Refused y) = idle
 pub record Asked : Type 0 where
   pub mmio : Ask
   pub pio : Ask
-  pub input : WireAsk
+  pub input : InputAsk
   pub host : Ask
   pub device : Ask
   pub event : Seen → Ask
   pub lpi : Seen → Ask
 
-abbrev asking : Ask → Ask → WireAsk → Ask → Ask → (Seen → Ask) → (Seen → Ask) → Asked
+abbrev asking : Ask → Ask → InputAsk → Ask → Ask → (Seen → Ask) → (Seen → Ask) → Asked
 asking m p w h d e l = record { mmio = m; pio = p; input = w; host = h; device = d; event = e; lpi = l }
 
 abbrev never : Seen → Ask
 never x = idle
 
 abbrev pub asked : Query → Asked
-asked Q.Nothing = asking idle idle idleWire idle idle never never
-asked (Q.Mmio n c) = asking (ask n c) idle idleWire idle idle never never
-asked (Q.Pio n c) = asking idle (ask n c) idleWire idle idle never never
-asked (Q.Input w c) = asking idle idle (askWire w c) idle idle never never
-asked (Q.Host n c) = asking idle idle idleWire (ask n c) idle never never
-asked (Q.Msi m) = asking idle idle idleWire idle (deviceAsk m) (λ d. eventAsk m (deviceIn (d .chosen))) (λ e. lpiAsk m (eventIn (e .chosen)))
+asked Q.Nothing = asking idle idle idleInput idle idle never never
+asked (Q.Mmio n c) = asking (ask n c) idle idleInput idle idle never never
+asked (Q.Pio n c) = asking idle (ask n c) idleInput idle idle never never
+asked (Q.Input w c) = asking idle idle (askInput w c) idle idle never never
+asked (Q.Host n c) = asking idle idle idleInput (ask n c) idle never never
+asked (Q.Msi m) = asking idle idle idleInput idle (deviceAsk m) (λ d. eventAsk m (deviceIn (d .chosen))) (λ e. lpiAsk m (eventIn (e .chosen)))

@@ -1,17 +1,17 @@
 -- What all seven tables are asked by one query, and what is seen in them. Assumes nothing.
 use Rattle.tables.specs.declared.State.{State}
 use Rattle.request.specs.declared.Request.{Request}
-use Rattle.lent_table.specs.Look.{Asks, Sees, WireAsks, SeesWire}
+use Rattle.lent_table.specs.Look.{Asks, Sees, InputAsks, SeesInput}
 use Rattle.lent_table.specs.declared.look.Seen.{Seen}
 use Rattle.msi.specs.Msi.{deviceIn, eventIn}
-use Rattle.decide.specs.Query.{ask, askWire, deviceAsk, eventAsk, lpiAsk, asked, queryOf}
+use Rattle.decide.specs.Query.{ask, askInput, deviceAsk, eventAsk, lpiAsk, asked, queryOf}
 use Rattle.decide.specs.declared.Query.{Query}
 use Rattle.decide.specs.declared.Query.the-variants as Q
 
 pub record Asking (s : State) (q : Query) : Type 0 where
   pub mmio : Asks (s .auto .mmio) (s .fixed .mmio) (s .owners .mmio) (asked q .mmio)
   pub pio : Asks (s .auto .pio) (s .fixed .pio) (s .owners .pio) (asked q .pio)
-  pub input : WireAsks (s .auto .input) (s .fixed .input) (s .owners .input) (asked q .input)
+  pub input : InputAsks (s .auto .input) (s .fixed .input) (s .owners .input) (asked q .input)
   pub host : Asks (s .auto .host) (s .fixed .host) (s .owners .host) (asked q .host)
   pub device : Asks (s .auto .device) (s .fixed .device) (s .owners .device) (asked q .device)
   pub event : (d : Seen) → Asks (s .auto .event) (s .fixed .event) (s .owners .event) (asked q .event d)
@@ -20,7 +20,7 @@ pub record Asking (s : State) (q : Query) : Type 0 where
 pub record Seeing (s : State) (q : Query) (m p w h d e l : Seen) : Type 0 where
   pub mmio : Sees (s .auto .mmio) (s .fixed .mmio) (s .owners .mmio) (asked q .mmio) m
   pub pio : Sees (s .auto .pio) (s .fixed .pio) (s .owners .pio) (asked q .pio) p
-  pub input : SeesWire (s .auto .input) (s .fixed .input) (s .owners .input) (asked q .input) w
+  pub input : SeesInput (s .auto .input) (s .fixed .input) (s .owners .input) (asked q .input) w
   pub host : Sees (s .auto .host) (s .fixed .host) (s .owners .host) (asked q .host) h
   pub device : Sees (s .auto .device) (s .fixed .device) (s .owners .device) (asked q .device) d
   pub event : Sees (s .auto .event) (s .fixed .event) (s .owners .event) (asked q .event d) e
@@ -38,7 +38,7 @@ abbrev pub SeeingOwn : State → Query → Seen → Seen → Seen → Seen → S
 SeeingOwn s Q.Nothing m p w h d e l = Unit {0}
 SeeingOwn s (Q.Mmio n c) m p w h d e l = Sees (s .auto .mmio) (s .fixed .mmio) (s .owners .mmio) (ask n c) m
 SeeingOwn s (Q.Pio n c) m p w h d e l = Sees (s .auto .pio) (s .fixed .pio) (s .owners .pio) (ask n c) p
-SeeingOwn s (Q.Input x c) m p w h d e l = SeesWire (s .auto .input) (s .fixed .input) (s .owners .input) (askWire x c) w
+SeeingOwn s (Q.Input x c) m p w h d e l = SeesInput (s .auto .input) (s .fixed .input) (s .owners .input) (askInput x c) w
 SeeingOwn s (Q.Host n c) m p w h d e l = Sees (s .auto .host) (s .fixed .host) (s .owners .host) (ask n c) h
 SeeingOwn s (Q.Msi x) m p w h d e l =
     Sees (s .auto .device) (s .fixed .device) (s .owners .device) (deviceAsk x) d × (Sees (s .auto .event) (s .fixed .event) (s .owners .event) (eventAsk x (deviceIn (d .chosen))) e ×

@@ -3,16 +3,16 @@ use super::Query;
 use super::needing;
 use choose::Choice;
 use choose::ids;
-use choose::wired::Wire;
+use choose::wired::InputNeed;
 use lent_table::look::Ask;
+use lent_table::look::InputAsk;
 use lent_table::look::Seen;
-use lent_table::look::WireAsk;
 use msi::DeviceChosen;
 use msi::EventChosen;
 use msi::Msi;
 use tables::Kind;
 ghost use mathlib.Core.Path.{_≡_};
-ghost use Rattle.decide.specs.Query.{idle, idleWire, asked, deviceAsk, eventAsk, lpiAsk};
+ghost use Rattle.decide.specs.Query.{idle, idleInput, asked, deviceAsk, eventAsk, lpiAsk};
 
 // ---- whether the query is for one table alone, and for which
 
@@ -83,13 +83,13 @@ pub fn pio(q: Query) -> Ask
 }
 
 // The table of inputs.
-pub fn input(q: Query) -> WireAsk
+pub fn input(q: Query) -> InputAsk
     ensures { λ a. ⌜ a ≡ asked q .input ⌝ }
 {
     match q {
-        Query::Input(wire, choice) => WireAsk {
+        Query::Input(need, choice) => InputAsk {
             go: true,
-            wire,
+            need,
             choice,
         },
         _ => no_input(),
@@ -210,18 +210,18 @@ pub fn nothing() -> Ask
     }
 }
 
-pub fn no_input() -> WireAsk
-    ensures { λ a. ⌜ a ≡ idleWire ⌝ }
+pub fn no_input() -> InputAsk
+    ensures { λ a. ⌜ a ≡ idleInput ⌝ }
 {
-    let wire = Wire {
+    let need = InputNeed {
         controller: 0,
         trigger: 0,
         sharing: 0,
         requester: 0,
     };
-    WireAsk {
+    InputAsk {
         go: false,
-        wire,
+        need,
         choice: Choice::Auto,
     }
 }

@@ -4,7 +4,7 @@ use super::Granted;
 use super::Rows;
 use choose::Chosen;
 use choose::Refusal;
-use choose::wired::Wire;
+use choose::wired::InputNeed;
 use lent_table::look::Seen;
 use msi::Msi;
 use msi::MsiChosen;
@@ -12,14 +12,14 @@ use request::Said;
 use search::Need;
 use tables::DeviceId;
 use tables::EventId;
+use tables::InputRow;
 use tables::Kind;
 use tables::Lpi;
 use tables::ROWS;
 use tables::RangeRow;
-use tables::WireRow;
 ghost use mathlib.Core.Path.{_≡_};
 ghost use Rattle.decide.specs.Outcome.{noBases, someBase, someMsi};
-ghost use Rattle.decide.specs.Granted.{granted, refusal, rowFor, placed, standing, rangeVerdict, wireVerdict, msiVerdict};
+ghost use Rattle.decide.specs.Granted.{granted, refusal, rowFor, placed, standing, rangeVerdict, inputVerdict, msiVerdict};
 
 // No row, and the numbers of a refusal.
 pub fn refused(y: Refusal) -> Granted
@@ -82,19 +82,19 @@ pub fn range(need: Need, seen: Seen) -> Granted
 }
 
 // An input.
-pub fn input(wire: Wire, seen: Seen) -> Granted
-    ensures { λ g. ⌜ g ≡ wireVerdict wire seen ⌝ }
+pub fn input(need: InputNeed, seen: Seen) -> Granted
+    ensures { λ g. ⌜ g ≡ inputVerdict need seen ⌝ }
 {
     let chosen = standing(seen);
     match chosen {
         Chosen::Refused(y) => refused(y),
         Chosen::Stands(b, _) => {
-            let row = WireRow {
-                controller: wire.controller,
+            let row = InputRow {
+                controller: need.controller,
                 input: b,
-                trigger: wire.trigger,
-                sharing: wire.sharing,
-                owner: wire.requester,
+                trigger: need.trigger,
+                sharing: need.sharing,
+                owner: need.requester,
             };
             let bases = one_base(b);
             accepted(Rows::Input(row), bases)

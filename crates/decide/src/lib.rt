@@ -1,7 +1,7 @@
 // One request over seven tables: what it asks, and what comes of the tables' answers. Nothing is read or stored here, but for `value`.
 use choose::Choice;
 use choose::Refusal;
-use choose::wired::Wire;
+use choose::wired::InputNeed;
 use lent_table::look::Seen;
 use msi::Msi;
 use msi::MsiRows;
@@ -11,10 +11,10 @@ use request::Want;
 use search::Need;
 use tables::DeviceId;
 use tables::EventId;
+use tables::InputRow;
 use tables::Kind;
 use tables::Lpi;
 use tables::RangeRow;
-use tables::WireRow;
 ghost use mathlib.Core.Path.{_≡_};
 ghost use Rattle.decide.specs.Query.{needing, queryOf};
 ghost use Rattle.decide.specs.Granted.{verdictOf};
@@ -29,7 +29,7 @@ pub enum Query {
     Nothing,
     Mmio(Need, Choice),
     Pio(Need, Choice),
-    Input(Wire, Choice),
+    Input(InputNeed, Choice),
     Host(Need, Choice),
     Msi(Msi),
 }
@@ -39,7 +39,7 @@ pub enum Rows {
     Nothing,
     Mmio(RangeRow),
     Pio(RangeRow),
-    Input(WireRow),
+    Input(InputRow),
     Host(RangeRow),
     Msi(MsiRows),
 }
@@ -78,21 +78,21 @@ pub fn queried(r: Request) -> Query
                 alignment,
                 choice,
             } => Query::Pio(needing(Kind::Pio, size, alignment, requester), choice),
-            Want::WiredIrq {
+            Want::Input {
                 controller,
                 trigger,
                 sharing,
                 choice,
             } => {
-                let wire = Wire {
+                let need = InputNeed {
                     controller,
                     trigger,
                     sharing,
                     requester,
                 };
-                Query::Input(wire, choice)
+                Query::Input(need, choice)
             }
-            Want::HostIrq { choice } => Query::Host(needing(Kind::Host, 1, 1, requester), choice),
+            Want::Host { choice } => Query::Host(needing(Kind::Host, 1, 1, requester), choice),
             Want::Msi {
                 controller,
                 its,
@@ -150,7 +150,7 @@ pub fn verdict(
         Query::Nothing => grant::refused(Refusal::BadInput),
         Query::Mmio(need, _) => grant::range(need, mmio),
         Query::Pio(need, _) => grant::range(need, pio),
-        Query::Input(wire, _) => grant::input(wire, input),
+        Query::Input(need, _) => grant::input(need, input),
         Query::Host(need, _) => grant::range(need, host),
         Query::Msi(m) => grant::msi(m, device, event, lpi),
     }

@@ -1,12 +1,12 @@
 // What each table is to store: the rows' own tables a row, any other nothing.
 use super::Granted;
 use super::Rows;
+use lent_table::store::InputPut;
 use lent_table::store::Put;
-use lent_table::store::WirePut;
+use tables::InputRow;
 use tables::RangeRow;
-use tables::WireRow;
 ghost use mathlib.Core.Path.{_≡_};
-ghost use Rattle.decide.specs.Granted.{noPut, noWirePut, puts};
+ghost use Rattle.decide.specs.Granted.{noPut, noInputPut, puts};
 
 // The table of MMIO.
 pub fn mmio(g: Granted) -> Put
@@ -31,12 +31,12 @@ pub fn pio(g: Granted) -> Put
 }
 
 // The table of inputs.
-pub fn input(g: Granted) -> WirePut
+pub fn input(g: Granted) -> InputPut
     ensures { λ p. ⌜ p ≡ puts (g .rows) .input ⌝ }
 {
     let rows = g.rows;
     match rows {
-        Rows::Input(row) => WirePut { go: true, row },
+        Rows::Input(row) => InputPut { go: true, row },
         _ => no_input(),
     }
 }
@@ -110,15 +110,15 @@ pub fn nothing() -> Put
     Put { go: false, row }
 }
 
-pub fn no_input() -> WirePut
-    ensures { λ p. ⌜ p ≡ noWirePut ⌝ }
+pub fn no_input() -> InputPut
+    ensures { λ p. ⌜ p ≡ noInputPut ⌝ }
 {
-    let row = WireRow {
+    let row = InputRow {
         controller: 0,
         input: 0,
         trigger: 0,
         sharing: 0,
         owner: 0,
     };
-    WirePut { go: false, row }
+    InputPut { go: false, row }
 }

@@ -1,15 +1,15 @@
 // Tables by value, for the calls that take them so: what a table gives, as `lent_table` has it, and a row put at its end, as `lent_table` has it.
 use lent_table::look::Ask;
+use lent_table::look::InputAsk;
 use lent_table::look::Seen;
-use lent_table::look::WireAsk;
+use lent_table::store::InputPut;
 use lent_table::store::Put;
-use lent_table::store::WirePut;
+use tables::Inputs;
 use tables::Pool;
 use tables::Ranges;
-use tables::Wires;
 ghost use mathlib.Core.Path.{_≡_};
-ghost use Rattle.lent_table.specs.Look.{Asks, Sees, WireAsks, SeesWire};
-ghost use Rattle.lent_table.specs.Store.{Free, putRange, putWire};
+ghost use Rattle.lent_table.specs.Look.{Asks, Sees, InputAsks, SeesInput};
+ghost use Rattle.lent_table.specs.Store.{Free, putRange, putInput};
 
 pub fn see_range(auto: Pool, fixed: Pool, own: Ranges, ask: Ask) -> Seen
     requires { ⌜ Asks auto fixed own ask ⌝ }
@@ -37,11 +37,11 @@ pub fn see_range(auto: Pool, fixed: Pool, own: Ranges, ask: Ask) -> Seen
     )
 }
 
-pub fn see_wire(auto: Pool, fixed: Pool, own: Wires, ask: WireAsk) -> Seen
-    requires { ⌜ WireAsks auto fixed own ask ⌝ }
-    ensures { λ r. ⌜ SeesWire auto fixed own ask r ⌝ }
+pub fn see_input(auto: Pool, fixed: Pool, own: Inputs, ask: InputAsk) -> Seen
+    requires { ⌜ InputAsks auto fixed own ask ⌝ }
+    ensures { λ r. ⌜ SeesInput auto fixed own ask r ⌝ }
 {
-    lent_table::look::wire_columns(
+    lent_table::look::input_columns(
         &auto.controller,
         &auto.its,
         &auto.start,
@@ -72,12 +72,12 @@ pub fn put_range(t: Ranges, put: Put) -> Ranges
     t
 }
 
-pub fn put_wire(t: Wires, put: WirePut) -> Wires
+pub fn put_input(t: Inputs, put: InputPut) -> Inputs
     requires { ⌜ Free (t .n) (put .go) ⌝ }
-    ensures { λ r. ⌜ r ≡ putWire t put ⌝ }
+    ensures { λ r. ⌜ r ≡ putInput t put ⌝ }
 {
     if put.go {
-        return tables::push_wire(t, put.row);
+        return tables::push_input(t, put.row);
     }
     t
 }

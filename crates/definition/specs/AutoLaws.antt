@@ -12,7 +12,7 @@ use Rattle.definition.specs.Base.{allOf, badInput, full, exhausted, Answ
 use Rattle.definition.specs.BaseLaws.{and-l, and-r, and-i, LeastAll, none-at-all, least-of-all}
 use Rattle.definition.specs.Tables.{rowLimit, dom, mmio, pio, input, host, nature}
 use Rattle.definition.specs.Pools.{at-kind, Holders, Claim, room}
-use Rattle.definition.specs.Request.{auto, Want, memory, ports, wire, irq, Request, oneBit, goodWant, goodRequest, Need, rowAt, free, found, automatic, Pools, place, need, wireNeed, one, claims, resolve}
+use Rattle.definition.specs.Request.{auto, Want, mmioWant, pioWant, inputWant, hostWant, Request, oneBit, goodWant, goodRequest, Need, rowAt, free, found, automatic, Pools, place, need, inputNeed, one, claims, resolve}
 use Rattle.definition.specs.RequestLaws.{required, oneBit-pos}
 use Rattle.definition.specs.SearchLaws.{IsFree, free-says, says-free, lowest-says}
 
@@ -27,7 +27,7 @@ module _ (P : Pools) (S : Holders) (n : Need) where
     no-base : ((b : ℕ) → Usable b → ⊥) → AutoSays (refused (exhausted (nature (n .kind) .namespace)))
 
   -- one run of numbers in any table: addresses, inputs, host IRQs, and each of MSI's three
-  pub place-says : 0 < n .align → AutoSays (one P S n auto)
+  pub place-says : 0 < n .alignment → AutoSays (one P S n auto)
   unfolding place found
   place-says pos = go (lowest-says (P automatic (n .kind)) (S (n .kind)) n pos)
     where
@@ -44,7 +44,7 @@ module _ (P : Pools) (S : Holders) (n : Need) where
       rw (required (ltb (length (S (n .kind))) rowLimit && true) full (accepted (at-kind (n .kind) (rowAt n b) ∷ [])) (and-i (ltb (length (S (n .kind))) rowLimit) true t tt)) (least-base b f low)
 
   -- a request of this one need
-  resolve-says : (r : Request) → T (goodRequest r) → 0 < n .align → length (S (n .kind)) < rowLimit → claims P S (r .requester) (r .want) ≡ one P S n auto → AutoSays (resolve P S r)
+  resolve-says : (r : Request) → T (goodRequest r) → 0 < n .alignment → length (S (n .kind)) < rowLimit → claims P S (r .requester) (r .want) ≡ one P S n auto → AutoSays (resolve P S r)
   unfolding resolve
   resolve-says r good pos few is =
       rw (required (goodRequest r) badInput (claims P S (r .requester) (r .want) then λ cs. require (room S cs) full (accepted cs)) good, is) (with-room few (place-says pos))
@@ -53,22 +53,22 @@ module _ (P : Pools) (S : Holders) (q l : ℕ) where
   abbrev pub asks : Want → Request
   asks w = record { requester = q; slot = l; want = w }
 
-  pub memory-says : (s a : ℕ) → T (goodRequest (asks (memory s a auto))) → length (S mmio) < rowLimit → AutoSays P S (need mmio (dom 0 0 0) s a q) (resolve P S (asks (memory s a auto)))
+  pub mmio-says : (s a : ℕ) → T (goodRequest (asks (mmioWant s a auto))) → length (S mmio) < rowLimit → AutoSays P S (need mmio (dom 0 0 0) s a q) (resolve P S (asks (mmioWant s a auto)))
   unfolding claims goodRequest goodWant
-  memory-says s a good few =
+  mmio-says s a good few =
       let b : T (oneBit 64 a) = search (and-l, and-r) depth 10 in
-      resolve-says P S (need mmio (dom 0 0 0) s a q) (asks (memory s a auto)) good (oneBit-pos 64 a b) few refl
+      resolve-says P S (need mmio (dom 0 0 0) s a q) (asks (mmioWant s a auto)) good (oneBit-pos 64 a b) few refl
 
-  pub ports-says : (s a : ℕ) → T (goodRequest (asks (ports s a auto))) → length (S pio) < rowLimit → AutoSays P S (need pio (dom 0 0 0) s a q) (resolve P S (asks (ports s a auto)))
+  pub pio-says : (s a : ℕ) → T (goodRequest (asks (pioWant s a auto))) → length (S pio) < rowLimit → AutoSays P S (need pio (dom 0 0 0) s a q) (resolve P S (asks (pioWant s a auto)))
   unfolding claims goodRequest goodWant
-  ports-says s a good few =
+  pio-says s a good few =
       let b : T (oneBit 16 a) = search (and-l, and-r) depth 10 in
-      resolve-says P S (need pio (dom 0 0 0) s a q) (asks (ports s a auto)) good (oneBit-pos 16 a b) few refl
+      resolve-says P S (need pio (dom 0 0 0) s a q) (asks (pioWant s a auto)) good (oneBit-pos 16 a b) few refl
 
-  pub wire-says : (k t h : ℕ) → T (goodRequest (asks (wire k t h auto))) → length (S input) < rowLimit → AutoSays P S (wireNeed k t h q) (resolve P S (asks (wire k t h auto)))
+  pub input-says : (k t h : ℕ) → T (goodRequest (asks (inputWant k t h auto))) → length (S input) < rowLimit → AutoSays P S (inputNeed k t h q) (resolve P S (asks (inputWant k t h auto)))
   unfolding claims
-  wire-says k t h good few = resolve-says P S (wireNeed k t h q) (asks (wire k t h auto)) good (omega arith) few refl
+  input-says k t h good few = resolve-says P S (inputNeed k t h q) (asks (inputWant k t h auto)) good (omega arith) few refl
 
-  pub irq-says : T (goodRequest (asks (irq auto))) → length (S host) < rowLimit → AutoSays P S (need host (dom 0 0 0) 1 1 q) (resolve P S (asks (irq auto)))
+  pub host-says : T (goodRequest (asks (hostWant auto))) → length (S host) < rowLimit → AutoSays P S (need host (dom 0 0 0) 1 1 q) (resolve P S (asks (hostWant auto)))
   unfolding claims
-  irq-says good few = resolve-says P S (need host (dom 0 0 0) 1 1 q) (asks (irq auto)) good (omega arith) few refl
+  host-says good few = resolve-says P S (need host (dom 0 0 0) 1 1 q) (asks (hostWant auto)) good (omega arith) few refl

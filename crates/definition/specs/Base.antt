@@ -71,7 +71,7 @@ require true r a = a
 require false r a = refused r
 
 abbrev pub _then_ : {A B : Type 0} → Answer A → (A → Answer B) → Answer B
-_then_ (accepted a) f = f a
+_then_ (accepted v) f = f v
 _then_ (refused r) f = refused r
 
 infixl 20 _then_

@@ -15,7 +15,7 @@ pub record State : Type 0 where  -- all tables, and beside them the five numbers
   pub said : Said
 
 abbrev pub state : (Use → Kind → Table Span) → (Kind → Table Row) → (Kind → Table Row) → Said → State
-state p h o w = record { pools = p; held = h; owners = o; said = w }
+state pools held owners w = record { pools = pools; held = held; owners = owners; said = w }
 
 abbrev pub zeros : {A : Type 0} → ℕ → A → Table A  -- a fresh table is rows of zeros
 zeros n a = record { count = 0; rows = replicate n a }
@@ -84,18 +84,18 @@ pub data Call : Type 0 where
 
 abbrev pub settle : State → Answer State → State
 settle s (accepted s′) = s′
-settle s (refused r) = saying (tell 0 r) s
+settle s (refused x) = saying (tell 0 x) s
 
 unfoldable pub addAll : Use → List (In Span) → State → State  -- pool ranges in turn: each gets its own refusal, and rows added before a refused range stay
 addAll u [] s = saying silence s
 addAll u (c ∷ cs) s =
     elim (addRange (c .kind) (c .row) (used (s .pools u (c .kind)))) [
       | accepted ps ↦ addAll u cs (pooling u (c .kind) ps s)
-      | refused r ↦ saying (tell 0 r) s
+      | refused x ↦ saying (tell 0 x) s
     ]
 
 unfoldable pub serve : List Kind → Call → State → State
 serve ks (pool u p) s = settle s (require (given ks s) malformed (accepted (addAll u (spans p) s)))
 serve ks (hold o h) s = settle s (require (given ks s) malformed (reserve (heldOf s) (heldRows o h) then λ cs. accepted (holding cs s)))
 serve ks start s = settle s (require (given ks s) malformed (accepted (starting s)))
-serve ks (want r) s = settle s (require (sound ks s) malformed (resolve (poolsOf s) (ownersOf s) r then λ cs. accepted (granting cs s)))
+serve ks (want request) s = settle s (require (sound ks s) malformed (resolve (poolsOf s) (ownersOf s) request then λ cs. accepted (granting cs s)))

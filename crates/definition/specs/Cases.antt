@@ -7,7 +7,7 @@ use lib.ListN.{replicate}
 use Rattle.definition.specs.Base.{anyOf, allOf, pairsOf, firstOf, lower, leastOf, tell, require}
 use Rattle.definition.specs.Tables.{kinds, sameKind, sameDom, within, sameSpan, sameRow, overlap, meets, joins, clash, tidy, fits, fitsSpan, goodRow, goodSpan, begins, inOrder, soundTable}
 use Rattle.definition.specs.Pools.{mmioPool, pioPool, hostPool, inputPool, msiPool, insert, unlessThere, addRange, rowsOf, _⊕_, room, mmioHold, hostHold, inputHold, eventHold, unreserved, allUnreserved, reserve}
-use Rattle.definition.specs.Request.{auto, at, Want, memory, ports, wire, irq, msi, Request, goodChoice, oneBit, goodWant, goodRequest, rowAt, aligned, holds, free, alignUp, candidates, lowest, allowed, unjoined, obstacle, detail, found, unopposed, automatic, fixed, place, claims, resolve}
+use Rattle.definition.specs.Request.{auto, at, Want, mmioWant, pioWant, inputWant, hostWant, msiWant, Request, goodChoice, oneBit, goodWant, goodRequest, rowAt, aligned, holds, free, alignUp, candidates, lowest, allowed, unjoined, obstacle, detail, found, unopposed, automatic, fixed, place, claims, resolve}
 use Rattle.definition.specs.Calls.{State, fresh, givenAt, soundAt, given, sound, pushAll, Call, pool, hold, start, addAll, serve}
 use Rattle.definition.specs.Plan.{Run, done, stopped, run, roomy, planRun}
 
@@ -50,29 +50,29 @@ msi9 cs = pool automatic (msiPool 0 0 8 10 0 4 8192 8200) ∷ cs
 pub cases : List Case
 cases =
     -- P1
-    case (pool automatic (mmioPool 0x1000 0x3000) ∷ hold 7 (mmioHold 0x1000 0x2000) ∷ []) (memory 0x100 0x100 auto ∷ []) ((0 ∷ 0x2000 ∷ []) ∷ [])
+    case (pool automatic (mmioPool 0x1000 0x3000) ∷ hold 7 (mmioHold 0x1000 0x2000) ∷ []) (mmioWant 0x100 0x100 auto ∷ []) ((0 ∷ 0x2000 ∷ []) ∷ [])
     -- P2
-    ∷ case (pool automatic (mmioPool 0x1000 0x2000) ∷ pool automatic (mmioPool 0x2000 0x3000) ∷ []) (memory 0x1800 0x1000 auto ∷ []) ((7 ∷ 1 ∷ 0 ∷ 0 ∷ []) ∷ [])
+    ∷ case (pool automatic (mmioPool 0x1000 0x2000) ∷ pool automatic (mmioPool 0x2000 0x3000) ∷ []) (mmioWant 0x1800 0x1000 auto ∷ []) ((7 ∷ 1 ∷ 0 ∷ 0 ∷ []) ∷ [])
     -- P3
-    ∷ case (pool fixed (mmioPool 0 0x8000) ∷ hold 9 (mmioHold 0x3000 0x4000) ∷ hold 4 (mmioHold 0x1000 0x2000) ∷ []) (memory 0x3000 0x1000 (at 0x1000) ∷ []) ((8 ∷ 1 ∷ 9 ∷ 1 ∷ []) ∷ [])
+    ∷ case (pool fixed (mmioPool 0 0x8000) ∷ hold 9 (mmioHold 0x3000 0x4000) ∷ hold 4 (mmioHold 0x1000 0x2000) ∷ []) (mmioWant 0x3000 0x1000 (at 0x1000) ∷ []) ((8 ∷ 1 ∷ 9 ∷ 1 ∷ []) ∷ [])
     -- P4
-    ∷ case (pool automatic (hostPool 40 42) ∷ hold 7 (hostHold 40 41) ∷ []) (irq auto ∷ irq auto ∷ []) ((0 ∷ 41 ∷ []) ∷ (7 ∷ 4 ∷ 0 ∷ 0 ∷ []) ∷ [])
+    ∷ case (pool automatic (hostPool 40 42) ∷ hold 7 (hostHold 40 41) ∷ []) (hostWant auto ∷ hostWant auto ∷ []) ((0 ∷ 41 ∷ []) ∷ (7 ∷ 4 ∷ 0 ∷ 0 ∷ []) ∷ [])
     -- P5
-    ∷ case (pool automatic (mmioPool (two64 - 4096) (two64 - 1)) ∷ []) (memory 4095 4096 auto ∷ []) ((0 ∷ (two64 - 4096) ∷ []) ∷ [])
-    ∷ case (pool automatic (mmioPool (two64 - 4096) (two64 - 1)) ∷ []) (memory 4096 4096 auto ∷ []) ((7 ∷ 1 ∷ 0 ∷ 0 ∷ []) ∷ [])
-    ∷ case (pool automatic (mmioPool (two64 - 4096) (two64 - 1)) ∷ []) (memory 4095 8192 auto ∷ []) ((7 ∷ 1 ∷ 0 ∷ 0 ∷ []) ∷ [])
+    ∷ case (pool automatic (mmioPool (two64 - 4096) (two64 - 1)) ∷ []) (mmioWant 4095 4096 auto ∷ []) ((0 ∷ (two64 - 4096) ∷ []) ∷ [])
+    ∷ case (pool automatic (mmioPool (two64 - 4096) (two64 - 1)) ∷ []) (mmioWant 4096 4096 auto ∷ []) ((7 ∷ 1 ∷ 0 ∷ 0 ∷ []) ∷ [])
+    ∷ case (pool automatic (mmioPool (two64 - 4096) (two64 - 1)) ∷ []) (mmioWant 4095 8192 auto ∷ []) ((7 ∷ 1 ∷ 0 ∷ 0 ∷ []) ∷ [])
     -- P6
-    ∷ case (pool fixed (pioPool 0xFFF0 0xFFFF) ∷ []) (ports 1 1 (at 0xFFFE) ∷ []) ((0 ∷ 0xFFFE ∷ []) ∷ [])
-    ∷ case (pool fixed (pioPool 0xFFF0 0xFFFF) ∷ []) (ports 1 1 (at 0xFFFF) ∷ []) ((6 ∷ 2 ∷ 0 ∷ 0 ∷ []) ∷ [])
+    ∷ case (pool fixed (pioPool 0xFFF0 0xFFFF) ∷ []) (pioWant 1 1 (at 0xFFFE) ∷ []) ((0 ∷ 0xFFFE ∷ []) ∷ [])
+    ∷ case (pool fixed (pioPool 0xFFF0 0xFFFF) ∷ []) (pioWant 1 1 (at 0xFFFF) ∷ []) ((6 ∷ 2 ∷ 0 ∷ 0 ∷ []) ∷ [])
     -- P7
-    ∷ case (pool automatic (inputPool 0 32 34) ∷ held32 []) (wire 0 0 1 auto ∷ []) ((0 ∷ 33 ∷ []) ∷ [])
+    ∷ case (pool automatic (inputPool 0 32 34) ∷ held32 []) (inputWant 0 0 1 auto ∷ []) ((0 ∷ 33 ∷ []) ∷ [])
     -- P8
-    ∷ case (pool fixed (inputPool 0 32 33) ∷ held32 []) (wire 0 1 0 (at 32) ∷ []) ((8 ∷ 3 ∷ 7 ∷ 2 ∷ []) ∷ [])
-    ∷ case (pool fixed (inputPool 0 32 33) ∷ held32 []) (wire 0 0 0 (at 32) ∷ []) ((8 ∷ 3 ∷ 7 ∷ 3 ∷ []) ∷ [])
+    ∷ case (pool fixed (inputPool 0 32 33) ∷ held32 []) (inputWant 0 1 0 (at 32) ∷ []) ((8 ∷ 3 ∷ 7 ∷ 2 ∷ []) ∷ [])
+    ∷ case (pool fixed (inputPool 0 32 33) ∷ held32 []) (inputWant 0 0 0 (at 32) ∷ []) ((8 ∷ 3 ∷ 7 ∷ 3 ∷ []) ∷ [])
     -- P9
-    ∷ case (msi9 (hold 7 (eventHold 0 0 8 0 4) ∷ [])) (msi 0 0 1 auto auto auto ∷ []) ((7 ∷ 5 ∷ 0 ∷ 0 ∷ []) ∷ [])
+    ∷ case (msi9 (hold 7 (eventHold 0 0 8 0 4) ∷ [])) (msiWant 0 0 1 auto auto auto ∷ []) ((7 ∷ 5 ∷ 0 ∷ 0 ∷ []) ∷ [])
     -- P10
-    ∷ case (msi9 []) (msi 0 0 2 auto auto auto ∷ msi 0 0 2 auto auto auto ∷ []) ((0 ∷ 8 ∷ 0 ∷ 8192 ∷ []) ∷ (0 ∷ 9 ∷ 0 ∷ 8194 ∷ []) ∷ [])
+    ∷ case (msi9 []) (msiWant 0 0 2 auto auto auto ∷ msiWant 0 0 2 auto auto auto ∷ []) ((0 ∷ 8 ∷ 0 ∷ 8192 ∷ []) ∷ (0 ∷ 9 ∷ 0 ∷ 8194 ∷ []) ∷ [])
     ∷ []
 
 pub stand-cases : map outcome cases ≡ map (λ c. c .answers) cases

@@ -12,7 +12,7 @@ use Rattle.definition.specs.BaseLaws.{T-true, T-false, either}
 use Rattle.definition.specs.Tables.{dom, Span, Kind, mmio, pio, host, device, event, lpi, kinds, sameKind, Table}
 use Rattle.definition.specs.Base.{Refusal, malformed, badInput, full, tell, Answer, accepted, refused, require, _then_}
 use Rattle.definition.specs.Pools.{In, at-kind, Pool, spans, Holders, Claim, rowsOf, _⊕_, room}
-use Rattle.definition.specs.Request.{Choice, Want, memory, ports, wire, irq, msi, Request, goodRequest, Need, Use, Pools, place, need, wireNeed, one, claims, resolve}
+use Rattle.definition.specs.Request.{Choice, Want, mmioWant, pioWant, inputWant, hostWant, msiWant, Request, goodRequest, Need, Use, Pools, place, need, inputNeed, one, claims, resolve}
 use Rattle.definition.specs.Calls.{State, poolsOf, ownersOf, given, sound, saying, pushAll, granting, pool, start, want, settle, addAll, serve}
 use Rattle.definition.specs.Plan.{Grant, grant, Run, done, stopped, run, allRows, planRun, ended, plan}
 use Rattle.definition.specs.ClaimLaws.{rows-same, rows-other, rows-append}
@@ -81,11 +81,11 @@ one-kind P S n c cs e =
 
 pub claims-kinds : (P : Pools) (S : Holders) (q : ℕ) (w : Want) (cs : List Claim) → claims P S q w ≡ accepted cs → map (λ c. c .kind) cs ≡ kindsOf w
 unfolding claims
-claims-kinds P S q (memory s a c) cs e = one-kind P S (need mmio (dom 0 0 0) s a q) c cs e
-claims-kinds P S q (ports s a c) cs e = one-kind P S (need pio (dom 0 0 0) s a q) c cs e
-claims-kinds P S q (wire k t s c) cs e = one-kind P S (wireNeed k t s q) c cs e
-claims-kinds P S q (irq c) cs e = one-kind P S (need host (dom 0 0 0) 1 1 q) c cs e
-claims-kinds P S q (msi k i n d e l) cs h =
+claims-kinds P S q (mmioWant s a c) cs e = one-kind P S (need mmio (dom 0 0 0) s a q) c cs e
+claims-kinds P S q (pioWant s a c) cs e = one-kind P S (need pio (dom 0 0 0) s a q) c cs e
+claims-kinds P S q (inputWant k t s c) cs e = one-kind P S (inputNeed k t s q) c cs e
+claims-kinds P S q (hostWant c) cs e = one-kind P S (need host (dom 0 0 0) 1 1 q) c cs e
+claims-kinds P S q (msiWant k i n d e l) cs h =
     let (rd, h₁, t₁) = then-accepted (place P S (need device (dom k i 0) 1 1 q) d) _ h in
     let (re, h₂, t₂) = then-accepted (place P S (need event (dom k i (rd .start)) n 1 q) e) _ t₁ in
     let (rl, h₃, t₃) = then-accepted (place P S (need lpi (dom k 0 0) n 1 q) l) _ t₂ in

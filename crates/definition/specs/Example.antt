@@ -8,7 +8,7 @@ use lib.ListN.{getD, replicate}
 use Rattle.definition.specs.Base.{anyOf, allOf, pairsOf, firstOf, lower, leastOf, require}
 use Rattle.definition.specs.Tables.{kinds, sameKind, sameDom, within, sameSpan, sameRow, overlap, meets, joins, clash, tidy, fits, fitsSpan, goodRow, goodSpan, begins, inOrder, soundTable}
 use Rattle.definition.specs.Pools.{mmioPool, pioPool, hostPool, inputPool, msiPool, insert, unlessThere, addRange, rowsOf, _⊕_, room, mmioHold, inputHold, unreserved, allUnreserved, reserve}
-use Rattle.definition.specs.Request.{auto, at, Want, memory, ports, wire, irq, msi, Request, goodChoice, oneBit, goodWant, goodRequest, rowAt, aligned, holds, free, alignUp, candidates, lowest, allowed, unjoined, obstacle, detail, found, unopposed, Use, automatic, fixed, place, claims, resolve}
+use Rattle.definition.specs.Request.{auto, at, Want, mmioWant, pioWant, inputWant, hostWant, msiWant, Request, goodChoice, oneBit, goodWant, goodRequest, rowAt, aligned, holds, free, alignUp, candidates, lowest, allowed, unjoined, obstacle, detail, found, unopposed, Use, automatic, fixed, place, claims, resolve}
 use Rattle.definition.specs.Calls.{State, fresh, poolsOf, givenAt, soundAt, given, sound, pushAll, granting, starting, Call, pool, hold, start, addAll, serve}
 use Rattle.definition.specs.Plan.{Grant, grant, run, recordOf, records, written, lent, allRows, roomy, planRun, grantsOf, plan, pinWant, pinned}
 use Rattle.definition.specs.RequestLaws.{AutoInFixed, insideOne, autoInFixed, inside-says}
@@ -33,8 +33,8 @@ stand = made (both automatic (both fixed (hold 7 (mmioHold 0x1000 0x1800) ∷ ho
 -- all five kinds, an input that is shared, two MSI lines
 lines : List Request
 lines =
-    line 1 (msi 1 2 2 auto auto auto) ∷ line 2 (wire 1 0 1 auto) ∷ line 3 (wire 1 0 1 (at 32)) ∷ line 4 (memory 0x100 0x100 auto)
-    ∷ line 5 (ports 4 4 auto) ∷ line 6 (irq auto) ∷ line 7 (msi 1 2 1 auto auto auto) ∷ []
+    line 1 (msiWant 1 2 2 auto auto auto) ∷ line 2 (inputWant 1 0 1 auto) ∷ line 3 (inputWant 1 0 1 (at 32)) ∷ line 4 (mmioWant 0x100 0x100 auto)
+    ∷ line 5 (pioWant 4 4 auto) ∷ line 6 (hostWant auto) ∷ line 7 (msiWant 1 2 1 auto auto auto) ∷ []
 
 results : List ℕ
 results = replicate 63 0
@@ -48,7 +48,7 @@ unfolding stand lines results made anyOf allOf pairsOf firstOf lower leastOf sam
 granted = grantsOf (planRun lines (serve kinds start stand) results)
 
 nothing : Grant
-nothing = grant (line 0 (irq auto)) []
+nothing = grant (line 0 (hostWant auto)) []
 
 -- the last MSI line, the shared input, the ports and the first MSI line, in this order
 chosen : List Grant
@@ -92,7 +92,7 @@ unfolding made anyOf allOf pairsOf firstOf lower leastOf sameKind sameDom within
 narrow = serve kinds (pool automatic (mmioPool 0x1000 0x3000)) fresh
 
 abbrev only : List Request
-only = line 1 (memory 0x100 0x100 auto) ∷ []
+only = line 1 (mmioWant 0x100 0x100 auto) ∷ []
 
 not-inside : (plan only (serve kinds start narrow) results .state .said .number ≡ 0)
     × (plan (map pinned (grantsOf (planRun only (serve kinds start narrow) results))) (serve kinds start narrow) results .state .said .number ≡ 6)

@@ -10,7 +10,7 @@ use lib.Dec.{T, leb}
 use Rattle.definition.specs.Base.{malformed, short, Answer, accepted, refused, require}
 use Rattle.definition.specs.Tables.{recordSize, Kind, mmio, pio, input, host, device, event, lpi, kinds, sameKind}
 use Rattle.definition.specs.Pools.{Claim}
-use Rattle.definition.specs.Request.{Want, memory, ports, wire, irq, msi, Request, resolve}
+use Rattle.definition.specs.Request.{Want, mmioWant, pioWant, inputWant, hostWant, msiWant, Request, resolve}
 use Rattle.definition.specs.Calls.{State, poolsOf, ownersOf, sound}
 use Rattle.definition.specs.Plan.{grant, Run, done, stopped, run, recordOf, records, written, Lent, lent, allocateInto, roomy, atOnce, planRun, grantsOf, ended, plan}
 use Rattle.definition.specs.ResolveLaws.{kindsOf}
@@ -52,14 +52,14 @@ bit false = omega arith
 -- .. which is one row at most
 pub among-one : (k : Kind) (w : Want) → among k (kindsOf w) ≤ 1
 unfolding among sameKind
-among-one k (memory s a c) = bit (sameKind mmio k)
-among-one k (ports s a c) = bit (sameKind pio k)
-among-one k (wire c t h x) = bit (sameKind input k)
-among-one k (irq c) = bit (sameKind host k)
-among-one mmio (msi c i n d e l) = omega arith
-among-one pio (msi c i n d e l) = omega arith
-among-one input (msi c i n d e l) = omega arith
-among-one host (msi c i n d e l) = omega arith
-among-one device (msi c i n d e l) = omega arith
-among-one event (msi c i n d e l) = omega arith
-among-one lpi (msi c i n d e l) = omega arith
+among-one k (mmioWant s a c) = bit (sameKind mmio k)
+among-one k (pioWant s a c) = bit (sameKind pio k)
+among-one k (inputWant c t h x) = bit (sameKind input k)
+among-one k (hostWant c) = bit (sameKind host k)
+among-one mmio (msiWant c i n d e l) = omega arith
+among-one pio (msiWant c i n d e l) = omega arith
+among-one input (msiWant c i n d e l) = omega arith
+among-one host (msiWant c i n d e l) = omega arith
+among-one device (msiWant c i n d e l) = omega arith
+among-one event (msiWant c i n d e l) = omega arith
+among-one lpi (msiWant c i n d e l) = omega arith

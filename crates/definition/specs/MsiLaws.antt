@@ -9,7 +9,7 @@ use Rattle.definition.specs.Base.{allOf, badInput, full, exhausted, Answ
 use Rattle.definition.specs.BaseLaws.{and-i, LeastAll, none-at-all, least-of-all}
 use Rattle.definition.specs.Tables.{rowLimit, device, event, lpi, nature, Row}
 use Rattle.definition.specs.Pools.{Holders, Claim, room}
-use Rattle.definition.specs.Request.{auto, msi, goodRequest, Need, rowAt, free, found, automatic, Pools, place, claims, resolve}
+use Rattle.definition.specs.Request.{auto, msiWant, goodRequest, Need, rowAt, free, found, automatic, Pools, place, claims, resolve}
 use Rattle.definition.specs.RequestLaws.{required}
 use Rattle.definition.specs.SearchLaws.{free-says, says-free, lowest-says}
 use Rattle.definition.specs.AutoLaws.{Usable, asks}
@@ -28,7 +28,7 @@ module _ (P : Pools) (S : Holders) where
     least-run : (b : ℕ) → Least n b → TurnSays n (accepted (rowAt n b))
     no-run : None n → TurnSays n (refused (exhausted (nature (n .kind) .namespace)))
 
-  turn-says : (n : Need) → 0 < n .align → TurnSays n (place P S n auto)
+  turn-says : (n : Need) → 0 < n .alignment → TurnSays n (place P S n auto)
   unfolding place found
   turn-says n pos = go (lowest-says (P automatic (n .kind)) (S (n .kind)) n pos)
     where
@@ -60,11 +60,11 @@ module _ (P : Pools) (S : Holders) where
       no-event : (d : ℕ) → LeastDevice d → None (eventNeed k i d n q) → MsiSays (refused (exhausted 5))
       no-lpi : (d e : ℕ) → LeastDevice d → LeastEvent d e → None (lpiNeed k n q) → MsiSays (refused (exhausted 6))
 
-    pub msi-says : (slot : ℕ) → T (goodRequest (asks P S q slot (msi k i n auto auto auto))) → length (S device) < rowLimit → length (S event) < rowLimit → length (S lpi) < rowLimit
-        → MsiSays (resolve P S (asks P S q slot (msi k i n auto auto auto)))
+    pub msi-says : (slot : ℕ) → T (goodRequest (asks P S q slot (msiWant k i n auto auto auto))) → length (S device) < rowLimit → length (S event) < rowLimit → length (S lpi) < rowLimit
+        → MsiSays (resolve P S (asks P S q slot (msiWant k i n auto auto auto)))
     unfolding resolve claims rowAt
     msi-says slot good fd fe fl =
-        rw (required (goodRequest (asks P S q slot (msi k i n auto auto auto))) badInput (claims P S q (msi k i n auto auto auto) then λ cs. require (room S cs) full (accepted cs)) good)
+        rw (required (goodRequest (asks P S q slot (msiWant k i n auto auto auto))) badInput (claims P S q (msiWant k i n auto auto auto) then λ cs. require (room S cs) full (accepted cs)) good)
         (first (turn-says (deviceNeed k i q) (omega arith)))
       where
         fitted : Answer (List Claim) → Answer (List Claim)

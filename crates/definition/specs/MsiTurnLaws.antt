@@ -8,7 +8,7 @@ use Rattle.definition.specs.Base.{Refusal, badInput, full, Answer, accep
 use Rattle.definition.specs.BaseLaws.{true-T, false-T}
 use Rattle.definition.specs.Tables.{dom, device, event, lpi, Row}
 use Rattle.definition.specs.Pools.{at-kind, Holders, Claim, room}
-use Rattle.definition.specs.Request.{Choice, msi, goodRequest, Need, Pools, place, need, claims, resolve}
+use Rattle.definition.specs.Request.{Choice, msiWant, goodRequest, Need, Pools, place, need, claims, resolve}
 use Rattle.definition.specs.RequestLaws.{required}
 use Rattle.definition.specs.AutoLaws.{asks}
 
@@ -42,10 +42,10 @@ module _ (P : Pools) (S : Holders) (q k i n : ℕ) (d e l : Choice) where
     no-row-free : (rd re rl : Row) → DeviceIs (accepted rd) → EventIs rd (accepted re) → LpiIs (accepted rl) → (T (room S (threeRows rd re rl)) → ⊥) → MsiTurns (refused full)
     all-stand : (rd re rl : Row) → DeviceIs (accepted rd) → EventIs rd (accepted re) → LpiIs (accepted rl) → T (room S (threeRows rd re rl)) → MsiTurns (accepted (threeRows rd re rl))
 
-  pub msi-turns : (slot : ℕ) → T (goodRequest (asks P S q slot (msi k i n d e l))) → MsiTurns (resolve P S (asks P S q slot (msi k i n d e l)))
+  pub msi-turns : (slot : ℕ) → T (goodRequest (asks P S q slot (msiWant k i n d e l))) → MsiTurns (resolve P S (asks P S q slot (msiWant k i n d e l)))
   unfolding resolve claims require
   msi-turns slot good =
-      rw (required (goodRequest (asks P S q slot (msi k i n d e l))) badInput (claims P S q (msi k i n d e l) then λ cs. require (room S cs) full (accepted cs)) good)
+      rw (required (goodRequest (asks P S q slot (msiWant k i n d e l))) badInput (claims P S q (msiWant k i n d e l) then λ cs. require (room S cs) full (accepted cs)) good)
       (first (place P S (deviceNeed k i q) d) refl)
     where
       fitted : Answer (List Claim) → Answer (List Claim)

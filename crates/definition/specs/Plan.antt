@@ -7,7 +7,7 @@ use lib.ListN.{length, drop}
 use Rattle.definition.specs.Tables.{planLimit, recordSize, Kind, kinds}
 use Rattle.definition.specs.Base.{Refusal, malformed, short, tell, Answer, accepted, refused, require}
 use Rattle.definition.specs.Pools.{Holders, Claim, _⊕_}
-use Rattle.definition.specs.Request.{Choice, auto, at, Want, memory, ports, wire, irq, msi, Request, Pools, resolve}
+use Rattle.definition.specs.Request.{Choice, auto, at, Want, mmioWant, pioWant, inputWant, hostWant, msiWant, Request, Pools, resolve}
 use Rattle.definition.specs.Calls.{State, poolsOf, ownersOf, sound, saying, granting}
 
 pub record Grant : Type 0 where  -- an accepted request and its rows
@@ -23,7 +23,7 @@ pub data Run : Type 0 where
 
 abbrev pub after : Grant → Run → Run
 after g (done gs) = done (g ∷ gs)
-after g (stopped gs r) = stopped (g ∷ gs) r
+after g (stopped gs x) = stopped (g ∷ gs) x
 
 unfoldable pub run : Pools → Holders → List Request → Run  -- each request is answered on the tables that the ones before it left
 run P S [] = done []
@@ -32,15 +32,15 @@ run P S (r ∷ rs) = elim (resolve P S r) [ accepted cs ↦ after (grant r cs) (
 -- ---- the nine numbers of a result
 abbrev pub baseAt : ℕ → List Claim → ℕ  -- the first number of the i-th row
 baseAt i [] = 0
-baseAt zero (c ∷ cs) = c .row .start
-baseAt (suc i) (c ∷ cs) = baseAt i cs
+baseAt zero (claim ∷ cs) = claim .row .start
+baseAt (suc i) (claim ∷ cs) = baseAt i cs
 
 abbrev pub record-of : ℕ → ℕ → Want → List Claim → List ℕ  -- kind, requester, slot, then the kind's numbers, zeros to nine
-record-of q s (memory n a c) cs = 1 ∷ q ∷ s ∷ baseAt 0 cs ∷ n ∷ 0 ∷ 0 ∷ 0 ∷ 0 ∷ []
-record-of q s (ports n a c) cs = 2 ∷ q ∷ s ∷ baseAt 0 cs ∷ n ∷ 0 ∷ 0 ∷ 0 ∷ 0 ∷ []
-record-of q s (wire k t h c) cs = 3 ∷ q ∷ s ∷ k ∷ baseAt 0 cs ∷ t ∷ h ∷ 0 ∷ 0 ∷ []
-record-of q s (irq c) cs = 4 ∷ q ∷ s ∷ baseAt 0 cs ∷ 0 ∷ 0 ∷ 0 ∷ 0 ∷ 0 ∷ []
-record-of q s (msi k i n d e l) cs = 5 ∷ q ∷ s ∷ k ∷ i ∷ baseAt 0 cs ∷ baseAt 1 cs ∷ baseAt 2 cs ∷ n ∷ []
+record-of q slot (mmioWant size a c) cs = 1 ∷ q ∷ slot ∷ baseAt 0 cs ∷ size ∷ 0 ∷ 0 ∷ 0 ∷ 0 ∷ []
+record-of q slot (pioWant size a c) cs = 2 ∷ q ∷ slot ∷ baseAt 0 cs ∷ size ∷ 0 ∷ 0 ∷ 0 ∷ 0 ∷ []
+record-of q slot (inputWant controller trigger sharing c) cs = 3 ∷ q ∷ slot ∷ controller ∷ baseAt 0 cs ∷ trigger ∷ sharing ∷ 0 ∷ 0 ∷ []
+record-of q slot (hostWant c) cs = 4 ∷ q ∷ slot ∷ baseAt 0 cs ∷ 0 ∷ 0 ∷ 0 ∷ 0 ∷ 0 ∷ []
+record-of q slot (msiWant controller its count cd ce cl) cs = 5 ∷ q ∷ slot ∷ controller ∷ its ∷ baseAt 0 cs ∷ baseAt 1 cs ∷ baseAt 2 cs ∷ count ∷ []
 
 unfoldable pub recordOf : Grant → List ℕ
 recordOf g = record-of (g .request .requester) (g .request .slot) (g .request .want) (g .rows)
@@ -96,14 +96,14 @@ plan rs s out = let v : Run = planRun rs s out in lent (ended s v) (written (rec
 -- ---- a line with its answer written back: `auto` becomes the number granted, a number stays
 abbrev pub pinChoice : Choice → ℕ → Choice
 pinChoice auto b = at b
-pinChoice (at x) b = at x
+pinChoice (at b′) b = at b′
 
 unfoldable pub pinWant : Want → List Claim → Want
-pinWant (memory s a c) cs = memory s a (pinChoice c (baseAt 0 cs))
-pinWant (ports s a c) cs = ports s a (pinChoice c (baseAt 0 cs))
-pinWant (wire k t s c) cs = wire k t s (pinChoice c (baseAt 0 cs))
-pinWant (irq c) cs = irq (pinChoice c (baseAt 0 cs))
-pinWant (msi k i n d e l) cs = msi k i n (pinChoice d (baseAt 0 cs)) (pinChoice e (baseAt 1 cs)) (pinChoice l (baseAt 2 cs))
+pinWant (mmioWant size a c) cs = mmioWant size a (pinChoice c (baseAt 0 cs))
+pinWant (pioWant size a c) cs = pioWant size a (pinChoice c (baseAt 0 cs))
+pinWant (inputWant controller trigger sharing c) cs = inputWant controller trigger sharing (pinChoice c (baseAt 0 cs))
+pinWant (hostWant c) cs = hostWant (pinChoice c (baseAt 0 cs))
+pinWant (msiWant controller its count cd ce cl) cs = msiWant controller its count (pinChoice cd (baseAt 0 cs)) (pinChoice ce (baseAt 1 cs)) (pinChoice cl (baseAt 2 cs))
 
 unfoldable pub pinned : Grant → Request
 pinned g = record { requester = g .request .requester; slot = g .request .slot; want = pinWant (g .request .want) (g .rows) }

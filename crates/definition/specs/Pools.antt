@@ -25,9 +25,9 @@ abbrev pub spans : Pool → List (In Span)  -- its ranges: an MSI domain adds de
 spans (mmioPool s e) = at-kind mmio (span (dom 0 0 0) s e) ∷ []
 spans (pioPool s e) = at-kind pio (span (dom 0 0 0) s e) ∷ []
 spans (hostPool s e) = at-kind host (span (dom 0 0 0) s e) ∷ []
-spans (inputPool c s e) = at-kind input (span (dom c 0 0) s e) ∷ []
-spans (msiPool c i ds de es ee ls le) =
-    at-kind device (span (dom c i 0) ds de) ∷ at-kind event (span (dom c i 0) es ee) ∷ at-kind lpi (span (dom c 0 0) ls le) ∷ []
+spans (inputPool controller s e) = at-kind input (span (dom controller 0 0) s e) ∷ []
+spans (msiPool controller its ds de es ee ls le) =
+    at-kind device (span (dom controller its 0) ds de) ∷ at-kind event (span (dom controller its 0) es ee) ∷ at-kind lpi (span (dom controller 0 0) ls le) ∷ []
 
 unfoldable pub insert : Span → List Span → List Span  -- just before the first row of its domain with a greater start, else after the last used row
 insert p [] = p ∷ []
@@ -71,11 +71,12 @@ abbrev pub heldRows : ℕ → Hold → List Claim  -- its rows; one host IRQ is 
 heldRows o (mmioHold s e) = at-kind mmio (rangeRow (dom 0 0 0) s e o) ∷ []
 heldRows o (pioHold s e) = at-kind pio (rangeRow (dom 0 0 0) s e o) ∷ []
 heldRows o (hostHold s e) = at-kind host (rangeRow (dom 0 0 0) s e o) ∷ []
-heldRows o (inputHold c n t s) = at-kind input (wiredRow c n t s o) ∷ []
-heldRows o (deviceHold c i s e) = at-kind device (rangeRow (dom c i 0) s e o) ∷ []
-heldRows o (eventHold c i d s e) = at-kind event (rangeRow (dom c i d) s e o) ∷ []
-heldRows o (lpiHold c s e) = at-kind lpi (rangeRow (dom c 0 0) s e o) ∷ []
-heldRows o (pairHold c n t h) = at-kind input (wiredRow c n t 0 o) ∷ at-kind host (rangeRow (dom 0 0 0) h (min (suc h) (nature host .top)) o) ∷ []
+heldRows o (inputHold controller n trigger sharing) = at-kind input (wiredRow controller n trigger sharing o) ∷ []
+heldRows o (deviceHold controller its s e) = at-kind device (rangeRow (dom controller its 0) s e o) ∷ []
+heldRows o (eventHold controller its v s e) = at-kind event (rangeRow (dom controller its v) s e o) ∷ []
+heldRows o (lpiHold controller s e) = at-kind lpi (rangeRow (dom controller 0 0) s e o) ∷ []
+heldRows o (pairHold controller n trigger irq) =
+    at-kind input (wiredRow controller n trigger 0 o) ∷ at-kind host (rangeRow (dom 0 0 0) irq (min (suc irq) (nature host .top)) o) ∷ []
 
 unfoldable pub unreserved : {A : Type 0} → Option Row → Answer A → Answer A  -- the first reservation that overlaps the row, in table order, names its owner
 unreserved none a = a

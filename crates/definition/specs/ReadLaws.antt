@@ -12,7 +12,7 @@ use Rattle.definition.specs.Base.{anyOf, allOf, firstOf, badInput, full,
 use Rattle.definition.specs.BaseLaws.{and-l, and-r, T-true, T-false, true-T, either, first-at, first-past, all-alike}
 use Rattle.definition.specs.Tables.{Dom, dom, sameDom, poolDom, Kind, mmio, pio, input, host, device, event, lpi, Span, Row, meets}
 use Rattle.definition.specs.Pools.{at-kind, Holders, Claim, room}
-use Rattle.definition.specs.Request.{Choice, auto, at, Want, memory, ports, wire, irq, msi, Request, oneBit, goodWant, goodRequest, Need, rowAt, holds, free, allowed, obstacle, found, Use, automatic, fixed, Pools, place, need, wireNeed, one, claims, resolve}
+use Rattle.definition.specs.Request.{Choice, auto, at, Want, mmioWant, pioWant, inputWant, hostWant, msiWant, Request, oneBit, goodWant, goodRequest, Need, rowAt, holds, free, allowed, obstacle, found, Use, automatic, fixed, Pools, place, need, inputNeed, one, claims, resolve}
 use Rattle.definition.specs.Calls.{State, poolsOf, ownersOf, sound, granting, want, settle, serve}
 use Rattle.definition.specs.RequestLaws.{required, oneBit-pos}
 use Rattle.definition.specs.SearchLaws.{lowest-says}
@@ -89,7 +89,7 @@ module _ (P P′ : Pools) (S S′ : Holders) where
     unfolding free
     free-same b = rw (held-alike automatic b, any-alike (λ r. sameDom (n .dom) (r .dom)) (meets (rowAt n b)) (meets-dom n b) (S (n .kind)) (S′ (n .kind)) (a .rows))
 
-    pub place-reads : (c : Choice) → 0 < n .align → place P S n c ≡ place P′ S′ n c
+    pub place-reads : (c : Choice) → 0 < n .alignment → place P S n c ≡ place P′ S′ n c
     unfolding place allowed obstacle
     place-reads auto pos =
         ap (found n) (all-alike (λ b t. subst T (free-same b) t) (λ b t. subst T (sym (free-same b)) t)
@@ -104,11 +104,11 @@ module _ (P P′ : Pools) (S S′ : Holders) where
   Reads k d = Alike P P′ S S′ k d × (length (S k) ≡ length (S′ k))
 
   abbrev pub ReadsFor : ℕ → Want → Type 0
-  ReadsFor q (memory s a c) = Reads mmio (dom 0 0 0)
-  ReadsFor q (ports s a c) = Reads pio (dom 0 0 0)
-  ReadsFor q (wire k t s c) = Reads input (dom k 0 0)
-  ReadsFor q (irq c) = Reads host (dom 0 0 0)
-  ReadsFor q (msi k i n d e l) =
+  ReadsFor q (mmioWant s a c) = Reads mmio (dom 0 0 0)
+  ReadsFor q (pioWant s a c) = Reads pio (dom 0 0 0)
+  ReadsFor q (inputWant k t s c) = Reads input (dom k 0 0)
+  ReadsFor q (hostWant c) = Reads host (dom 0 0 0)
+  ReadsFor q (msiWant k i n d e l) =
       Reads device (dom k i 0)
       × ((rd : Row) → place P S (need device (dom k i 0) 1 1 q) d ≡ accepted rd → Alike P P′ S S′ event (dom k i (rd .start)))
       × (length (S event) ≡ length (S′ event))
@@ -117,7 +117,7 @@ module _ (P P′ : Pools) (S S′ : Holders) where
   abbrev with-room : Holders → Answer (List Claim) → Answer (List Claim)
   with-room X a = a then λ cs. require (room X cs) full (accepted cs)
 
-  one-reads : (n : Need) (c : Choice) → 0 < n .align → Reads (n .kind) (n .dom) → with-room S (one P S n c) ≡ with-room S′ (one P′ S′ n c)
+  one-reads : (n : Need) (c : Choice) → 0 < n .alignment → Reads (n .kind) (n .dom) → with-room S (one P S n c) ≡ with-room S′ (one P′ S′ n c)
   unfolding room allOf
   one-reads n c pos (a, h) = rw (place-reads n a c pos) (go (place P′ S′ n c))
     where
@@ -125,7 +125,7 @@ module _ (P P′ : Pools) (S S′ : Holders) where
       go (accepted r) = rw h
       go (refused r) = refl
 
-  three-reads : (q k i n : ℕ) (d e l : Choice) → ReadsFor q (msi k i n d e l) → with-room S (claims P S q (msi k i n d e l)) ≡ with-room S′ (claims P′ S′ q (msi k i n d e l))
+  three-reads : (q k i n : ℕ) (d e l : Choice) → ReadsFor q (msiWant k i n d e l) → with-room S (claims P S q (msiWant k i n d e l)) ≡ with-room S′ (claims P′ S′ q (msiWant k i n d e l))
   unfolding claims room allOf
   three-reads q k i n d e l ((ad, nd), ae, ne, (al, nl)) = go₁ (place P S (need device (dom k i 0) 1 1 q) d) refl (sym (place-reads (need device (dom k i 0) 1 1 q) ad d (omega arith)))
     where
@@ -142,17 +142,17 @@ module _ (P P′ : Pools) (S S′ : Holders) where
       go₂ rd (refused r) = refl
 
       go₁ : (a : Answer Row) → place P S (need device (dom k i 0) 1 1 q) d ≡ a → place P′ S′ (need device (dom k i 0) 1 1 q) d ≡ place P S (need device (dom k i 0) 1 1 q) d
-          → with-room S (claims P S q (msi k i n d e l)) ≡ with-room S′ (claims P′ S′ q (msi k i n d e l))
+          → with-room S (claims P S q (msiWant k i n d e l)) ≡ with-room S′ (claims P′ S′ q (msiWant k i n d e l))
       go₁ (accepted rd) x y = rw (y, x, place-reads (need event (dom k i (rd .start)) n 1 q) (ae rd x) e (omega arith)) (go₂ rd (place P′ S′ (need event (dom k i (rd .start)) n 1 q) e))
       go₁ (refused r) x y = rw (y, x)
 
   want-reads : (q : ℕ) (w : Want) → T (goodWant w) → ReadsFor q w → with-room S (claims P S q w) ≡ with-room S′ (claims P′ S′ q w)
   unfolding claims goodWant
-  want-reads q (memory s a c) g h = let b : T (oneBit 64 a) = search (and-l, and-r) in one-reads (need mmio (dom 0 0 0) s a q) c (oneBit-pos 64 a b) h
-  want-reads q (ports s a c) g h = let b : T (oneBit 16 a) = search (and-l, and-r) in one-reads (need pio (dom 0 0 0) s a q) c (oneBit-pos 16 a b) h
-  want-reads q (wire k t s c) g h = one-reads (wireNeed k t s q) c (omega arith) h
-  want-reads q (irq c) g h = one-reads (need host (dom 0 0 0) 1 1 q) c (omega arith) h
-  want-reads q (msi k i n d e l) g h = three-reads q k i n d e l h
+  want-reads q (mmioWant s a c) g h = let b : T (oneBit 64 a) = search (and-l, and-r) in one-reads (need mmio (dom 0 0 0) s a q) c (oneBit-pos 64 a b) h
+  want-reads q (pioWant s a c) g h = let b : T (oneBit 16 a) = search (and-l, and-r) in one-reads (need pio (dom 0 0 0) s a q) c (oneBit-pos 16 a b) h
+  want-reads q (inputWant k t s c) g h = one-reads (inputNeed k t s q) c (omega arith) h
+  want-reads q (hostWant c) g h = one-reads (need host (dom 0 0 0) 1 1 q) c (omega arith) h
+  want-reads q (msiWant k i n d e l) g h = three-reads q k i n d e l h
 
 -- WHAT AN ANSWER READS: the same answer, refusal and named owner included
 pub resolve-reads : (P P′ : Pools) (S S′ : Holders) (r : Request) → ReadsFor P P′ S S′ (r .requester) (r .want) → resolve P S r ≡ resolve P′ S′ r

@@ -9,7 +9,7 @@ use lib.ListN.{length, length-append}
 use Rattle.definition.specs.Tables.{rowLimit, Kind}
 use Rattle.definition.specs.Base.{Answer, accepted, refused}
 use Rattle.definition.specs.Pools.{Holders, Claim, rowsOf, _⊕_}
-use Rattle.definition.specs.Request.{Want, memory, ports, wire, irq, msi, Request, Pools, resolve}
+use Rattle.definition.specs.Request.{Want, mmioWant, pioWant, inputWant, hostWant, msiWant, Request, Pools, resolve}
 use Rattle.definition.specs.Plan.{Grant, grant, done, after, run, allRows, record-of, recordOf, records, pinWant, pinned}
 use Rattle.definition.specs.ClaimLaws.{rows-append, Fits, length-put, FreeOf, Clear, clear-sym, free-put, put-free}
 use Rattle.definition.specs.RequestLaws.{AutoInFixed, Wide}
@@ -151,11 +151,11 @@ unfolding recordOf pinned pinWant
 kept-record g = go (g .request .want)
   where
     go : (w : Want) → record-of (g .request .requester) (g .request .slot) (pinWant w (g .rows)) (g .rows) ≡ record-of (g .request .requester) (g .request .slot) w (g .rows)
-    go (memory s a c) = refl
-    go (ports s a c) = refl
-    go (wire k t s c) = refl
-    go (irq c) = refl
-    go (msi k i n d e l) = refl
+    go (mmioWant s a c) = refl
+    go (pioWant s a c) = refl
+    go (inputWant k t s c) = refl
+    go (hostWant c) = refl
+    go (msiWant k i n d e l) = refl
 
 pub kept-records : (gs : List Grant) → records (map kept gs) ≡ records gs
 unfolding records

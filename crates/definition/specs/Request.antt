@@ -14,10 +14,10 @@ pub data Choice : Type 0 where
   at : ℕ → Choice
 
 pub data Want : Type 0 where
-  memory ports : ℕ → ℕ → Choice → Want  -- size, alignment
-  wire : ℕ → ℕ → ℕ → Choice → Want  -- controller, trigger, sharing
-  irq : Choice → Want
-  msi : ℕ → ℕ → ℕ → Choice → Choice → Choice → Want  -- controller, ITS, count; device, event, LPI
+  mmioWant pioWant : ℕ → ℕ → Choice → Want  -- size, alignment
+  inputWant : ℕ → ℕ → ℕ → Choice → Want  -- controller, trigger, sharing
+  hostWant : Choice → Want
+  msiWant : ℕ → ℕ → ℕ → Choice → Choice → Choice → Want  -- controller, ITS, count; device, event, LPI
 
 pub record Request : Type 0 where
   pub requester : ℕ
@@ -25,40 +25,40 @@ pub record Request : Type 0 where
   pub want : Want
 
 -- ---- 2: size, count or requester 0; alignment without exactly one bit set; a code unknown; a number too large for its field
-unfoldable pub goodChoice : ℕ → Choice → Bool
-goodChoice t auto = true
-goodChoice t (at b) = leb b t
+unfoldable pub goodChoice : ℕ → Choice → Bool  -- a number asked for is within the width
+goodChoice most auto = true
+goodChoice most (at b) = leb b most
 
 unfoldable pub oneBit : ℕ → ℕ → Bool
 oneBit width a = eqb (onesIn width a) 1
 
 unfoldable pub goodWant : Want → Bool
-goodWant (memory s a c) = ltb 0 s && (leb s (top 64) && (leb a (top 64) && (oneBit 64 a && goodChoice (nature mmio .top) c)))
-goodWant (ports s a c) = ltb 0 s && (leb s (top 16) && (leb a (top 16) && (oneBit 16 a && goodChoice (nature pio .top) c)))
-goodWant (wire k t s c) = leb k (top 32) && (leb t lastTrigger && (leb s shared && goodChoice (nature input .top) c))
-goodWant (irq c) = goodChoice (nature host .top) c
-goodWant (msi k i n d e l) =
-    leb k (top 32) && (leb i (top 32) && (ltb 0 n && (leb n (top 32)
-    && (goodChoice (nature device .top) d && (goodChoice (nature event .top) e && goodChoice (nature lpi .top) l)))))
+goodWant (mmioWant size a c) = ltb 0 size && (leb size (top 64) && (leb a (top 64) && (oneBit 64 a && goodChoice (nature mmio .top) c)))
+goodWant (pioWant size a c) = ltb 0 size && (leb size (top 16) && (leb a (top 16) && (oneBit 16 a && goodChoice (nature pio .top) c)))
+goodWant (inputWant controller trigger sharing c) = leb controller (top 32) && (leb trigger lastTrigger && (leb sharing shared && goodChoice (nature input .top) c))
+goodWant (hostWant c) = goodChoice (nature host .top) c
+goodWant (msiWant controller its count cd ce cl) =
+    leb controller (top 32) && (leb its (top 32) && (ltb 0 count && (leb count (top 32)
+    && (goodChoice (nature device .top) cd && (goodChoice (nature event .top) ce && goodChoice (nature lpi .top) cl)))))
 
 unfoldable pub goodRequest : Request → Bool
-goodRequest r = ltb 0 (r .requester) && (leb (r .requester) (top 32) && (leb (r .slot) (top 32) && goodWant (r .want)))
+goodRequest request = ltb 0 (request .requester) && (leb (request .requester) (top 32) && (leb (request .slot) (top 32) && goodWant (request .want)))
 
 -- ---- one run of numbers in one table
 pub record Need : Type 0 where  -- what a request needs of a table
   pub kind : Kind
   pub dom : Dom
   pub size : ℕ
-  pub align : ℕ
+  pub alignment : ℕ
   pub trigger : ℕ
   pub sharing : ℕ
-  pub owner : ℕ
+  pub requester : ℕ
 
 unfoldable pub rowAt : Need → ℕ → Row  -- the row that a need gets at a base: its domain, the whole range, its codes, its requester as owner
-rowAt n b = record { dom = n .dom; start = b; end = b + n .size; trigger = n .trigger; sharing = n .sharing; owner = n .owner }
+rowAt n b = record { dom = n .dom; start = b; end = b + n .size; trigger = n .trigger; sharing = n .sharing; owner = n .requester }
 
 unfoldable pub aligned : Need → ℕ → Bool
-aligned n b = eqb (b % n .align) 0
+aligned n b = eqb (b % n .alignment) 0
 
 unfoldable pub holds : Need → ℕ → Span → Bool  -- the pool range is of the need's domain and holds the whole run at b
 holds n b p = sameDom (poolDom (n .dom)) (p .dom) && (leb (p .start) b && leb (b + n .size) (p .end))
@@ -73,7 +73,7 @@ unfoldable pub candidates : List Span → List Row → ℕ → List ℕ  -- the 
 candidates pools rows a = map (λ p. alignUp a (p .start)) pools ++ map (λ r. alignUp a (r .end)) rows
 
 unfoldable pub lowest : List Span → List Row → Need → Option ℕ
-lowest pools rows n = leastOf (free pools rows n) (candidates pools rows (n .align))
+lowest pools rows n = leastOf (free pools rows n) (candidates pools rows (n .alignment))
 
 unfoldable pub allowed : List Span → Need → ℕ → Bool  -- a fixed request may ask for b: aligned, its end within the width, held by one fixed range
 allowed pools n b = aligned n b && (leb (b + n .size) (nature (n .kind) .top) && anyOf (holds n b) pools)
@@ -116,24 +116,24 @@ place P S n (at b) =
 
 -- ---- the needs of each kind of request
 abbrev pub need : Kind → Dom → ℕ → ℕ → ℕ → Need  -- kind, domain, size, alignment, and who asks; without codes
-need k d s a q = record { kind = k; dom = d; size = s; align = a; trigger = 0; sharing = 0; owner = q }
+need k d size a q = record { kind = k; dom = d; size = size; alignment = a; trigger = 0; sharing = 0; requester = q }
 
-abbrev pub wireNeed : ℕ → ℕ → ℕ → ℕ → Need  -- one input: controller, trigger, sharing, and who asks
-wireNeed c t s q = record { kind = input; dom = dom c 0 0; size = 1; align = 1; trigger = t; sharing = s; owner = q }
+abbrev pub inputNeed : ℕ → ℕ → ℕ → ℕ → Need  -- one input: controller, trigger, sharing, and who asks
+inputNeed controller trigger sharing q = record { kind = input; dom = dom controller 0 0; size = 1; alignment = 1; trigger = trigger; sharing = sharing; requester = q }
 
 abbrev pub one : Pools → Holders → Need → Choice → Answer (List Claim)
 one P S n c = place P S n c then λ r. accepted (at-kind (n .kind) r ∷ [])
 
 unfoldable pub claims : Pools → Holders → ℕ → Want → Answer (List Claim)  -- the rows that a request is granted; MSI: device, then event run, then LPI run, each with its refusal before the next is looked at
-claims P S q (memory s a c) = one P S (need mmio (dom 0 0 0) s a q) c
-claims P S q (ports s a c) = one P S (need pio (dom 0 0 0) s a q) c
-claims P S q (wire k t s c) = one P S (wireNeed k t s q) c
-claims P S q (irq c) = one P S (need host (dom 0 0 0) 1 1 q) c
-claims P S q (msi k i n d e l) =
-    place P S (need device (dom k i 0) 1 1 q) d then λ rd.
-    place P S (need event (dom k i (rd .start)) n 1 q) e then λ re.
-    place P S (need lpi (dom k 0 0) n 1 q) l then λ rl.
+claims P S q (mmioWant size a c) = one P S (need mmio (dom 0 0 0) size a q) c
+claims P S q (pioWant size a c) = one P S (need pio (dom 0 0 0) size a q) c
+claims P S q (inputWant controller trigger sharing c) = one P S (inputNeed controller trigger sharing q) c
+claims P S q (hostWant c) = one P S (need host (dom 0 0 0) 1 1 q) c
+claims P S q (msiWant controller its count cd ce cl) =
+    place P S (need device (dom controller its 0) 1 1 q) cd then λ rd.
+    place P S (need event (dom controller its (rd .start)) count 1 q) ce then λ re.
+    place P S (need lpi (dom controller 0 0) count 1 q) cl then λ rl.
     accepted (at-kind device rd ∷ at-kind event re ∷ at-kind lpi rl ∷ [])
 
 unfoldable pub resolve : Pools → Holders → Request → Answer (List Claim)  -- 2, then 6, 7 or 8, then 9: the answer on sound tables is the rows to add at the ends of their tables
-resolve P S r = require (goodRequest r) badInput (claims P S (r .requester) (r .want) then λ cs. require (room S cs) full (accepted cs))
+resolve P S request = require (goodRequest request) badInput (claims P S (request .requester) (request .want) then λ cs. require (room S cs) full (accepted cs))

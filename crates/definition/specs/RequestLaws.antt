@@ -12,7 +12,7 @@ use Rattle.definition.specs.Base.{anyOf, allOf, Refusal, fixedNotAllowed
 use Rattle.definition.specs.BaseLaws.{and-l, and-r, and-i, eq→eqb, any-in, in-any, all-in, LeastAll, none-at-all, least-of-all}
 use Rattle.definition.specs.Tables.{top, lastTrigger, shared, Dom, dom, sameDom, within, poolDom, Kind, input, kinds, nature, Span, Row, fits, ends, ifWired, goodRow}
 use Rattle.definition.specs.Pools.{Holders}
-use Rattle.definition.specs.Request.{Choice, auto, at, oneBit, Need, rowAt, aligned, holds, free, allowed, obstacle, found, unopposed, automatic, fixed, Pools, place, need, wireNeed}
+use Rattle.definition.specs.Request.{Choice, auto, at, oneBit, Need, rowAt, aligned, holds, free, allowed, obstacle, found, unopposed, automatic, fixed, Pools, place, need, inputNeed}
 use Rattle.definition.specs.Plan.{pinChoice}
 use Rattle.definition.specs.RowLaws.{every-kind, dom-trans, clash-meets, Beside, beside-clear, Apart, obstacle-beside, good-fits}
 use Rattle.definition.specs.SearchLaws.{IsFree, free-says, lowest-says}
@@ -137,7 +137,7 @@ module _ (P : Pools) (n : Need) (wide : Wide P (n .kind)) (makes : Makes n) wher
       let f : T (fits (n .kind) (rowAt n b)) = good-fits (n .kind) (rowAt n b) (makes b high) in
       rw q at (made S (at b) b refl high (λ i. t) (obstacle-beside (n .kind) (rowAt n b) (S (n .kind)) f (s .0) (s .1) eo))
 
-  pub placed : (S : Holders) (c : Choice) (r : Row) → SoundRows (n .kind) (S (n .kind)) → 0 < n .align → place P S n c ≡ accepted r → Placed P S n c r
+  pub placed : (S : Holders) (c : Choice) (r : Row) → SoundRows (n .kind) (S (n .kind)) → 0 < n .alignment → place P S n c ≡ accepted r → Placed P S n c r
   unfolding place
   placed S auto r s pos e = placed-auto S r (lowest-says (P automatic (n .kind)) (S (n .kind)) n pos) e
   placed S (at b) r s pos e = let (t, e′) = require-accepted (allowed (P fixed (n .kind)) n b) _ _ e in placed-fixed S b r (obstacle (rowAt n b) (S (n .kind))) s t refl e′
@@ -164,9 +164,9 @@ range-made k d s a q plain w pos own least b high =
     let h : T (leb 0 (ifWired (nature k .wired) shared)) = rw plain tt in
     search (and-i, le→leb, lt→ltb) depth 10
 
-pub wire-made : (c t h q : ℕ) → c ≤ top 32 → t ≤ lastTrigger → h ≤ shared → 0 < q → q ≤ top 32 → Makes (wireNeed c t h q)
+pub input-made : (c t h q : ℕ) → c ≤ top 32 → t ≤ lastTrigger → h ≤ shared → 0 < q → q ≤ top 32 → Makes (inputNeed c t h q)
 unfolding rowAt goodRow fits within
-wire-made c t h q lc lt lh own least b high =
+input-made c t h q lc lt lh own least b high =
     let l₁ : b ≤ nature input .top = omega arith in
     let l₂ : b < b + 1 = omega arith in
     let e : b + 1 ≡ suc b = omega arith in

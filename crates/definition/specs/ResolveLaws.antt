@@ -10,21 +10,21 @@ use Rattle.definition.specs.Base.{allOf, pairsOf, badInput, full, accept
 use Rattle.definition.specs.BaseLaws.{and-l, and-r, and-i, →not-T}
 use Rattle.definition.specs.Tables.{top, lastTrigger, shared, dom, within, Kind, mmio, pio, input, host, device, event, lpi, nature, sameKind, Row, clash, goodRow}
 use Rattle.definition.specs.Pools.{at-kind, Holders, Claim, _⊕_, room}
-use Rattle.definition.specs.Request.{Choice, auto, at, Want, memory, ports, wire, irq, msi, Request, goodChoice, oneBit, goodWant, goodRequest, Need, Pools, place, need, wireNeed, one, claims, resolve}
+use Rattle.definition.specs.Request.{Choice, auto, at, Want, mmioWant, pioWant, inputWant, hostWant, msiWant, Request, goodChoice, oneBit, goodWant, goodRequest, Need, Pools, place, need, inputNeed, one, claims, resolve}
 use Rattle.definition.specs.Plan.{grant, pinChoice, pinWant, pinned}
 use Rattle.definition.specs.RowLaws.{clash-sym, Beside}
 use Rattle.definition.specs.ClaimLaws.{otherKind, goods-added, pairs-added, Fits, fits-one, fits-room, length-put, FreeOf}
-use Rattle.definition.specs.RequestLaws.{then-accepted, require-accepted, required, AutoInFixed, Wide, SoundRows, Makes, Placed, placed, oneBit-pos, range-made, wire-made}
+use Rattle.definition.specs.RequestLaws.{then-accepted, require-accepted, required, AutoInFixed, Wide, SoundRows, Makes, Placed, placed, oneBit-pos, range-made, input-made}
 
 -- ---- the rows of one request
 
 -- the kinds whose tables it needs
 abbrev pub kindsOf : Want → List Kind
-kindsOf (memory s a c) = mmio ∷ []
-kindsOf (ports s a c) = pio ∷ []
-kindsOf (wire k t s c) = input ∷ []
-kindsOf (irq c) = host ∷ []
-kindsOf (msi k i n d e l) = device ∷ event ∷ lpi ∷ []
+kindsOf (mmioWant s a c) = mmio ∷ []
+kindsOf (pioWant s a c) = pio ∷ []
+kindsOf (inputWant k t s c) = input ∷ []
+kindsOf (hostWant c) = host ∷ []
+kindsOf (msiWant k i n d e l) = device ∷ event ∷ lpi ∷ []
 
 pub record Claimed (P : Pools) (S : Holders) (q : ℕ) (w : Want) (cs : List Claim) : Type 0 where
   pub free-of : FreeOf S cs
@@ -62,7 +62,7 @@ Ground P S k = Wide P k × SoundRows k (S k)
 
 module _ (P : Pools) (S : Holders) (q : ℕ) where
   -- a request of one row: its claims are one place, and so are those of its pinned form
-  single : (n : Need) (w : Want) (c : Choice) (cs : List Claim) → Ground P S (n .kind) → Makes n → 0 < n .align
+  single : (n : Need) (w : Want) (c : Choice) (cs : List Claim) → Ground P S (n .kind) → Makes n → 0 < n .alignment
       → claims P S q w ≡ one P S n c
       → ((S′ : Holders) (r : Row) → claims P S′ q (pinWant w (at-kind (n .kind) r ∷ [])) ≡ one P S′ n (pinChoice c (r .start)))
       → ((r : Row) → r .start ≤ nature (n .kind) .top → T (goodWant (pinWant w (at-kind (n .kind) r ∷ []))))
@@ -82,7 +82,7 @@ module _ (P : Pools) (S : Holders) (q : ℕ) where
       rw z at here
 
   module _ (own : 0 < q) (least : q ≤ top 32) where
-    triple : (k i n : ℕ) (d e l : Choice) (cs : List Claim) → Ground P S device → Ground P S event → Ground P S lpi → T (goodWant (msi k i n d e l)) → claims P S q (msi k i n d e l) ≡ accepted cs → Claimed P S q (msi k i n d e l) cs
+    triple : (k i n : ℕ) (d e l : Choice) (cs : List Claim) → Ground P S device → Ground P S event → Ground P S lpi → T (goodWant (msiWant k i n d e l)) → claims P S q (msiWant k i n d e l) ≡ accepted cs → Claimed P S q (msiWant k i n d e l) cs
     unfolding claims goodWant pinWant pairsOf allOf otherKind sameKind within
     triple k i n d e l cs (wide-d, rows-d) (wide-e, rows-e) (wide-l, rows-l) g h =
         let g₁ : T (leb k (top 32)) = search (and-l, and-r) depth 8 in
@@ -107,7 +107,7 @@ module _ (P : Pools) (S : Holders) (q : ℕ) where
         let fd : T (goodChoice (nature device .top) (pinChoice d (rd .start))) = pin-good (nature device .top) (rd .start) d (pd .low) gd in
         let fe : T (goodChoice (nature event .top) (pinChoice e (re .start))) = pin-good (nature event .top) (re .start) e (pe .low) ge in
         let fl : T (goodChoice (nature lpi .top) (pinChoice l (rl .start))) = pin-good (nature lpi .top) (rl .start) l (pl .low) gl in
-        let here : Claimed P S q (msi k i n d e l) (at-kind device rd ∷ at-kind event re ∷ at-kind lpi rl ∷ []) = record {
+        let here : Claimed P S q (msiWant k i n d e l) (at-kind device rd ∷ at-kind event re ∷ at-kind lpi rl ∷ []) = record {
           free-of = cons-free S device rd _ (pd .beside) (cons-free S event re _ (pe .beside) (one-free S lpi rl (pl .beside)));
           apart = tt;
           goods = three-good (at-kind device rd) (at-kind event re) (at-kind lpi rl) (pd .good) (pe .good) (pl .good);
@@ -118,33 +118,33 @@ module _ (P : Pools) (S : Holders) (q : ℕ) where
 
     pub claimed : (w : Want) (cs : List Claim) → ((k : Kind) → List·Memᴰ k (kindsOf w) → Ground P S k) → T (goodWant w) → claims P S q w ≡ accepted cs → Claimed P S q w cs
     unfolding claims goodWant pinWant within
-    claimed (memory s a c) cs ground g e =
+    claimed (mmioWant s a c) cs ground g e =
         let g₁ : T (ltb 0 s) = search (and-l, and-r) in
         let g₂ : T (leb s (top 64)) = search (and-l, and-r) in
         let g₃ : T (leb a (top 64)) = search (and-l, and-r) in
         let g₄ : T (oneBit 64 a) = search (and-l, and-r) in
         let g₅ : T (goodChoice (nature mmio .top) c) = search (and-l, and-r) in
-        single (need mmio (dom 0 0 0) s a q) (memory s a c) c cs (ground _ (List·Memᴰ·head refl)) (range-made mmio (dom 0 0 0) s a q refl tt (ltb→lt 0 s g₁) own least) (oneBit-pos 64 a g₄) refl (λ S′ r. refl)
+        single (need mmio (dom 0 0 0) s a q) (mmioWant s a c) c cs (ground _ (List·Memᴰ·head refl)) (range-made mmio (dom 0 0 0) s a q refl tt (ltb→lt 0 s g₁) own least) (oneBit-pos 64 a g₄) refl (λ S′ r. refl)
         (λ r h. let f : T (goodChoice (nature mmio .top) (pinChoice c (r .start))) = pin-good (nature mmio .top) (r .start) c h g₅ in search (and-i) depth 8) e
-    claimed (ports s a c) cs ground g e =
+    claimed (pioWant s a c) cs ground g e =
         let g₁ : T (ltb 0 s) = search (and-l, and-r) in
         let g₂ : T (leb s (top 16)) = search (and-l, and-r) in
         let g₃ : T (leb a (top 16)) = search (and-l, and-r) in
         let g₄ : T (oneBit 16 a) = search (and-l, and-r) in
         let g₅ : T (goodChoice (nature pio .top) c) = search (and-l, and-r) in
-        single (need pio (dom 0 0 0) s a q) (ports s a c) c cs (ground _ (List·Memᴰ·head refl)) (range-made pio (dom 0 0 0) s a q refl tt (ltb→lt 0 s g₁) own least) (oneBit-pos 16 a g₄) refl (λ S′ r. refl)
+        single (need pio (dom 0 0 0) s a q) (pioWant s a c) c cs (ground _ (List·Memᴰ·head refl)) (range-made pio (dom 0 0 0) s a q refl tt (ltb→lt 0 s g₁) own least) (oneBit-pos 16 a g₄) refl (λ S′ r. refl)
         (λ r h. let f : T (goodChoice (nature pio .top) (pinChoice c (r .start))) = pin-good (nature pio .top) (r .start) c h g₅ in search (and-i) depth 8) e
-    claimed (wire k t s c) cs ground g e =
+    claimed (inputWant k t s c) cs ground g e =
         let g₁ : T (leb k (top 32)) = search (and-l, and-r) in
         let g₂ : T (leb t lastTrigger) = search (and-l, and-r) in
         let g₃ : T (leb s shared) = search (and-l, and-r) in
         let g₄ : T (goodChoice (nature input .top) c) = search (and-l, and-r) in
-        single (wireNeed k t s q) (wire k t s c) c cs (ground _ (List·Memᴰ·head refl)) (wire-made k t s q (leb→le k (top 32) g₁) (leb→le t lastTrigger g₂) (leb→le s shared g₃) own least) (omega arith) refl (λ S′ r. refl)
+        single (inputNeed k t s q) (inputWant k t s c) c cs (ground _ (List·Memᴰ·head refl)) (input-made k t s q (leb→le k (top 32) g₁) (leb→le t lastTrigger g₂) (leb→le s shared g₃) own least) (omega arith) refl (λ S′ r. refl)
         (λ r h. let f : T (goodChoice (nature input .top) (pinChoice c (r .start))) = pin-good (nature input .top) (r .start) c h g₄ in search (and-i) depth 8) e
-    claimed (irq c) cs ground g e =
-        single (need host (dom 0 0 0) 1 1 q) (irq c) c cs (ground _ (List·Memᴰ·head refl)) (range-made host (dom 0 0 0) 1 1 q refl tt (omega arith) own least) (omega arith) refl (λ S′ r. refl)
+    claimed (hostWant c) cs ground g e =
+        single (need host (dom 0 0 0) 1 1 q) (hostWant c) c cs (ground _ (List·Memᴰ·head refl)) (range-made host (dom 0 0 0) 1 1 q refl tt (omega arith) own least) (omega arith) refl (λ S′ r. refl)
         (λ r h. pin-good (nature host .top) (r .start) c h g) e
-    claimed (msi k i n d e l) cs ground g h =
+    claimed (msiWant k i n d e l) cs ground g h =
         triple k i n d e l cs (ground _ (List·Memᴰ·head refl)) (ground _ (List·Memᴰ·tail (List·Memᴰ·head refl))) (ground _ (List·Memᴰ·tail (List·Memᴰ·tail (List·Memᴰ·head refl)))) g h
 
 -- ---- one request

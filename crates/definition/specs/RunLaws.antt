@@ -7,7 +7,7 @@ use lib.ListN.{length, take, length-append}
 use Rattle.definition.specs.Tables.{recordSize, Kind}
 use Rattle.definition.specs.Base.{Refusal, Answer, accepted, refused}
 use Rattle.definition.specs.Pools.{Holders, Claim, rowsOf, _⊕_}
-use Rattle.definition.specs.Request.{Want, memory, ports, wire, irq, msi, Request, Pools, resolve}
+use Rattle.definition.specs.Request.{Want, mmioWant, pioWant, inputWant, hostWant, msiWant, Request, Pools, resolve}
 use Rattle.definition.specs.Plan.{Grant, grant, Run, done, stopped, after, run, allRows, record-of, recordOf, records}
 use Rattle.definition.specs.ClaimLaws.{rows-append, Fits}
 use Rattle.definition.specs.RequestLaws.{Wide, SoundRows}
@@ -110,11 +110,11 @@ unfolding recordOf
 record-length g = go (g .request .want)
   where
     go : (w : Want) → length (record-of (g .request .requester) (g .request .slot) w (g .rows)) ≡ recordSize
-    go (memory s a c) = refl
-    go (ports s a c) = refl
-    go (wire k t s c) = refl
-    go (irq c) = refl
-    go (msi k i n d e l) = refl
+    go (mmioWant s a c) = refl
+    go (pioWant s a c) = refl
+    go (inputWant k t s c) = refl
+    go (hostWant c) = refl
+    go (msiWant k i n d e l) = refl
 
 pub records-length : (gs : List Grant) → length (records gs) ≡ recordSize * length gs
 unfolding records

@@ -25,7 +25,7 @@ alignUp-is a x b pos mult low high =
 
 -- what `free` says, in orders
 pub record IsFree (pools : List Span) (rows : List Row) (n : Need) (b : ℕ) : Type 0 where
-  pub mult : b % n .align ≡ 0
+  pub mult : b % n .alignment ≡ 0
   pub pool : Span
   pub in-pools : List·Memᴰ pool pools
   pub dom : T (sameDom (poolDom (n .dom)) (pool .dom))
@@ -34,12 +34,12 @@ pub record IsFree (pools : List Span) (rows : List Row) (n : Need) (b : ℕ) : T
   pub clear : (r : Row) → List·Memᴰ r rows → T (meets (rowAt n b) r) → ⊥
 
 -- a row that is in the way at b - a, and not at b, ends at b or less than a below it
-row-ends : (n : Need) (b : ℕ) (r : Row) → n .align ≤ b → T (meets (rowAt n (b - n .align)) r) → (T (meets (rowAt n b) r) → ⊥) → (r .end ≤ b) × (b < r .end + n .align)
+row-ends : (n : Need) (b : ℕ) (r : Row) → n .alignment ≤ b → T (meets (rowAt n (b - n .alignment)) r) → (T (meets (rowAt n b) r) → ⊥) → (r .end ≤ b) × (b < r .end + n .alignment)
 unfolding meets overlap rowAt
 row-ends n b r ha w u =
     let w₀ : T (sameDom (n .dom) (r .dom)) = search (and-l, and-r) in
-    let w₁ : T (ltb (b - n .align) (r .end)) = search (and-l, and-r) in
-    let w₂ : T (ltb (r .start) (b - n .align + n .size)) = search (and-l, and-r) in
+    let w₁ : T (ltb (b - n .alignment) (r .end)) = search (and-l, and-r) in
+    let w₂ : T (ltb (r .start) (b - n .alignment + n .size)) = search (and-l, and-r) in
     let l₂ : r .start < b + n .size = omega (arith, ltb→lt) in
     let past : r .end ≤ b = nltb→le b (r .end) (→not-T (ltb b (r .end)) λ t. u (search (and-i, lt→ltb))) in
     omega (arith, ltb→lt)
@@ -48,7 +48,7 @@ module _ (pools : List Span) (rows : List Row) (n : Need) where
   pub free-says : (b : ℕ) → T (free pools rows n b) → IsFree pools rows n b
   unfolding free aligned holds
   free-says b t =
-      let t₁ : T (eqb (b % n .align) 0) = search (and-l, and-r) in
+      let t₁ : T (eqb (b % n .alignment) 0) = search (and-l, and-r) in
       let t₂ : T (anyOf (holds n b) pools) = search (and-l, and-r) in
       let t₃ : T (not (anyOf (meets (rowAt n b)) rows)) = search (and-l, and-r) in
       let (p, m, h) = any-in (holds n b) pools t₂ in
@@ -72,29 +72,29 @@ module _ (pools : List Span) (rows : List Row) (n : Need) where
       let k : T (anyOf (holds n b) pools) = in-any (holds n b) (f .in-pools) p in
       search (and-i, →not-T, eq→eqb)
 
-  at-pool : {p : Span} {b : ℕ} → List·Memᴰ p pools → alignUp (n .align) (p .start) ≡ b → List·Memᴰ b (candidates pools rows (n .align))
+  at-pool : {p : Span} {b : ℕ} → List·Memᴰ p pools → alignUp (n .alignment) (p .start) ≡ b → List·Memᴰ b (candidates pools rows (n .alignment))
   unfolding candidates
-  at-pool m e = Memᴰ·append-left _ (Memᴰ·cast (sym e) (Memᴰ·map (λ p. alignUp (n .align) (p .start)) m))
+  at-pool m e = Memᴰ·append-left _ (Memᴰ·cast (sym e) (Memᴰ·map (λ p. alignUp (n .alignment) (p .start)) m))
 
-  at-row : {r : Row} {b : ℕ} → List·Memᴰ r rows → alignUp (n .align) (r .end) ≡ b → List·Memᴰ b (candidates pools rows (n .align))
+  at-row : {r : Row} {b : ℕ} → List·Memᴰ r rows → alignUp (n .alignment) (r .end) ≡ b → List·Memᴰ b (candidates pools rows (n .alignment))
   unfolding candidates
-  at-row m e = Memᴰ·append-right (map (λ p. alignUp (n .align) (p .start)) pools) (Memᴰ·cast (sym e) (Memᴰ·map (λ r. alignUp (n .align) (r .end)) m))
+  at-row m e = Memᴰ·append-right (map (λ p. alignUp (n .alignment) (p .start)) pools) (Memᴰ·cast (sym e) (Memᴰ·map (λ r. alignUp (n .alignment) (r .end)) m))
 
   -- a free base is a candidate, or the base one alignment below it is free
-  pub down-at : 0 < n .align → (b : ℕ) → T (free pools rows n b) → List·Memᴰ b (candidates pools rows (n .align)) ⊎ ((n .align ≤ b) × T (free pools rows n (b - n .align)))
-  down-at pos b t = first (free-says b t) (either (ltb b ((free-says b t) .pool .start + n .align)))
+  pub down-at : 0 < n .alignment → (b : ℕ) → T (free pools rows n b) → List·Memᴰ b (candidates pools rows (n .alignment)) ⊎ ((n .alignment ≤ b) × T (free pools rows n (b - n .alignment)))
+  down-at pos b t = first (free-says b t) (either (ltb b ((free-says b t) .pool .start + n .alignment)))
     where
       c : ℕ
-      c = b - n .align
+      c = b - n .alignment
 
-      second : (f : IsFree pools rows n b) → f .pool .start + n .align ≤ b → T (anyOf (meets (rowAt n c)) rows) ⊎ (T (anyOf (meets (rowAt n c)) rows) → ⊥)
-          → List·Memᴰ b (candidates pools rows (n .align)) ⊎ ((n .align ≤ b) × T (free pools rows n (b - n .align)))
+      second : (f : IsFree pools rows n b) → f .pool .start + n .alignment ≤ b → T (anyOf (meets (rowAt n c)) rows) ⊎ (T (anyOf (meets (rowAt n c)) rows) → ⊥)
+          → List·Memᴰ b (candidates pools rows (n .alignment)) ⊎ ((n .alignment ≤ b) × T (free pools rows n (b - n .alignment)))
       second f h (inl w) =
           let (r, m, w′) = any-in (meets (rowAt n c)) rows w in
           let (past, near) = row-ends n b r (omega arith) w′ (f .clear r m) in
-          inl (at-row m (alignUp-is (n .align) (r .end) b pos (f .mult) past near))
+          inl (at-row m (alignUp-is (n .alignment) (r .end) b pos (f .mult) past near))
       second f h (inr u) =
-          let ha : n .align ≤ b = omega arith in
+          let ha : n .alignment ≤ b = omega arith in
           inr (
             ha,
             says-free c record {
@@ -108,22 +108,22 @@ module _ (pools : List Span) (rows : List Row) (n : Need) where
             },
           )
 
-      first : (f : IsFree pools rows n b) → T (ltb b (f .pool .start + n .align)) ⊎ (T (ltb b (f .pool .start + n .align)) → ⊥)
-          → List·Memᴰ b (candidates pools rows (n .align)) ⊎ ((n .align ≤ b) × T (free pools rows n (b - n .align)))
-      first f (inl l) = inl (at-pool (f .in-pools) (alignUp-is (n .align) (f .pool .start) b pos (f .mult) (f .low) (omega (arith, ltb→lt))))
-      first f (inr u) = second f (nltb→le b (f .pool .start + n .align) (→not-T (ltb b (f .pool .start + n .align)) u)) (either (anyOf (meets (rowAt n c)) rows))
+      first : (f : IsFree pools rows n b) → T (ltb b (f .pool .start + n .alignment)) ⊎ (T (ltb b (f .pool .start + n .alignment)) → ⊥)
+          → List·Memᴰ b (candidates pools rows (n .alignment)) ⊎ ((n .alignment ≤ b) × T (free pools rows n (b - n .alignment)))
+      first f (inl l) = inl (at-pool (f .in-pools) (alignUp-is (n .alignment) (f .pool .start) b pos (f .mult) (f .low) (omega (arith, ltb→lt))))
+      first f (inr u) = second f (nltb→le b (f .pool .start + n .alignment) (→not-T (ltb b (f .pool .start + n .alignment)) u)) (either (anyOf (meets (rowAt n c)) rows))
 
-  down : 0 < n .align → (b : ℕ) → T (free pools rows n b) → List·Memᴰ b (candidates pools rows (n .align)) ⊎ ((c : ℕ) × (c < b) × T (free pools rows n c))
+  down : 0 < n .alignment → (b : ℕ) → T (free pools rows n b) → List·Memᴰ b (candidates pools rows (n .alignment)) ⊎ ((c : ℕ) × (c < b) × T (free pools rows n c))
   down pos b t = go (down-at pos b t)
     where
-      go : List·Memᴰ b (candidates pools rows (n .align)) ⊎ ((n .align ≤ b) × T (free pools rows n (b - n .align))) → List·Memᴰ b (candidates pools rows (n .align)) ⊎ ((c : ℕ) × (c < b) × T (free pools rows n c))
+      go : List·Memᴰ b (candidates pools rows (n .alignment)) ⊎ ((n .alignment ≤ b) × T (free pools rows n (b - n .alignment))) → List·Memᴰ b (candidates pools rows (n .alignment)) ⊎ ((c : ℕ) × (c < b) × T (free pools rows n c))
       go (inl m) = inl m
-      go (inr (h, s)) = inr (b - n .align, omega arith, s)
+      go (inr (h, s)) = inr (b - n .alignment, omega arith, s)
 
   -- THE LAW: `lowest` is the least of all free bases, or there is none
-  pub lowest-says : 0 < n .align → LeastAll (free pools rows n) (lowest pools rows n)
+  pub lowest-says : 0 < n .alignment → LeastAll (free pools rows n) (lowest pools rows n)
   unfolding lowest
-  lowest-says pos = least-all (free pools rows n) (candidates pools rows (n .align)) (down pos)
+  lowest-says pos = least-all (free pools rows n) (candidates pools rows (n .alignment)) (down pos)
 
 -- so the answer reads a table as a set of rows: not their order
 pub free-alike : (pools : List Span) (n : Need) (xs ys : List Row) → ((r : Row) → List·Memᴰ r ys → List·Memᴰ r xs) → (b : ℕ) → T (free pools xs n b) → T (free pools ys n b)
@@ -131,7 +131,7 @@ free-alike pools n xs ys back b t =
     let f : IsFree pools xs n b = free-says pools xs n b t in
     says-free pools ys n b record { mult = f .mult; pool = f .pool; in-pools = f .in-pools; dom = f .dom; low = f .low; high = f .high; clear = λ r m. f .clear r (back r m) }
 
-pub lowest-alike : (pools : List Span) (rows rows′ : List Row) (n : Need) → 0 < n .align
+pub lowest-alike : (pools : List Span) (rows rows′ : List Row) (n : Need) → 0 < n .alignment
     → ((r : Row) → List·Memᴰ r rows → List·Memᴰ r rows′) → ((r : Row) → List·Memᴰ r rows′ → List·Memᴰ r rows)
     → lowest pools rows n ≡ lowest pools rows′ n
 lowest-alike pools rows rows′ n pos to from = all-alike (free-alike pools n rows rows′ from) (free-alike pools n rows′ rows to) (lowest-says pools rows n pos) (lowest-says pools rows′ n pos)

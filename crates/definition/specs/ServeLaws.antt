@@ -8,7 +8,7 @@ use lib.Dec.{T}
 use Rattle.definition.specs.Base.{Refusal, malformed, tell, Answer, accepted, refused, _then_}
 use Rattle.definition.specs.Tables.{rowLimit, Kind, device, event, lpi, kinds, sameRow, blankRow, goodRow, clash}
 use Rattle.definition.specs.Pools.{Claim}
-use Rattle.definition.specs.Request.{auto, msi, Request, goodRequest, resolve}
+use Rattle.definition.specs.Request.{auto, msiWant, Request, goodRequest, resolve}
 use Rattle.definition.specs.Calls.{State, poolsOf, ownersOf, sound, saying, granting, want, settle, serve}
 use Rattle.definition.specs.RowLaws.{every-kind}
 use Rattle.definition.specs.RequestLaws.{required}
@@ -37,12 +37,12 @@ module _ (ks : List Kind) (s : State) (sounds : T (sound ks s)) where
       omega (arith, table-length rowLimit (sameRow (blankRow k)) (goodRow k) (λ x y. not (clash x y)) (s .owners k) (sound-for ks s sounds k m .owners))
 
 -- DEMAND 2 FOR MSI, of the state: sound tables and three rows free
-pub msi-served : (s : State) (q slot k i n : ℕ) → T (sound kinds s) → T (goodRequest (asks (poolsOf s) (ownersOf s) q slot (msi k i n auto auto auto)))
+pub msi-served : (s : State) (q slot k i n : ℕ) → T (sound kinds s) → T (goodRequest (asks (poolsOf s) (ownersOf s) q slot (msiWant k i n auto auto auto)))
     → s .owners device .count < rowLimit → s .owners event .count < rowLimit → s .owners lpi .count < rowLimit
-    → (a : Answer (List Claim)) × MsiSays (poolsOf s) (ownersOf s) q k i n a × Served s a (serve kinds (want (asks (poolsOf s) (ownersOf s) q slot (msi k i n auto auto auto))) s)
+    → (a : Answer (List Claim)) × MsiSays (poolsOf s) (ownersOf s) q k i n a × Served s a (serve kinds (want (asks (poolsOf s) (ownersOf s) q slot (msiWant k i n auto auto auto))) s)
 msi-served s q slot k i n t good fd fe fl =
     let free : (j : Kind) → s .owners j .count < rowLimit → length (ownersOf s j) < rowLimit = λ j few. count-free kinds s t j (every-kind j) few in (
-      resolve (poolsOf s) (ownersOf s) (asks (poolsOf s) (ownersOf s) q slot (msi k i n auto auto auto)),
+      resolve (poolsOf s) (ownersOf s) (asks (poolsOf s) (ownersOf s) q slot (msiWant k i n auto auto auto)),
       msi-says (poolsOf s) (ownersOf s) q k i n slot good (free device fd) (free event fe) (free lpi fl),
-      serve-says kinds s t (asks (poolsOf s) (ownersOf s) q slot (msi k i n auto auto auto)),
+      serve-says kinds s t (asks (poolsOf s) (ownersOf s) q slot (msiWant k i n auto auto auto)),
     )

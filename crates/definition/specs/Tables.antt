@@ -35,13 +35,13 @@ pub record Dom : Type 0 where  -- a domain
   pub device : ℕ
 
 abbrev pub dom : ℕ → ℕ → ℕ → Dom
-dom c i d = record { controller = c; its = i; device = d }
+dom c i v = record { controller = c; its = i; device = v }
 
 unfoldable pub sameDom : Dom → Dom → Bool
 sameDom a b = eqb (a .controller) (b .controller) && (eqb (a .its) (b .its) && eqb (a .device) (b .device))
 
-unfoldable pub within : Dom → Dom → Bool  -- no number of d is above that of t
-within d t = leb (d .controller) (t .controller) && (leb (d .its) (t .its) && leb (d .device) (t .device))
+unfoldable pub within : Dom → Dom → Bool  -- no number of d is above that of most
+within d most = leb (d .controller) (most .controller) && (leb (d .its) (most .its) && leb (d .device) (most .device))
 
 abbrev pub poolDom : Dom → Dom  -- device and event pools are kept by controller and ITS, LPI pools by controller alone: no pool names a device
 poolDom d = dom (d .controller) (d .its) 0
@@ -61,7 +61,7 @@ pub record Nature : Type 0 where
   pub domTop : Dom  -- the largest numbers of its rows' domain; a number that it does not use is 0
 
 abbrev pub is : ℕ → ℕ → Bool → ℕ → Dom → Nature
-is n s w t d = record { number = n; namespace = s; wired = w; top = t; domTop = d }
+is number namespace wired most d = record { number = number; namespace = namespace; wired = wired; top = most; domTop = d }
 
 abbrev pub nature : Kind → Nature
 nature mmio = is 1 1 false (top 64) (dom 0 0 0)
@@ -98,7 +98,7 @@ abbrev pub rangeRow : Dom → ℕ → ℕ → ℕ → Row  -- a range, whose cod
 rangeRow d s e o = record { dom = d; start = s; end = e; trigger = 0; sharing = 0; owner = o }
 
 abbrev pub wiredRow : ℕ → ℕ → ℕ → ℕ → ℕ → Row  -- one input of a controller: controller, input, trigger, sharing, owner
-wiredRow c n t s o = record { dom = dom c 0 0; start = n; end = suc n; trigger = t; sharing = s; owner = o }
+wiredRow c n trigger sharing o = record { dom = dom c 0 0; start = n; end = suc n; trigger = trigger; sharing = sharing; owner = o }
 
 unfoldable pub sameRow : Row → Row → Bool
 sameRow a b =

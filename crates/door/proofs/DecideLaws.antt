@@ -10,11 +10,11 @@ use Rattle.definition.specs.Tables.{rowLimit, kinds, mmio, pio, input, host, de
 use Rattle.definition.specs.Pools.{In, at-kind, Claim, Pool as DPool, mmioPool, pioPool, hostPool, inputPool, msiPool, Hold as DHold, spans, heldRows}
 use Rattle.definition.specs.Request.{Use, automatic, fixed}
 use Rattle.definition.specs.Calls.{Call as DCall, given, addAll, pool, hold}
-use Rattle.tables.specs.Views.{spanOf, rangeOf, wireOf, poolView, rangesView, wiresView, stateView}
-use Rattle.tables.specs.Sized.{SizedRanges, SizedWires}
+use Rattle.tables.specs.Views.{spanOf, rangeOf, inputOf, poolView, rangesView, inputsView, stateView}
+use Rattle.tables.specs.Sized.{SizedRanges, SizedInputs}
 use Rattle.tables.specs.declared.PoolRow.{PoolRow}
 use Rattle.tables.specs.declared.RangeRow.{RangeRow}
-use Rattle.tables.specs.declared.WireRow.{WireRow}
+use Rattle.tables.specs.declared.InputRow.{InputRow}
 use Rattle.tables.specs.declared.State.{State}
 use Rattle.insert.specs.Answers.{telling, heard, reserveAny, Told, earlierOf}
 use Rattle.insert.specs.declared.Reply.{Reply}
@@ -27,7 +27,7 @@ use Rattle.request.specs.declared.call.Hold.{Hold}
 use Rattle.request.specs.declared.call.Hold.the-variants as H
 use Rattle.request.specs.declared.call.Call.{Call}
 use Rattle.request.specs.declared.call.Call.the-variants as C
-use Rattle.adding.specs.Rows.{noRow, noWire}
+use Rattle.adding.specs.Rows.{noRow, noInput}
 use Rattle.adding.specs.Adds.{pick, ranged, once, held, nothing, addsOf, Asked, FitCall}
 use Rattle.adding.specs.Judged.{judged, wholly, verdictOf}
 use Rattle.adding.specs.Looks.{Adding}
@@ -44,7 +44,7 @@ use Rattle.door.proofs.PairLaws.{putPair}
 use Rattle.door.proofs.GivenLaws.{given-auto, given-fixed}
 use Rattle.door.proofs.ApplyLaws.{serve-pool, serve-hold}
 use Rattle.door.proofs.FillLaws.{said-plain, one-fills, devices-refused, events-refused, lpis-told, automatic-after, fixed-after}
-use Rattle.door.proofs.HoldLaws.{rangeIf, wireIf, range-kept, wire-kept, keeps-range, keeps-input, keeps-neither, keeps-both, hold-after}
+use Rattle.door.proofs.HoldLaws.{rangeIf, inputIf, range-kept, input-kept, keeps-range, keeps-input, keeps-neither, keeps-both, hold-after}
 
 never : {A : Type 0} → false ≡ true → A
 never e = absurd (true≢false (sym e))
@@ -206,55 +206,55 @@ module _ (s : State) where
         (lpis-told x y z d e l (s .fixed) (k .f) o₁ o₂ o₃ t₁ t₂ t₃ (k .fixed mmio) (k .fixed pio) (k .fixed input) (k .fixed host) w₁ (k .fixed device) true w₃ w₂ (k .fixed event) (k .fixed lpi)),
   )
 
-  mmio-held : (row : RangeRow) (r : Reply) → SizedRanges (s .held .mmio) → Holds (fits mmio (rangeOf row)) → heard r ≡ telling (reserveAny (rangeOf row) (used (rangesView (s .held .mmio)))) → (r .number ≡ 0 → s .held .mmio .n < rowLimit) → (b : Bool) → eqb (r .number) 0 ≡ b → Keeps (at-kind mmio (rangeOf row) ∷ []) (judged (held (W.One K.Mmio) row noWire) (pick b 3 0) r)
+  mmio-held : (row : RangeRow) (r : Reply) → SizedRanges (s .held .mmio) → Holds (fits mmio (rangeOf row)) → heard r ≡ telling (reserveAny (rangeOf row) (used (rangesView (s .held .mmio)))) → (r .number ≡ 0 → s .held .mmio .n < rowLimit) → (b : Bool) → eqb (r .number) 0 ≡ b → Keeps (at-kind mmio (rangeOf row) ∷ []) (judged (held (W.One K.Mmio) row noInput) (pick b 3 0) r)
   unfolding sameKind
-  mmio-held row r z ok told room true e = (record { mmio = λ x. room (eqb-true (r .number) 0 e); pio = never; input = never; host = never; device = never; event = never; lpi = never }, λ t k. k .is ∙ hold-after s (k .a) (k .f) (heldWith (judged (held (W.One K.Mmio) row noWire) (pick true 3 0) r) (s .held)) r (at-kind mmio (rangeOf row) ∷ []) (k .automatic) (k .fixed) (keeps-range (s .held) _ mmio (s .held .mmio) row r refl z ok told room true e (every _ refl refl refl refl refl refl refl)))
-  mmio-held row r z ok told room false e = (record { mmio = never; pio = never; input = never; host = never; device = never; event = never; lpi = never }, λ t k. k .is ∙ hold-after s (k .a) (k .f) (heldWith (judged (held (W.One K.Mmio) row noWire) (pick false 3 0) r) (s .held)) r (at-kind mmio (rangeOf row) ∷ []) (k .automatic) (k .fixed) (keeps-range (s .held) _ mmio (s .held .mmio) row r refl z ok told room false e (every _ refl refl refl refl refl refl refl)))
+  mmio-held row r z ok told room true e = (record { mmio = λ x. room (eqb-true (r .number) 0 e); pio = never; input = never; host = never; device = never; event = never; lpi = never }, λ t k. k .is ∙ hold-after s (k .a) (k .f) (heldWith (judged (held (W.One K.Mmio) row noInput) (pick true 3 0) r) (s .held)) r (at-kind mmio (rangeOf row) ∷ []) (k .automatic) (k .fixed) (keeps-range (s .held) _ mmio (s .held .mmio) row r refl z ok told room true e (every _ refl refl refl refl refl refl refl)))
+  mmio-held row r z ok told room false e = (record { mmio = never; pio = never; input = never; host = never; device = never; event = never; lpi = never }, λ t k. k .is ∙ hold-after s (k .a) (k .f) (heldWith (judged (held (W.One K.Mmio) row noInput) (pick false 3 0) r) (s .held)) r (at-kind mmio (rangeOf row) ∷ []) (k .automatic) (k .fixed) (keeps-range (s .held) _ mmio (s .held .mmio) row r refl z ok told room false e (every _ refl refl refl refl refl refl refl)))
 
-  pio-held : (row : RangeRow) (r : Reply) → SizedRanges (s .held .pio) → Holds (fits pio (rangeOf row)) → heard r ≡ telling (reserveAny (rangeOf row) (used (rangesView (s .held .pio)))) → (r .number ≡ 0 → s .held .pio .n < rowLimit) → (b : Bool) → eqb (r .number) 0 ≡ b → Keeps (at-kind pio (rangeOf row) ∷ []) (judged (held (W.One K.Pio) row noWire) (pick b 3 0) r)
+  pio-held : (row : RangeRow) (r : Reply) → SizedRanges (s .held .pio) → Holds (fits pio (rangeOf row)) → heard r ≡ telling (reserveAny (rangeOf row) (used (rangesView (s .held .pio)))) → (r .number ≡ 0 → s .held .pio .n < rowLimit) → (b : Bool) → eqb (r .number) 0 ≡ b → Keeps (at-kind pio (rangeOf row) ∷ []) (judged (held (W.One K.Pio) row noInput) (pick b 3 0) r)
   unfolding sameKind
-  pio-held row r z ok told room true e = (record { mmio = never; pio = λ x. room (eqb-true (r .number) 0 e); input = never; host = never; device = never; event = never; lpi = never }, λ t k. k .is ∙ hold-after s (k .a) (k .f) (heldWith (judged (held (W.One K.Pio) row noWire) (pick true 3 0) r) (s .held)) r (at-kind pio (rangeOf row) ∷ []) (k .automatic) (k .fixed) (keeps-range (s .held) _ pio (s .held .pio) row r refl z ok told room true e (every _ refl refl refl refl refl refl refl)))
-  pio-held row r z ok told room false e = (record { mmio = never; pio = never; input = never; host = never; device = never; event = never; lpi = never }, λ t k. k .is ∙ hold-after s (k .a) (k .f) (heldWith (judged (held (W.One K.Pio) row noWire) (pick false 3 0) r) (s .held)) r (at-kind pio (rangeOf row) ∷ []) (k .automatic) (k .fixed) (keeps-range (s .held) _ pio (s .held .pio) row r refl z ok told room false e (every _ refl refl refl refl refl refl refl)))
+  pio-held row r z ok told room true e = (record { mmio = never; pio = λ x. room (eqb-true (r .number) 0 e); input = never; host = never; device = never; event = never; lpi = never }, λ t k. k .is ∙ hold-after s (k .a) (k .f) (heldWith (judged (held (W.One K.Pio) row noInput) (pick true 3 0) r) (s .held)) r (at-kind pio (rangeOf row) ∷ []) (k .automatic) (k .fixed) (keeps-range (s .held) _ pio (s .held .pio) row r refl z ok told room true e (every _ refl refl refl refl refl refl refl)))
+  pio-held row r z ok told room false e = (record { mmio = never; pio = never; input = never; host = never; device = never; event = never; lpi = never }, λ t k. k .is ∙ hold-after s (k .a) (k .f) (heldWith (judged (held (W.One K.Pio) row noInput) (pick false 3 0) r) (s .held)) r (at-kind pio (rangeOf row) ∷ []) (k .automatic) (k .fixed) (keeps-range (s .held) _ pio (s .held .pio) row r refl z ok told room false e (every _ refl refl refl refl refl refl refl)))
 
-  host-held : (row : RangeRow) (r : Reply) → SizedRanges (s .held .host) → Holds (fits host (rangeOf row)) → heard r ≡ telling (reserveAny (rangeOf row) (used (rangesView (s .held .host)))) → (r .number ≡ 0 → s .held .host .n < rowLimit) → (b : Bool) → eqb (r .number) 0 ≡ b → Keeps (at-kind host (rangeOf row) ∷ []) (judged (held (W.One K.Host) row noWire) (pick b 3 0) r)
+  host-held : (row : RangeRow) (r : Reply) → SizedRanges (s .held .host) → Holds (fits host (rangeOf row)) → heard r ≡ telling (reserveAny (rangeOf row) (used (rangesView (s .held .host)))) → (r .number ≡ 0 → s .held .host .n < rowLimit) → (b : Bool) → eqb (r .number) 0 ≡ b → Keeps (at-kind host (rangeOf row) ∷ []) (judged (held (W.One K.Host) row noInput) (pick b 3 0) r)
   unfolding sameKind
-  host-held row r z ok told room true e = (record { mmio = never; pio = never; input = never; host = λ x. room (eqb-true (r .number) 0 e); device = never; event = never; lpi = never }, λ t k. k .is ∙ hold-after s (k .a) (k .f) (heldWith (judged (held (W.One K.Host) row noWire) (pick true 3 0) r) (s .held)) r (at-kind host (rangeOf row) ∷ []) (k .automatic) (k .fixed) (keeps-range (s .held) _ host (s .held .host) row r refl z ok told room true e (every _ refl refl refl refl refl refl refl)))
-  host-held row r z ok told room false e = (record { mmio = never; pio = never; input = never; host = never; device = never; event = never; lpi = never }, λ t k. k .is ∙ hold-after s (k .a) (k .f) (heldWith (judged (held (W.One K.Host) row noWire) (pick false 3 0) r) (s .held)) r (at-kind host (rangeOf row) ∷ []) (k .automatic) (k .fixed) (keeps-range (s .held) _ host (s .held .host) row r refl z ok told room false e (every _ refl refl refl refl refl refl refl)))
+  host-held row r z ok told room true e = (record { mmio = never; pio = never; input = never; host = λ x. room (eqb-true (r .number) 0 e); device = never; event = never; lpi = never }, λ t k. k .is ∙ hold-after s (k .a) (k .f) (heldWith (judged (held (W.One K.Host) row noInput) (pick true 3 0) r) (s .held)) r (at-kind host (rangeOf row) ∷ []) (k .automatic) (k .fixed) (keeps-range (s .held) _ host (s .held .host) row r refl z ok told room true e (every _ refl refl refl refl refl refl refl)))
+  host-held row r z ok told room false e = (record { mmio = never; pio = never; input = never; host = never; device = never; event = never; lpi = never }, λ t k. k .is ∙ hold-after s (k .a) (k .f) (heldWith (judged (held (W.One K.Host) row noInput) (pick false 3 0) r) (s .held)) r (at-kind host (rangeOf row) ∷ []) (k .automatic) (k .fixed) (keeps-range (s .held) _ host (s .held .host) row r refl z ok told room false e (every _ refl refl refl refl refl refl refl)))
 
-  device-held : (row : RangeRow) (r : Reply) → SizedRanges (s .held .device) → Holds (fits device (rangeOf row)) → heard r ≡ telling (reserveAny (rangeOf row) (used (rangesView (s .held .device)))) → (r .number ≡ 0 → s .held .device .n < rowLimit) → (b : Bool) → eqb (r .number) 0 ≡ b → Keeps (at-kind device (rangeOf row) ∷ []) (judged (held (W.One K.Device) row noWire) (pick b 3 0) r)
+  device-held : (row : RangeRow) (r : Reply) → SizedRanges (s .held .device) → Holds (fits device (rangeOf row)) → heard r ≡ telling (reserveAny (rangeOf row) (used (rangesView (s .held .device)))) → (r .number ≡ 0 → s .held .device .n < rowLimit) → (b : Bool) → eqb (r .number) 0 ≡ b → Keeps (at-kind device (rangeOf row) ∷ []) (judged (held (W.One K.Device) row noInput) (pick b 3 0) r)
   unfolding sameKind
-  device-held row r z ok told room true e = (record { mmio = never; pio = never; input = never; host = never; device = λ x. room (eqb-true (r .number) 0 e); event = never; lpi = never }, λ t k. k .is ∙ hold-after s (k .a) (k .f) (heldWith (judged (held (W.One K.Device) row noWire) (pick true 3 0) r) (s .held)) r (at-kind device (rangeOf row) ∷ []) (k .automatic) (k .fixed) (keeps-range (s .held) _ device (s .held .device) row r refl z ok told room true e (every _ refl refl refl refl refl refl refl)))
-  device-held row r z ok told room false e = (record { mmio = never; pio = never; input = never; host = never; device = never; event = never; lpi = never }, λ t k. k .is ∙ hold-after s (k .a) (k .f) (heldWith (judged (held (W.One K.Device) row noWire) (pick false 3 0) r) (s .held)) r (at-kind device (rangeOf row) ∷ []) (k .automatic) (k .fixed) (keeps-range (s .held) _ device (s .held .device) row r refl z ok told room false e (every _ refl refl refl refl refl refl refl)))
+  device-held row r z ok told room true e = (record { mmio = never; pio = never; input = never; host = never; device = λ x. room (eqb-true (r .number) 0 e); event = never; lpi = never }, λ t k. k .is ∙ hold-after s (k .a) (k .f) (heldWith (judged (held (W.One K.Device) row noInput) (pick true 3 0) r) (s .held)) r (at-kind device (rangeOf row) ∷ []) (k .automatic) (k .fixed) (keeps-range (s .held) _ device (s .held .device) row r refl z ok told room true e (every _ refl refl refl refl refl refl refl)))
+  device-held row r z ok told room false e = (record { mmio = never; pio = never; input = never; host = never; device = never; event = never; lpi = never }, λ t k. k .is ∙ hold-after s (k .a) (k .f) (heldWith (judged (held (W.One K.Device) row noInput) (pick false 3 0) r) (s .held)) r (at-kind device (rangeOf row) ∷ []) (k .automatic) (k .fixed) (keeps-range (s .held) _ device (s .held .device) row r refl z ok told room false e (every _ refl refl refl refl refl refl refl)))
 
-  event-held : (row : RangeRow) (r : Reply) → SizedRanges (s .held .event) → Holds (fits event (rangeOf row)) → heard r ≡ telling (reserveAny (rangeOf row) (used (rangesView (s .held .event)))) → (r .number ≡ 0 → s .held .event .n < rowLimit) → (b : Bool) → eqb (r .number) 0 ≡ b → Keeps (at-kind event (rangeOf row) ∷ []) (judged (held (W.One K.Event) row noWire) (pick b 3 0) r)
+  event-held : (row : RangeRow) (r : Reply) → SizedRanges (s .held .event) → Holds (fits event (rangeOf row)) → heard r ≡ telling (reserveAny (rangeOf row) (used (rangesView (s .held .event)))) → (r .number ≡ 0 → s .held .event .n < rowLimit) → (b : Bool) → eqb (r .number) 0 ≡ b → Keeps (at-kind event (rangeOf row) ∷ []) (judged (held (W.One K.Event) row noInput) (pick b 3 0) r)
   unfolding sameKind
-  event-held row r z ok told room true e = (record { mmio = never; pio = never; input = never; host = never; device = never; event = λ x. room (eqb-true (r .number) 0 e); lpi = never }, λ t k. k .is ∙ hold-after s (k .a) (k .f) (heldWith (judged (held (W.One K.Event) row noWire) (pick true 3 0) r) (s .held)) r (at-kind event (rangeOf row) ∷ []) (k .automatic) (k .fixed) (keeps-range (s .held) _ event (s .held .event) row r refl z ok told room true e (every _ refl refl refl refl refl refl refl)))
-  event-held row r z ok told room false e = (record { mmio = never; pio = never; input = never; host = never; device = never; event = never; lpi = never }, λ t k. k .is ∙ hold-after s (k .a) (k .f) (heldWith (judged (held (W.One K.Event) row noWire) (pick false 3 0) r) (s .held)) r (at-kind event (rangeOf row) ∷ []) (k .automatic) (k .fixed) (keeps-range (s .held) _ event (s .held .event) row r refl z ok told room false e (every _ refl refl refl refl refl refl refl)))
+  event-held row r z ok told room true e = (record { mmio = never; pio = never; input = never; host = never; device = never; event = λ x. room (eqb-true (r .number) 0 e); lpi = never }, λ t k. k .is ∙ hold-after s (k .a) (k .f) (heldWith (judged (held (W.One K.Event) row noInput) (pick true 3 0) r) (s .held)) r (at-kind event (rangeOf row) ∷ []) (k .automatic) (k .fixed) (keeps-range (s .held) _ event (s .held .event) row r refl z ok told room true e (every _ refl refl refl refl refl refl refl)))
+  event-held row r z ok told room false e = (record { mmio = never; pio = never; input = never; host = never; device = never; event = never; lpi = never }, λ t k. k .is ∙ hold-after s (k .a) (k .f) (heldWith (judged (held (W.One K.Event) row noInput) (pick false 3 0) r) (s .held)) r (at-kind event (rangeOf row) ∷ []) (k .automatic) (k .fixed) (keeps-range (s .held) _ event (s .held .event) row r refl z ok told room false e (every _ refl refl refl refl refl refl refl)))
 
-  lpi-held : (row : RangeRow) (r : Reply) → SizedRanges (s .held .lpi) → Holds (fits lpi (rangeOf row)) → heard r ≡ telling (reserveAny (rangeOf row) (used (rangesView (s .held .lpi)))) → (r .number ≡ 0 → s .held .lpi .n < rowLimit) → (b : Bool) → eqb (r .number) 0 ≡ b → Keeps (at-kind lpi (rangeOf row) ∷ []) (judged (held (W.One K.Lpi) row noWire) (pick b 3 0) r)
+  lpi-held : (row : RangeRow) (r : Reply) → SizedRanges (s .held .lpi) → Holds (fits lpi (rangeOf row)) → heard r ≡ telling (reserveAny (rangeOf row) (used (rangesView (s .held .lpi)))) → (r .number ≡ 0 → s .held .lpi .n < rowLimit) → (b : Bool) → eqb (r .number) 0 ≡ b → Keeps (at-kind lpi (rangeOf row) ∷ []) (judged (held (W.One K.Lpi) row noInput) (pick b 3 0) r)
   unfolding sameKind
-  lpi-held row r z ok told room true e = (record { mmio = never; pio = never; input = never; host = never; device = never; event = never; lpi = λ x. room (eqb-true (r .number) 0 e) }, λ t k. k .is ∙ hold-after s (k .a) (k .f) (heldWith (judged (held (W.One K.Lpi) row noWire) (pick true 3 0) r) (s .held)) r (at-kind lpi (rangeOf row) ∷ []) (k .automatic) (k .fixed) (keeps-range (s .held) _ lpi (s .held .lpi) row r refl z ok told room true e (every _ refl refl refl refl refl refl refl)))
-  lpi-held row r z ok told room false e = (record { mmio = never; pio = never; input = never; host = never; device = never; event = never; lpi = never }, λ t k. k .is ∙ hold-after s (k .a) (k .f) (heldWith (judged (held (W.One K.Lpi) row noWire) (pick false 3 0) r) (s .held)) r (at-kind lpi (rangeOf row) ∷ []) (k .automatic) (k .fixed) (keeps-range (s .held) _ lpi (s .held .lpi) row r refl z ok told room false e (every _ refl refl refl refl refl refl refl)))
+  lpi-held row r z ok told room true e = (record { mmio = never; pio = never; input = never; host = never; device = never; event = never; lpi = λ x. room (eqb-true (r .number) 0 e) }, λ t k. k .is ∙ hold-after s (k .a) (k .f) (heldWith (judged (held (W.One K.Lpi) row noInput) (pick true 3 0) r) (s .held)) r (at-kind lpi (rangeOf row) ∷ []) (k .automatic) (k .fixed) (keeps-range (s .held) _ lpi (s .held .lpi) row r refl z ok told room true e (every _ refl refl refl refl refl refl refl)))
+  lpi-held row r z ok told room false e = (record { mmio = never; pio = never; input = never; host = never; device = never; event = never; lpi = never }, λ t k. k .is ∙ hold-after s (k .a) (k .f) (heldWith (judged (held (W.One K.Lpi) row noInput) (pick false 3 0) r) (s .held)) r (at-kind lpi (rangeOf row) ∷ []) (k .automatic) (k .fixed) (keeps-range (s .held) _ lpi (s .held .lpi) row r refl z ok told room false e (every _ refl refl refl refl refl refl refl)))
 
-  input-held : (row : WireRow) (r : Reply) → SizedWires (s .held .input) → Told input (wireOf row) (wiresView (s .held .input)) r → (r .number ≡ 0 → s .held .input .n < rowLimit) → (b : Bool) → eqb (r .number) 0 ≡ b → Keeps (at-kind input (wireOf row) ∷ []) (judged (held (W.One K.Input) noRow row) (pick b 3 0) r)
+  input-held : (row : InputRow) (r : Reply) → SizedInputs (s .held .input) → Told input (inputOf row) (inputsView (s .held .input)) r → (r .number ≡ 0 → s .held .input .n < rowLimit) → (b : Bool) → eqb (r .number) 0 ≡ b → Keeps (at-kind input (inputOf row) ∷ []) (judged (held (W.One K.Input) noRow row) (pick b 3 0) r)
   unfolding sameKind
-  input-held row r z told room true e = (record { mmio = never; pio = never; input = λ x. room (eqb-true (r .number) 0 e); host = never; device = never; event = never; lpi = never }, λ t k. k .is ∙ hold-after s (k .a) (k .f) (heldWith (judged (held (W.One K.Input) noRow row) (pick true 3 0) r) (s .held)) r (at-kind input (wireOf row) ∷ []) (k .automatic) (k .fixed) (keeps-input (s .held) _ row r z told room true e (every _ refl refl refl refl refl refl refl)))
-  input-held row r z told room false e = (record { mmio = never; pio = never; input = never; host = never; device = never; event = never; lpi = never }, λ t k. k .is ∙ hold-after s (k .a) (k .f) (heldWith (judged (held (W.One K.Input) noRow row) (pick false 3 0) r) (s .held)) r (at-kind input (wireOf row) ∷ []) (k .automatic) (k .fixed) (keeps-input (s .held) _ row r z told room false e (every _ refl refl refl refl refl refl refl)))
+  input-held row r z told room true e = (record { mmio = never; pio = never; input = λ x. room (eqb-true (r .number) 0 e); host = never; device = never; event = never; lpi = never }, λ t k. k .is ∙ hold-after s (k .a) (k .f) (heldWith (judged (held (W.One K.Input) noRow row) (pick true 3 0) r) (s .held)) r (at-kind input (inputOf row) ∷ []) (k .automatic) (k .fixed) (keeps-input (s .held) _ row r z told room true e (every _ refl refl refl refl refl refl refl)))
+  input-held row r z told room false e = (record { mmio = never; pio = never; input = never; host = never; device = never; event = never; lpi = never }, λ t k. k .is ∙ hold-after s (k .a) (k .f) (heldWith (judged (held (W.One K.Input) noRow row) (pick false 3 0) r) (s .held)) r (at-kind input (inputOf row) ∷ []) (k .automatic) (k .fixed) (keeps-input (s .held) _ row r z told room false e (every _ refl refl refl refl refl refl refl)))
 
-  pair-held : (w : WireRow) (row : RangeRow) (i h : Reply) → SizedWires (s .held .input) → SizedRanges (s .held .host) → Holds (fits host (rangeOf row)) → Told input (wireOf w) (wiresView (s .held .input)) i → heard h ≡ telling (reserveAny (rangeOf row) (used (rangesView (s .held .host)))) → (i .number ≡ 0 → s .held .input .n < rowLimit) → (h .number ≡ 0 → s .held .host .n < rowLimit)
-      → (b : Bool) → eqb (earlierOf i h .number) 0 ≡ b → Keeps (at-kind input (wireOf w) ∷ at-kind host (rangeOf row) ∷ []) (judged (held W.Pair row w) (pick b 3 0) (earlierOf i h))
+  pair-held : (w : InputRow) (row : RangeRow) (i h : Reply) → SizedInputs (s .held .input) → SizedRanges (s .held .host) → Holds (fits host (rangeOf row)) → Told input (inputOf w) (inputsView (s .held .input)) i → heard h ≡ telling (reserveAny (rangeOf row) (used (rangesView (s .held .host)))) → (i .number ≡ 0 → s .held .input .n < rowLimit) → (h .number ≡ 0 → s .held .host .n < rowLimit)
+      → (b : Bool) → eqb (earlierOf i h .number) 0 ≡ b → Keeps (at-kind input (inputOf w) ∷ at-kind host (rangeOf row) ∷ []) (judged (held W.Pair row w) (pick b 3 0) (earlierOf i h))
   pair-held w row i h zi zh ok i-told h-told i-room h-room true e =
       let both : (i .number ≡ 0) × (h .number ≡ 0) = earlier-zero i h (eqb-true (earlierOf i h .number) 0 e) in (
         record { mmio = never; pio = never; input = λ x. i-room (both .0); host = λ x. h-room (both .1); device = never; event = never; lpi = never },
-        λ t k. k .is ∙ hold-after s (k .a) (k .f) (heldWith (judged (held W.Pair row w) 3 (earlierOf i h)) (s .held)) (earlierOf i h) (at-kind input (wireOf w) ∷ at-kind host (rangeOf row) ∷ []) (k .automatic) (k .fixed)
-            (subst (λ (b : Bool). Keeping (s .held) (putPair (s .held) (wireIf true (s .held .input) w) (rangeIf b (s .held .host) row)) (at-kind input (wireOf w) ∷ at-kind host (rangeOf row) ∷ []) (earlierOf i h)) (eq-eqb (h .number) 0 (both .1))
-            (subst (λ (b : Bool). Keeping (s .held) (putPair (s .held) (wireIf b (s .held .input) w) (rangeIf (eqb (h .number) 0) (s .held .host) row)) (at-kind input (wireOf w) ∷ at-kind host (rangeOf row) ∷ []) (earlierOf i h)) (eq-eqb (i .number) 0 (both .0))
-            (keeps-both (s .held) w row i h (wire-kept (s .held .input) w i zi i-told i-room (eqb (i .number) 0) refl) (range-kept host (s .held .host) row h zh ok h-told h-room (eqb (h .number) 0) refl) e))),
+        λ t k. k .is ∙ hold-after s (k .a) (k .f) (heldWith (judged (held W.Pair row w) 3 (earlierOf i h)) (s .held)) (earlierOf i h) (at-kind input (inputOf w) ∷ at-kind host (rangeOf row) ∷ []) (k .automatic) (k .fixed)
+            (subst (λ (b : Bool). Keeping (s .held) (putPair (s .held) (inputIf true (s .held .input) w) (rangeIf b (s .held .host) row)) (at-kind input (inputOf w) ∷ at-kind host (rangeOf row) ∷ []) (earlierOf i h)) (eq-eqb (h .number) 0 (both .1))
+            (subst (λ (b : Bool). Keeping (s .held) (putPair (s .held) (inputIf b (s .held .input) w) (rangeIf (eqb (h .number) 0) (s .held .host) row)) (at-kind input (inputOf w) ∷ at-kind host (rangeOf row) ∷ []) (earlierOf i h)) (eq-eqb (i .number) 0 (both .0))
+            (keeps-both (s .held) w row i h (input-kept (s .held .input) w i zi i-told i-room (eqb (i .number) 0) refl) (range-kept host (s .held .host) row h zh ok h-told h-room (eqb (h .number) 0) refl) e))),
       )
   pair-held w row i h zi zh ok i-told h-told i-room h-room false e = (
     record { mmio = never; pio = never; input = never; host = never; device = never; event = never; lpi = never },
-    λ t k. k .is ∙ hold-after s (k .a) (k .f) (heldWith (judged (held W.Pair row w) 0 (earlierOf i h)) (s .held)) (earlierOf i h) (at-kind input (wireOf w) ∷ at-kind host (rangeOf row) ∷ []) (k .automatic) (k .fixed)
-        (keeps-neither (s .held) w row i h (wire-kept (s .held .input) w i zi i-told i-room (eqb (i .number) 0) refl) (range-kept host (s .held .host) row h zh ok h-told h-room (eqb (h .number) 0) refl) e),
+    λ t k. k .is ∙ hold-after s (k .a) (k .f) (heldWith (judged (held W.Pair row w) 0 (earlierOf i h)) (s .held)) (earlierOf i h) (at-kind input (inputOf w) ∷ at-kind host (rangeOf row) ∷ []) (k .automatic) (k .fixed)
+        (keeps-neither (s .held) w row i h (input-kept (s .held .input) w i zi i-told i-room (eqb (i .number) 0) refl) (range-kept host (s .held .host) row h zh ok h-told h-room (eqb (h .number) 0) refl) e),
   )
 
 module _ (s : State) (g : Holds (given kinds (stateView s))) where

@@ -19,16 +19,16 @@ stored τ j r p g xs f rest = seq (assign (place r []) (addrOf (place 1 (deref �
 abbrev found : List Operand
 found = copy (place 2 []) ∷ []
 
--- #put k makes the row for the table of kind k, #wire that for inputs
-abbrev pub heldCode : (#put : Kind → Name) (#wire #range #store : Name) (π ρ ω τ σ p w : Ty) → Fn
-heldCode #put #wire #range #store π ρ ω τ σ p w = record {
+-- #put k makes the row for the table of kind k, #input that for inputs
+abbrev pub heldCode : (#put : Kind → Name) (#input #range #store : Name) (π ρ ω τ σ p w : Ty) → Fn
+heldCode #put #input #range #store π ρ ω τ σ p w = record {
   lifetimes = 1;
   outlives = [];
   params = 2;
   locals = local tyUnit valueLocal ∷ local (tyRef (named 0) mut π) valueLocal ∷ local σ valueLocal ∷ local tyUnit valueLocal ∷ local (tyRef erased mut ρ) valueLocal ∷ local p valueLocal ∷ local (tyRef erased mut ρ) valueLocal ∷ local (tyRef erased mut ω) valueLocal ∷ local w valueLocal
       ∷ local (tyRef erased mut ρ) valueLocal ∷ local (tyRef erased mut ρ) valueLocal ∷ local (tyRef erased mut ρ) valueLocal ∷ local (tyRef erased mut ρ) valueLocal ∷ [];
   body =
-      stored τ 0 4 5 (#put K.Mmio) found #range (stored τ 1 6 5 (#put K.Pio) found #range (stored τ 2 7 8 #wire found #store (stored τ 3 9 5 (#put K.Host) found #range
+      stored τ 0 4 5 (#put K.Mmio) found #range (stored τ 1 6 5 (#put K.Pio) found #range (stored τ 2 7 8 #input found #store (stored τ 3 9 5 (#put K.Host) found #range
       (stored τ 4 10 5 (#put K.Device) found #range (stored τ 5 11 5 (#put K.Event) found #range (stored τ 6 12 5 (#put K.Lpi) found #range (seq (assign (place 0 []) (rvOpd opdUnit)) return)))))));
 }
 
@@ -60,13 +60,13 @@ module _ {M : Type 1} (𝓤 : URA M) (H : Heap 𝓤) (A : Atoms 𝓤) (W : Given
         (acted W C Λ ls l fm (Unit {0}) (λ u. Held h) (λ u. s .row) (λ u. s .good) os (plainly 𝓤 H A W C fm (Held h) g vs (s .row) (s .good) (s .makes)) hp (λ u y. subst (λ (α : Ty). Holds (hasTy α (s .row)) × WT (s .row)) (sym tp) (s .typed y)) (λ u y.
         acted W C Λ ls l fm (Unit {0}) (λ z. Held h′) (λ z. vunit) (λ z. Unit {0}) (arg er hr (arg ep hp nil)) (lends W T κ q b o γ C fm F (s .spot) h h′ (s .was) (s .is) (s .piece) f (s .row ∷ []) (λ d. d ≡ s .is) (Unit {0}) (comes-so W b F (s .spot) (s .is)) (s .leaves y)) h₃ (λ z y. t₃) (λ z y. k)))
 
-  pub held-walk : (Λ : Loops 𝓤 H) (#put : Kind → Name) (#wire #range #store : Name) (π ρ ω σ p w : Ty) → Holds (hasTy σ vv) × WT vv → (Ra Wi : RattleType) (h₀ h₁ h₂ h₃ h₄ h₅ h₆ h₇ : T .Denot) (s₀ : Stage Ra p #range (#put K.Mmio) (vv ∷ []) 0 h₀ h₁) (s₁ : Stage Ra p #range (#put K.Pio) (vv ∷ []) 1 h₁ h₂) (s₂ : Stage Wi w #store #wire (vv ∷ []) 2 h₂ h₃)
+  pub held-walk : (Λ : Loops 𝓤 H) (#put : Kind → Name) (#input #range #store : Name) (π ρ ω σ p w : Ty) → Holds (hasTy σ vv) × WT vv → (Ra Wi : RattleType) (h₀ h₁ h₂ h₃ h₄ h₅ h₆ h₇ : T .Denot) (s₀ : Stage Ra p #range (#put K.Mmio) (vv ∷ []) 0 h₀ h₁) (s₁ : Stage Ra p #range (#put K.Pio) (vv ∷ []) 1 h₁ h₂) (s₂ : Stage Wi w #store #input (vv ∷ []) 2 h₂ h₃)
       (s₃ : Stage Ra p #range (#put K.Host) (vv ∷ []) 3 h₃ h₄) (s₄ : Stage Ra p #range (#put K.Device) (vv ∷ []) 4 h₄ h₅) (s₅ : Stage Ra p #range (#put K.Event) (vv ∷ []) 5 h₅ h₆) (s₆ : Stage Ra p #range (#put K.Lpi) (vv ∷ []) 6 h₆ h₇)
-      (Kf : Val → SProp 𝓤) → ent 𝓤 (mean 𝓤 H A (Held h₇)) (Kf vunit) → ent 𝓤 (mean 𝓤 H A (Held h₀)) (WpFn 𝓤 H C Λ (heldCode #put #wire #range #store π ρ ω τ σ p w) (vptr b o ∷ vv ∷ []) Kf)
-  held-walk Λ #put #wire #range #store π ρ ω σ p w v-wt Ra Wi h₀ h₁ h₂ h₃ h₄ h₅ h₆ h₇ s₀ s₁ s₂ s₃ s₄ s₅ s₆ Kf exits = entering W C Λ (Held h₀) (heldCode #put #wire #range #store π ρ ω τ σ p w) (first ls) (others ls) (vptr b o ∷ vv ∷ []) Kf refl ((tt, tt), (v-wt, tt)) (λ l.
+      (Kf : Val → SProp 𝓤) → ent 𝓤 (mean 𝓤 H A (Held h₇)) (Kf vunit) → ent 𝓤 (mean 𝓤 H A (Held h₀)) (WpFn 𝓤 H C Λ (heldCode #put #input #range #store π ρ ω τ σ p w) (vptr b o ∷ vv ∷ []) Kf)
+  held-walk Λ #put #input #range #store π ρ ω σ p w v-wt Ra Wi h₀ h₁ h₂ h₃ h₄ h₅ h₆ h₇ s₀ s₁ s₂ s₃ s₄ s₅ s₆ Kf exits = entering W C Λ (Held h₀) (heldCode #put #input #range #store π ρ ω τ σ p w) (first ls) (others ls) (vptr b o ∷ vv ∷ []) Kf refl ((tt, tt), (v-wt, tt)) (λ l.
       step Λ ls l Ra p #range (#put K.Mmio) found (vv ∷ []) 0 4 5 h₀ h₁ s₀ refl (arg refl tt nil) refl refl tt tt tt tt (tt, tt) refl (tt, tt)
       (step Λ ls l Ra p #range (#put K.Pio) found (vv ∷ []) 1 6 5 h₁ h₂ s₁ refl (arg refl tt nil) refl refl tt tt tt tt (tt, tt) refl (tt, tt)
-      (step Λ ls l Wi w #store #wire found (vv ∷ []) 2 7 8 h₂ h₃ s₂ refl (arg refl tt nil) refl refl tt tt tt tt (tt, tt) refl (tt, tt)
+      (step Λ ls l Wi w #store #input found (vv ∷ []) 2 7 8 h₂ h₃ s₂ refl (arg refl tt nil) refl refl tt tt tt tt (tt, tt) refl (tt, tt)
       (step Λ ls l Ra p #range (#put K.Host) found (vv ∷ []) 3 9 5 h₃ h₄ s₃ refl (arg refl tt nil) refl refl tt tt tt tt (tt, tt) refl (tt, tt)
       (step Λ ls l Ra p #range (#put K.Device) found (vv ∷ []) 4 10 5 h₄ h₅ s₄ refl (arg refl tt nil) refl refl tt tt tt tt (tt, tt) refl (tt, tt)
       (step Λ ls l Ra p #range (#put K.Event) found (vv ∷ []) 5 11 5 h₅ h₆ s₅ refl (arg refl tt nil) refl refl tt tt tt tt (tt, tt) refl (tt, tt)
@@ -74,4 +74,4 @@ module _ {M : Type 1} (𝓤 : URA M) (H : Heap 𝓤) (A : Atoms 𝓤) (W : Given
       (sets W C Λ ls l vunit (of-opd ! (unit-lit !)) tt (tt, tt) (gives W C Λ ls l Kf vunit refl tt exits)))))))))
     where
       ls : List Local
-      ls = heldCode #put #wire #range #store π ρ ω τ σ p w .locals
+      ls = heldCode #put #input #range #store π ρ ω τ σ p w .locals

@@ -7,9 +7,9 @@ use Rattle.definition.specs.Pools.{at-kind, Claim, rowsOf, reserve}
 use Rattle.definition.specs.Calls.{State as Given, state, heldOf, pushAll}
 use Rattle.definition.specs.TableLaws.{push-nil}
 use Rattle.definition.specs.PoolLaws.{reserve-says}
-use Rattle.tables.specs.Views.{rangesView, wiresView, holdersView}
+use Rattle.tables.specs.Views.{rangesView, inputsView, holdersView}
 use Rattle.tables.specs.declared.Ranges.{Ranges}
-use Rattle.tables.specs.declared.Wires.{Wires}
+use Rattle.tables.specs.declared.Inputs.{Inputs}
 use Rattle.tables.specs.declared.Holders.{Holders}
 use Rattle.insert.specs.Answers.{telling, heard, pushedOr, Held, earlierOf}
 use Rattle.insert.specs.declared.Reply.{Reply}
@@ -20,11 +20,11 @@ use Rattle.tables.specs.Whole.{holders}
 use Rattle.door.proofs.KindLaws.{every}
 use Rattle.door.proofs.HeldLaws.{Keeping, held-state}
 
-abbrev pub putPair : Holders → Wires → Ranges → Holders
+abbrev pub putPair : Holders → Inputs → Ranges → Holders
 putPair h x y = holders (h .mmio) (h .pio) x y (h .device) (h .event) (h .lpi)
 
-module _ (h : Holders) (w r : Row) (x : Wires) (y : Ranges) (a b c : Reply) (e : c ≡ earlierOf a b)
-    (p : Held input w (wiresView (h .input)) (wiresView x) a) (q : Held host r (rangesView (h .host)) (rangesView y) b) where
+module _ (h : Holders) (w r : Row) (x : Inputs) (y : Ranges) (a b c : Reply) (e : c ≡ earlierOf a b)
+    (p : Held input w (inputsView (h .input)) (inputsView x) a) (q : Held host r (rangesView (h .host)) (rangesView y) b) where
   abbrev rows : List Claim
   rows = at-kind input w ∷ at-kind host r ∷ []
 

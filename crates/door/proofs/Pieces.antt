@@ -6,7 +6,7 @@ use Rattle.walks.proofs.Prelude.{refl, ℕ, _+_, [], _∷_, URA, fullShare, ent
 use Rattle.tables.specs.Whole.{holders}
 use Rattle.tables.specs.declared.Pool.{Pool}
 use Rattle.tables.specs.declared.Ranges.{Ranges}
-use Rattle.tables.specs.declared.Wires.{Wires}
+use Rattle.tables.specs.declared.Inputs.{Inputs}
 use Rattle.tables.specs.declared.Pools.{Pools}
 use Rattle.tables.specs.declared.Holders.{Holders}
 use Rattle.tables.specs.declared.State.{State}
@@ -14,7 +14,7 @@ use Rattle.tables.proofs.Pool as Po
 use Rattle.tables.proofs.Pools as Ps
 use Rattle.tables.proofs.Pools.Laws as Ps′
 use Rattle.tables.proofs.Ranges as Ra
-use Rattle.tables.proofs.Wires as Wi
+use Rattle.tables.proofs.Inputs as Wi
 use Rattle.tables.proofs.Holders as Ho
 use Rattle.tables.proofs.Holders.Laws as Ho′
 use Rattle.tables.proofs.State as T
@@ -53,7 +53,7 @@ with-held-mmio x s = withHeld (holders x (s .held .pio) (s .held .input) (s .hel
 abbrev pub with-held-pio : Ranges → State → State
 with-held-pio x s = withHeld (holders (s .held .mmio) x (s .held .input) (s .held .host) (s .held .device) (s .held .event) (s .held .lpi)) s
 
-abbrev pub with-held-input : Wires → State → State
+abbrev pub with-held-input : Inputs → State → State
 with-held-input x s = withHeld (holders (s .held .mmio) (s .held .pio) x (s .held .host) (s .held .device) (s .held .event) (s .held .lpi)) s
 
 abbrev pub with-held-host : Ranges → State → State
@@ -74,7 +74,7 @@ with-owners-mmio x s = withOwners (holders x (s .owners .pio) (s .owners .input)
 abbrev pub with-owners-pio : Ranges → State → State
 with-owners-pio x s = withOwners (holders (s .owners .mmio) x (s .owners .input) (s .owners .host) (s .owners .device) (s .owners .event) (s .owners .lpi)) s
 
-abbrev pub with-owners-input : Wires → State → State
+abbrev pub with-owners-input : Inputs → State → State
 with-owners-input x s = withOwners (holders (s .owners .mmio) (s .owners .pio) x (s .owners .host) (s .owners .device) (s .owners .event) (s .owners .lpi)) s
 
 abbrev pub with-owners-host : Ranges → State → State
@@ -153,7 +153,7 @@ module _ {M : Type 1} (𝓤 : URA M) (H : Heap 𝓤) (A : Atoms 𝓤) (W : Given
     see-held-pio s = nested (State-at s) (State-at s) (partAt Ho.the-row fullShare (s .held) b (o + offset T′.mir 2)) (partAt Ho.the-row fullShare (s .held) b (o + offset T′.mir 2)) (partAt Ra.the-row fullShare (s .held .pio) b ((o + offset T′.mir 2) + offset Ho′.mir 1)) (partAt Ra.the-row fullShare (s .held .pio) b ((o + offset T′.mir 2) + offset Ho′.mir 1)) (in-held s)
         (cut-record 𝓤 H A fullShare Ho.the-row Ra.the-type (offset Ho′.mir 1) (s .held) (s .held) (s .held .pio) (s .held .pio) (b, o + offset T′.mir 2) (look-at 𝓤 H A W fullShare Ho.the-type Ho′.the-laws 1 (offset Ho′.mir 1) refl refl (b, o + offset T′.mir 2) (s .held) (Ho.struct .as-values (s .held)) refl))
 
-    pub set-held-input : (s : State) (x : Wires) → Piece 𝓤 H A W Wi.the-row (State-at s) (State-at (with-held-input x s)) (s .held .input) x b ((o + offset T′.mir 2) + offset Ho′.mir 2)
+    pub set-held-input : (s : State) (x : Inputs) → Piece 𝓤 H A W Wi.the-row (State-at s) (State-at (with-held-input x s)) (s .held .input) x b ((o + offset T′.mir 2) + offset Ho′.mir 2)
     set-held-input s x = nested (State-at s) (State-at (with-held-input x s)) (partAt Ho.the-row fullShare (s .held) b (o + offset T′.mir 2)) (partAt Ho.the-row fullShare (with-held-input x s .held) b (o + offset T′.mir 2)) (partAt Wi.the-row fullShare (s .held .input) b ((o + offset T′.mir 2) + offset Ho′.mir 2)) (partAt Wi.the-row fullShare (x) b ((o + offset T′.mir 2) + offset Ho′.mir 2)) (out-held s (with-held-input x s .held))
         (cut-record 𝓤 H A fullShare Ho.the-row Wi.the-type (offset Ho′.mir 2) (s .held) (with-held-input x s .held) (s .held .input) x (b, o + offset T′.mir 2) (put-at 𝓤 H A W fullShare Ho.the-type Ho′.the-laws 2 (offset Ho′.mir 2) refl refl (b, o + offset T′.mir 2) (s .held) (with-held-input x s .held) (Ho.struct .as-values (s .held)) x refl refl))
 
@@ -204,7 +204,7 @@ module _ {M : Type 1} (𝓤 : URA M) (H : Heap 𝓤) (A : Atoms 𝓤) (W : Given
     set-owners-pio s x = nested (State-at s) (State-at (with-owners-pio x s)) (partAt Ho.the-row fullShare (s .owners) b (o + offset T′.mir 3)) (partAt Ho.the-row fullShare (with-owners-pio x s .owners) b (o + offset T′.mir 3)) (partAt Ra.the-row fullShare (s .owners .pio) b ((o + offset T′.mir 3) + offset Ho′.mir 1)) (partAt Ra.the-row fullShare (x) b ((o + offset T′.mir 3) + offset Ho′.mir 1)) (out-owners s (with-owners-pio x s .owners))
         (cut-record 𝓤 H A fullShare Ho.the-row Ra.the-type (offset Ho′.mir 1) (s .owners) (with-owners-pio x s .owners) (s .owners .pio) x (b, o + offset T′.mir 3) (put-at 𝓤 H A W fullShare Ho.the-type Ho′.the-laws 1 (offset Ho′.mir 1) refl refl (b, o + offset T′.mir 3) (s .owners) (with-owners-pio x s .owners) (Ho.struct .as-values (s .owners)) x refl refl))
 
-    pub set-owners-input : (s : State) (x : Wires) → Piece 𝓤 H A W Wi.the-row (State-at s) (State-at (with-owners-input x s)) (s .owners .input) x b ((o + offset T′.mir 3) + offset Ho′.mir 2)
+    pub set-owners-input : (s : State) (x : Inputs) → Piece 𝓤 H A W Wi.the-row (State-at s) (State-at (with-owners-input x s)) (s .owners .input) x b ((o + offset T′.mir 3) + offset Ho′.mir 2)
     set-owners-input s x = nested (State-at s) (State-at (with-owners-input x s)) (partAt Ho.the-row fullShare (s .owners) b (o + offset T′.mir 3)) (partAt Ho.the-row fullShare (with-owners-input x s .owners) b (o + offset T′.mir 3)) (partAt Wi.the-row fullShare (s .owners .input) b ((o + offset T′.mir 3) + offset Ho′.mir 2)) (partAt Wi.the-row fullShare (x) b ((o + offset T′.mir 3) + offset Ho′.mir 2)) (out-owners s (with-owners-input x s .owners))
         (cut-record 𝓤 H A fullShare Ho.the-row Wi.the-type (offset Ho′.mir 2) (s .owners) (with-owners-input x s .owners) (s .owners .input) x (b, o + offset T′.mir 3) (put-at 𝓤 H A W fullShare Ho.the-type Ho′.the-laws 2 (offset Ho′.mir 2) refl refl (b, o + offset T′.mir 3) (s .owners) (with-owners-input x s .owners) (Ho.struct .as-values (s .owners)) x refl refl))
 

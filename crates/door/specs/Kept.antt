@@ -16,13 +16,13 @@ use Rattle.insert.specs.Answers.{heard}
 use Rattle.insert.specs.declared.Reply.{Reply}
 use Rattle.request.specs.Calls.{callOf}
 use Rattle.request.specs.declared.call.Call.{Call}
-use Rattle.lent_table.specs.Store.{Free, putRange, putWire}
+use Rattle.lent_table.specs.Store.{Free, putRange, putInput}
 use Rattle.decide.specs.declared.Rows.the-variants.{Nothing}
 use Rattle.decide.specs.declared.Granted.{Granted}
 use Rattle.request.specs.Asked.{saidOf}
-use Rattle.adding.specs.Judged.{poolPutOf, heldPutOf, wirePutOf, enteredView}
-use Rattle.adding.specs.Adds.{askOf, wireAskOf, passesOf, startsOf}
-use Rattle.adding.specs.Looks.{Sees, SeesWire}
+use Rattle.adding.specs.Judged.{poolPutOf, heldPutOf, inputPutOf, enteredView}
+use Rattle.adding.specs.Adds.{askOf, inputAskOf, passesOf, startsOf}
+use Rattle.adding.specs.Looks.{Sees, SeesInput}
 use Rattle.adding.specs.declared.To.{To}
 use Rattle.adding.specs.declared.To.the-variants as T
 use Rattle.adding.specs.declared.Adds.{Adds}
@@ -49,14 +49,14 @@ PoolsKept v to p q = (k : Kind) → poolView (poolOf q k) ≡ enteredView (poolP
 
 abbrev pub heldWith : Verdict → Holders → Holders
 heldWith v h =
-    holders (putRange (h .mmio) (heldPutOf v K.Mmio)) (putRange (h .pio) (heldPutOf v K.Pio)) (putWire (h .input) (wirePutOf v)) (putRange (h .host) (heldPutOf v K.Host))
+    holders (putRange (h .mmio) (heldPutOf v K.Mmio)) (putRange (h .pio) (heldPutOf v K.Pio)) (putInput (h .input) (inputPutOf v)) (putRange (h .host) (heldPutOf v K.Host))
     (putRange (h .device) (heldPutOf v K.Device)) (putRange (h .event) (heldPutOf v K.Event)) (putRange (h .lpi) (heldPutOf v K.Lpi))
 
 -- each row that is to be stored has a place
 pub record HeldFree (v : Verdict) (h : Holders) : Type 0 where
   pub mmio : Free (h .mmio .n) (heldPutOf v K.Mmio .go)
   pub pio : Free (h .pio .n) (heldPutOf v K.Pio .go)
-  pub input : Free (h .input .n) (wirePutOf v .go)
+  pub input : Free (h .input .n) (inputPutOf v .go)
   pub host : Free (h .host .n) (heldPutOf v K.Host .go)
   pub device : Free (h .device .n) (heldPutOf v K.Device .go)
   pub event : Free (h .event .n) (heldPutOf v K.Event .go)
@@ -108,7 +108,7 @@ pub record Decides (s : State) (c : Call) (v : Verdict) : Type 0 where
 pub record AllSee (s : State) (q : Adds) (m p w j d e l : Reply) : Type 0 where
   pub mmio : Sees (s .auto .mmio) (s .fixed .mmio) (s .held .mmio) (askOf q K.Mmio) m
   pub pio : Sees (s .auto .pio) (s .fixed .pio) (s .held .pio) (askOf q K.Pio) p
-  pub input : SeesWire (s .auto .input) (s .fixed .input) (s .held .input) (wireAskOf q) w
+  pub input : SeesInput (s .auto .input) (s .fixed .input) (s .held .input) (inputAskOf q) w
   pub host : Sees (s .auto .host) (s .fixed .host) (s .held .host) (askOf q K.Host) j
   pub device : Sees (s .auto .device) (s .fixed .device) (s .held .device) (askOf q K.Device) d
   pub event : Sees (s .auto .event) (s .fixed .event) (s .held .event) (askOf q K.Event) e

@@ -8,7 +8,7 @@ use Rattle.definition.specs.Calls.{State, Call as DCall, given, settle, serve}
 use Rattle.choose.specs.declared.Choice.the-variants.{Auto}
 use Rattle.insert.specs.declared.Reply.{Reply}
 use Rattle.request.specs.declared.Request.{Request}
-use Rattle.request.specs.declared.Want.the-variants.{HostIrq}
+use Rattle.request.specs.declared.Want.the-variants.{Host}
 use Rattle.request.specs.declared.call.Call.{Call}
 use Rattle.request.specs.declared.call.Call.the-variants as C
 
@@ -24,7 +24,7 @@ wantsOf (C.Want r) = true
 wantsOf C.Bad = false
 
 abbrev pub noRequest : Request
-noRequest = record { requester = 0; slot = 0; want = HostIrq Auto }
+noRequest = record { requester = 0; slot = 0; want = Host Auto }
 
 abbrev pub wantedOf : Call → Request
 wantedOf (C.Pool u p) = noRequest

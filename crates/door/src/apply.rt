@@ -76,7 +76,7 @@ pub fn held(s: &mut State, v: Verdict)
 {
     lent_table::store::range(&mut s.held.mmio, adding::put::mmio(v));
     lent_table::store::range(&mut s.held.pio, adding::put::pio(v));
-    lent_table::store::wire(&mut s.held.input, adding::put::input(v));
+    lent_table::store::input(&mut s.held.input, adding::put::input(v));
     lent_table::store::range(&mut s.held.host, adding::put::host(v));
     lent_table::store::range(&mut s.held.device, adding::put::device(v));
     lent_table::store::range(&mut s.held.event, adding::put::event(v));
@@ -159,7 +159,7 @@ pub fn look(s: &State, c: Call) -> Verdict
         &s.held.pio,
         adding::asking::pio(q),
     );
-    let input = adding::answer::wire(
+    let input = adding::answer::input(
         &s.auto.input,
         &s.fixed.input,
         &s.held.input,

@@ -49,7 +49,7 @@ fn no_request() -> Request
     Request {
         requester: 0,
         slot: 0,
-        want: Want::HostIrq {
+        want: Want::Host {
             choice: Choice::Auto,
         },
     }

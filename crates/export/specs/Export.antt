@@ -28,12 +28,12 @@ abbrev pub rangesSize : ℕ
 rangesSize = tableSize rowLimit (4 + 4 + 4 + 8 + 8 + 4)
 
 -- controller, input, trigger, sharing, owner
-abbrev pub wiresSize : ℕ
-wiresSize = tableSize rowLimit (4 + 8 + 4 + 4 + 4)
+abbrev pub inputsSize : ℕ
+inputsSize = tableSize rowLimit (4 + 8 + 4 + 4 + 4)
 
 -- automatic and fixed pools of each kind; reservations and owners of inputs and of each other kind; the answer's five numbers
 abbrev pub stateSize : ℕ
-stateSize = 2 * (length kinds * poolSize) + 2 * (wiresSize + (length kinds - 1) * rangesSize) + answerSize * 8
+stateSize = 2 * (length kinds * poolSize) + 2 * (inputsSize + (length kinds - 1) * rangesSize) + answerSize * 8
 
 -- ---- what a call leaves and answers
 

@@ -11,7 +11,7 @@ use lib.Seq.{getD-append-add}
 use Rattle.definition.specs.BaseLaws.{and-l, and-r, T-true}
 use Rattle.definition.specs.Tables.{top, recordSize, Kind, kinds}
 use Rattle.definition.specs.Pools.{Claim}
-use Rattle.definition.specs.Request.{Choice, Want, memory, ports, wire, irq, msi, Request, goodRequest}
+use Rattle.definition.specs.Request.{Choice, Want, mmioWant, pioWant, inputWant, hostWant, msiWant, Request, goodRequest}
 use Rattle.definition.specs.Calls.{State, poolsOf, ownersOf}
 use Rattle.definition.specs.Plan.{Grant, grant, done, planRun, baseAt, record-of, recordOf, records, written, pinChoice, pinWant, pinned}
 use Rattle.definition.specs.RunLaws.{record-length, records-length}
@@ -55,9 +55,9 @@ module _ (q s a b c x n y m z l : ℕ) (cs : List Claim) where
   form-three g h k lg lh lk t eg eh ek =
       let e : reads messages (pinCode x) (pinNumber x n g) (pinCode y) (pinNumber y m h) (pinCode z) (pinNumber z l k) ≡ true =
       ap (λ (v : Bool). fits q && (fits s && v)) (readable-three a b c x n y m z l g h k lg lh lk) ∙ T-true (reads messages x n y m z l) t in
-      let p : Request = asks q s (msi a b c (choiceAt (pinCode x) (pinNumber x n g)) (choiceAt (pinCode y) (pinNumber y m h)) (choiceAt (pinCode z) (pinNumber z l k))) in
-      ap (λ (v : Bool). orBad v p) e ∙ (λ t. asks q s (msi a b c (choice-pinned x n g t) (choice-pinned y m h t) (choice-pinned z l k t)))
-      ∙ (λ t. asks q s (msi a b c (pinChoice (choiceAt x n) (eg t)) (pinChoice (choiceAt y m) (eh t)) (pinChoice (choiceAt z l) (ek t))))
+      let p : Request = asks q s (msiWant a b c (choiceAt (pinCode x) (pinNumber x n g)) (choiceAt (pinCode y) (pinNumber y m h)) (choiceAt (pinCode z) (pinNumber z l k))) in
+      ap (λ (v : Bool). orBad v p) e ∙ (λ t. asks q s (msiWant a b c (choice-pinned x n g t) (choice-pinned y m h t) (choice-pinned z l k t)))
+      ∙ (λ t. asks q s (msiWant a b c (pinChoice (choiceAt x n) (eg t)) (pinChoice (choiceAt y m) (eh t)) (pinChoice (choiceAt z l) (ek t))))
 
 module _ (i : ℕ) (rq : List ℕ) (G : ℕ → ℕ) (cs : List Claim) (long : requestSize * i + requestSize ≤ length rq) where
   abbrev N : ℕ → ℕ
@@ -82,10 +82,10 @@ module _ (i : ℕ) (rq : List ℕ) (G : ℕ → ℕ) (cs : List Claim) (long : r
       → requestAt (pinForm f G (requestSize * i) rq) i ≡ pinned (grant (asked f) cs)
   unfolding readable wantAt pinWant recordOf requestIn
   by-form unknown e t low gr = absurd (let u : T false = search (and-r) in u)
-  by-form mmio e t low gr = one-formed mmio (G 3) tt e t (ap (λ (v : ℕ). memory (N 3) (N 4) (pinChoice (choiceAt (N 6) (N 7)) v)) (gr 3 (omega arith)))
-  by-form pio e t low gr = one-formed pio (G 3) tt e t (ap (λ (v : ℕ). ports (N 3) (N 4) (pinChoice (choiceAt (N 6) (N 7)) v)) (gr 3 (omega arith)))
-  by-form input e t low gr = one-formed input (G 4) tt e t (ap (λ (v : ℕ). wire (N 3) (N 4) (N 5) (pinChoice (choiceAt (N 6) (N 7)) v)) (gr 4 (omega arith)))
-  by-form host e t low gr = one-formed host (G 3) tt e t (ap (λ (v : ℕ). irq (pinChoice (choiceAt (N 6) (N 7)) v)) (gr 3 (omega arith)))
+  by-form mmio e t low gr = one-formed mmio (G 3) tt e t (ap (λ (v : ℕ). mmioWant (N 3) (N 4) (pinChoice (choiceAt (N 6) (N 7)) v)) (gr 3 (omega arith)))
+  by-form pio e t low gr = one-formed pio (G 3) tt e t (ap (λ (v : ℕ). pioWant (N 3) (N 4) (pinChoice (choiceAt (N 6) (N 7)) v)) (gr 3 (omega arith)))
+  by-form input e t low gr = one-formed input (G 4) tt e t (ap (λ (v : ℕ). inputWant (N 3) (N 4) (N 5) (pinChoice (choiceAt (N 6) (N 7)) v)) (gr 4 (omega arith)))
+  by-form host e t low gr = one-formed host (G 3) tt e t (ap (λ (v : ℕ). hostWant (pinChoice (choiceAt (N 6) (N 7)) v)) (gr 3 (omega arith)))
   by-form messages e t low gr =
       three-choices i (G 5) (G 6) (G 7) rq long
       ∙ ap
@@ -113,18 +113,18 @@ kind-told (suc (suc (suc (suc (suc (suc k)))))) q s a b c x n y m z l cs t = abs
 
 -- .. then its requester and its slot
 requester-told : (q s : ℕ) (w : Want) (cs : List Claim) → getD (record-of q s w cs) 1 0 ≡ q
-requester-told q s (memory n a c) cs = refl
-requester-told q s (ports n a c) cs = refl
-requester-told q s (wire k t h c) cs = refl
-requester-told q s (irq c) cs = refl
-requester-told q s (msi k i n d e l) cs = refl
+requester-told q s (mmioWant n a c) cs = refl
+requester-told q s (pioWant n a c) cs = refl
+requester-told q s (inputWant k t h c) cs = refl
+requester-told q s (hostWant c) cs = refl
+requester-told q s (msiWant k i n d e l) cs = refl
 
 slot-told : (q s : ℕ) (w : Want) (cs : List Claim) → getD (record-of q s w cs) 2 0 ≡ s
-slot-told q s (memory n a c) cs = refl
-slot-told q s (ports n a c) cs = refl
-slot-told q s (wire k t h c) cs = refl
-slot-told q s (irq c) cs = refl
-slot-told q s (msi k i n d e l) cs = refl
+slot-told q s (mmioWant n a c) cs = refl
+slot-told q s (pioWant n a c) cs = refl
+slot-told q s (inputWant k t h c) cs = refl
+slot-told q s (hostWant c) cs = refl
+slot-told q s (msiWant k i n d e l) cs = refl
 
 -- somebody asks
 good-somebody : (r : Request) → T (goodRequest r) → eqb (r .requester) 0 ≡ false

@@ -7,18 +7,18 @@ use Rattle.definition.specs.BaseLaws.{and-l, and-r}
 use Rattle.definition.specs.Base.{Answer, accepted, refused, badInput, full, require, _then_}
 use Rattle.definition.specs.Tables.{top, dom, Kind, device, event, lpi, nature, Row, fits, goodRow}
 use Rattle.definition.specs.Pools.{at-kind, Holders, Claim, _⊕_, room}
-use Rattle.definition.specs.Request.{Want, memory, ports, wire, irq, msi, Request, goodRequest, Pools, need, place, claims, resolve}
+use Rattle.definition.specs.Request.{Want, mmioWant, pioWant, inputWant, hostWant, msiWant, Request, goodRequest, Pools, need, place, claims, resolve}
 use Rattle.definition.specs.Plan.{Grant, grant, done, run, baseAt}
 use Rattle.definition.specs.RequestLaws.{then-accepted, require-accepted, Wide}
 use Rattle.definition.specs.ResolveLaws.{Resolved, resolved, rows-kept}
 use Rattle.definition.specs.RunLaws.{run-accepted, run-refused, not-done, after-done, Sounds}
 
 abbrev pub Narrow : Want → List Claim → Type 0
-Narrow (memory s a c) cs = Unit {0}
-Narrow (ports s a c) cs = Unit {0}
-Narrow (wire k t s c) cs = Unit {0}
-Narrow (irq c) cs = Unit {0}
-Narrow (msi k i n d e l) cs = (baseAt 0 cs ≤ top 32) × (baseAt 1 cs ≤ top 32) × (baseAt 2 cs ≤ top 32)
+Narrow (mmioWant s a c) cs = Unit {0}
+Narrow (pioWant s a c) cs = Unit {0}
+Narrow (inputWant k t s c) cs = Unit {0}
+Narrow (hostWant c) cs = Unit {0}
+Narrow (msiWant k i n d e l) cs = (baseAt 0 cs ≤ top 32) × (baseAt 1 cs ≤ top 32) × (baseAt 2 cs ≤ top 32)
 
 abbrev pub Good : Grant → Type 0
 Good g = T (goodRequest (g .request)) × Narrow (g .request .want) (g .rows)
@@ -34,11 +34,11 @@ low k r t = let h : T (leb (r .start) (nature k .top)) = search (and-l, and-r) d
 
 narrow : (P : Pools) (S : Holders) (q : ℕ) (w : Want) (cs : List Claim) → claims P S q w ≡ accepted cs → ((c : Claim) → List·Memᴰ c cs → T (goodRow (c .kind) (c .row))) → Narrow w cs
 unfolding claims
-narrow P S q (memory s a c) cs e goods = tt
-narrow P S q (ports s a c) cs e goods = tt
-narrow P S q (wire k t s c) cs e goods = tt
-narrow P S q (irq c) cs e goods = tt
-narrow P S q (msi k i n d e l) cs h goods =
+narrow P S q (mmioWant s a c) cs e goods = tt
+narrow P S q (pioWant s a c) cs e goods = tt
+narrow P S q (inputWant k t s c) cs e goods = tt
+narrow P S q (hostWant c) cs e goods = tt
+narrow P S q (msiWant k i n d e l) cs h goods =
     let (rd, h₁, t₁) = then-accepted (place P S (need device (dom k i 0) 1 1 q) d) _ h in
     let (re, h₂, t₂) = then-accepted (place P S (need event (dom k i (rd .start)) n 1 q) e) _ t₁ in
     let (rl, h₃, t₃) = then-accepted (place P S (need lpi (dom k 0 0) n 1 q) l) _ t₂ in

@@ -6,7 +6,7 @@ use lib.Dec.{leb, eqb}
 use lib.ListN.{length, getD}
 use Rattle.definition.specs.Tables.{top, kinds}
 use Rattle.definition.specs.Base.{malformed, short, refused, require}
-use Rattle.definition.specs.Request.{Choice, auto, at, Want, memory, ports, wire, irq, msi, Request}
+use Rattle.definition.specs.Request.{Choice, auto, at, Want, mmioWant, pioWant, inputWant, hostWant, msiWant, Request}
 use Rattle.definition.specs.Calls.{State, sound, settle}
 use Rattle.definition.specs.Plan.{Lent, lent, allocateInto, plan}
 
@@ -58,16 +58,16 @@ readable messages a b c x n y m z l = allFit a b c && (named x n && (named y m &
 
 -- MMIO and PIO: a size, b alignment; an input: a controller, b trigger, c sharing; MSI: a controller, b ITS, c count, and its three choices device, event, LPI
 unfoldable pub wantAt : Form → ℕ → ℕ → ℕ → Choice → Choice → Choice → Want
-wantAt unknown a b c d e l = irq auto
-wantAt mmio a b c d e l = memory a b d
-wantAt pio a b c d e l = ports a b d
-wantAt input a b c d e l = wire a b c d
-wantAt host a b c d e l = irq d
-wantAt messages a b c d e l = msi a b c d e l
+wantAt unknown a b c cd ce cl = hostWant auto
+wantAt mmio a b c cd ce cl = mmioWant a b cd
+wantAt pio a b c cd ce cl = pioWant a b cd
+wantAt input a b c cd ce cl = inputWant a b c cd
+wantAt host a b c cd ce cl = hostWant cd
+wantAt messages a b c cd ce cl = msiWant a b c cd ce cl
 
 -- what cannot be read is a request of requester 0, which the definition itself answers with 2
 abbrev pub bad : Request
-bad = record { requester = 0; slot = 0; want = irq auto }
+bad = record { requester = 0; slot = 0; want = hostWant auto }
 
 abbrev pub orBad : Bool → Request → Request
 orBad true r = r

@@ -12,7 +12,7 @@ ghost use mathlib.Core.Path.{_≡_};
 ghost use Prim.Native.Nat.{_+_, _*_, _≤_};
 ghost use lib.Dec.{T};
 ghost use lib.ListN.{length};
-ghost use Rattle.definition.specs.Request.{wire, msi};
+ghost use Rattle.definition.specs.Request.{inputWant, msiWant};
 ghost use Rattle.choose.specs.Told.{choiceOf};
 ghost use Rattle.choose.specs.Ids.{deviceChoice, eventChoice, lpiChoice};
 ghost use Rattle.request.specs.Asked.{wantOf, requestOf};
@@ -120,9 +120,9 @@ pub fn readable(
 // What is asked of an input.
 pub fn wired(a: u64, b: u64, c: u64, choice: Choice) -> Want
     requires { ⌜ T (allFit a b c) ⌝ }
-    ensures { λ r. ⌜ wantOf r ≡ wire a b c (choiceOf choice) ⌝ }
+    ensures { λ r. ⌜ wantOf r ≡ inputWant a b c (choiceOf choice) ⌝ }
 {
-    Want::WiredIrq {
+    Want::Input {
         controller: a as u32,
         trigger: b as u32,
         sharing: c as u32,
@@ -166,7 +166,7 @@ pub fn lpi_of(code: u64, n: u64) -> LpiChoice
 // What is asked of an MSI domain.
 pub fn messages(a: u64, b: u64, c: u64, x: u64, n: u64, y: u64, m: u64, z: u64, l: u64) -> Want
     requires { ⌜ T (readable messages a b c x n y m z l) ⌝ }
-    ensures { λ r. ⌜ wantOf r ≡ msi a b c (choiceAt x n) (choiceAt y m) (choiceAt z l) ⌝ }
+    ensures { λ r. ⌜ wantOf r ≡ msiWant a b c (choiceAt x n) (choiceAt y m) (choiceAt z l) ⌝ }
 {
     let device = device_of(x, n);
     let event = event_of(y, m);
@@ -218,7 +218,7 @@ pub fn want_of(
     if kind == 3 {
         return wired(a, b, c, choice);
     }
-    Want::HostIrq { choice }
+    Want::Host { choice }
 }
 
 // What cannot be read: a request of requester 0 is bad input.
@@ -228,7 +228,7 @@ pub fn bad() -> Request
     Request {
         requester: 0,
         slot: 0,
-        want: Want::HostIrq {
+        want: Want::Host {
             choice: Choice::Auto,
         },
     }

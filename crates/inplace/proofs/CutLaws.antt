@@ -8,10 +8,10 @@ use lib.Dec.{leb}
 use lib.ListN.{set}
 use borrow.Author.Tests.{leb-true, le-leb, lt-leb}
 use Rattle.definition.specs.Tables.{rowLimit}
-use Rattle.tables.specs.Views.{ranges, wires}
+use Rattle.tables.specs.Views.{ranges, inputs}
 use Rattle.tables.specs.declared.Ranges.{Ranges}
-use Rattle.tables.specs.declared.Wires.{Wires}
-use Rattle.inplace.specs.Cut.{zeroed, lesser, cutRanges, cutWires, zeroRanges, zeroWires}
+use Rattle.tables.specs.declared.Inputs.{Inputs}
+use Rattle.inplace.specs.Cut.{zeroed, lesser, cutRanges, cutInputs, zeroRanges, zeroInputs}
 
 -- ---- a count, and at most the rows that there are
 
@@ -46,26 +46,26 @@ pub zero-none : (m : ℕ) (t : Ranges) → t ≡ zeroRanges (t .n) m t (m - m)
 unfolding zeroed
 zero-none m t = let p : 0 ≡ m - m = omega arith in ap (zeroRanges (t .n) m t) p
 
-pub zero-none-wires : (m : ℕ) (t : Wires) → t ≡ zeroWires (t .n) m t (m - m)
+pub zero-none-inputs : (m : ℕ) (t : Inputs) → t ≡ zeroInputs (t .n) m t (m - m)
 unfolding zeroed
-zero-none-wires m t = let p : 0 ≡ m - m = omega arith in ap (zeroWires (t .n) m t) p
+zero-none-inputs m t = let p : 0 ≡ m - m = omega arith in ap (zeroInputs (t .n) m t) p
 
 -- one row more
 abbrev rowZero : ℕ → Ranges → Ranges
 rowZero k t = ranges (t .n) (set (t .controller) k 0) (set (t .its) k 0) (set (t .device) k 0) (set (t .start) k 0) (set (t .end) k 0) (set (t .owner) k 0)
 
-abbrev wireZero : ℕ → Wires → Wires
-wireZero k t = wires (t .n) (set (t .controller) k 0) (set (t .input) k 0) (set (t .trigger) k 0) (set (t .sharing) k 0) (set (t .owner) k 0)
+abbrev inputZero : ℕ → Inputs → Inputs
+inputZero k t = inputs (t .n) (set (t .controller) k 0) (set (t .input) k 0) (set (t .trigger) k 0) (set (t .sharing) k 0) (set (t .owner) k 0)
 
 pub zero-more : (m k : ℕ) (t next : Ranges) → m ≤ k → next ≡ zeroRanges (t .n) m t (k - m) → rowZero k next ≡ zeroRanges (t .n) m t (k + 1 - m)
 zero-more m k t next l e =
     ap (rowZero k) e
     ∙ (λ i. ranges (t .n) (zeroed-more m k (t .controller) l i) (zeroed-more m k (t .its) l i) (zeroed-more m k (t .device) l i) (zeroed-more m k (t .start) l i) (zeroed-more m k (t .end) l i) (zeroed-more m k (t .owner) l i))
 
-pub zero-more-wires : (m k : ℕ) (t next : Wires) → m ≤ k → next ≡ zeroWires (t .n) m t (k - m) → wireZero k next ≡ zeroWires (t .n) m t (k + 1 - m)
-zero-more-wires m k t next l e =
-    ap (wireZero k) e
-    ∙ (λ i. wires (t .n) (zeroed-more m k (t .controller) l i) (zeroed-more m k (t .input) l i) (zeroed-more m k (t .trigger) l i) (zeroed-more m k (t .sharing) l i) (zeroed-more m k (t .owner) l i))
+pub zero-more-inputs : (m k : ℕ) (t next : Inputs) → m ≤ k → next ≡ zeroInputs (t .n) m t (k - m) → inputZero k next ≡ zeroInputs (t .n) m t (k + 1 - m)
+zero-more-inputs m k t next l e =
+    ap (inputZero k) e
+    ∙ (λ i. inputs (t .n) (zeroed-more m k (t .controller) l i) (zeroed-more m k (t .input) l i) (zeroed-more m k (t .trigger) l i) (zeroed-more m k (t .sharing) l i) (zeroed-more m k (t .owner) l i))
 
 -- ---- what is left
 
@@ -77,9 +77,9 @@ cut-done m k end t next e l u q =
     let p : k - m ≡ end - m = omega arith in
     ap (λ (z : Ranges). ranges m (z .controller) (z .its) (z .device) (z .start) (z .end) (z .owner)) (q ∙ ap (zeroRanges (t .n) m t) (p ∙ ap (λ (j : ℕ). j - m) e))
 
-pub cut-done-wires : (m k end : ℕ) (t next : Wires) → end ≡ lesser (t .n) → end ≤ k → k - m ≤ end - m → next ≡ zeroWires (t .n) m t (k - m)
-    → wires m (next .controller) (next .input) (next .trigger) (next .sharing) (next .owner) ≡ cutWires m t
-unfolding cutWires
-cut-done-wires m k end t next e l u q =
+pub cut-done-inputs : (m k end : ℕ) (t next : Inputs) → end ≡ lesser (t .n) → end ≤ k → k - m ≤ end - m → next ≡ zeroInputs (t .n) m t (k - m)
+    → inputs m (next .controller) (next .input) (next .trigger) (next .sharing) (next .owner) ≡ cutInputs m t
+unfolding cutInputs
+cut-done-inputs m k end t next e l u q =
     let p : k - m ≡ end - m = omega arith in
-    ap (λ (z : Wires). wires m (z .controller) (z .input) (z .trigger) (z .sharing) (z .owner)) (q ∙ ap (zeroWires (t .n) m t) (p ∙ ap (λ (j : ℕ). j - m) e))
+    ap (λ (z : Inputs). inputs m (z .controller) (z .input) (z .trigger) (z .sharing) (z .owner)) (q ∙ ap (zeroInputs (t .n) m t) (p ∙ ap (λ (j : ℕ). j - m) e))

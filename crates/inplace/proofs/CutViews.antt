@@ -12,12 +12,12 @@ use borrow.Author.Tests.{ltb-true, ltb-false, leb-true, leb-false, eqb-true, eqb
 use Rattle.definition.specs.Tables.{rowLimit, Kind, mmio, pio, input, host, device, event, lpi, blankRow, rangeRow, wiredRow, dom}
 use Rattle.definition.specs.Calls as C
 use Rattle.tables.specs.Below.{listed}
-use Rattle.tables.specs.Views.{rangeOf, wireOf, rangeAt, wireAt, rangesView, wiresView, stateView}
+use Rattle.tables.specs.Views.{rangeOf, inputOf, rangeAt, inputAt, rangesView, inputsView, stateView}
 use Rattle.tables.specs.declared.Ranges.{Ranges}
-use Rattle.tables.specs.declared.Wires.{Wires}
+use Rattle.tables.specs.declared.Inputs.{Inputs}
 use Rattle.tables.specs.declared.State.{State}
 use Rattle.tables.proofs.ListedLaws.{listed-length, listed-at}
-use Rattle.inplace.specs.Cut.{zeroed, lesser, cutRanges, cutWires}
+use Rattle.inplace.specs.Cut.{zeroed, lesser, cutRanges, cutInputs}
 use Rattle.definition.specs.Cut.{wiped, cutTo, cutting}
 use Rattle.definition.specs.WipeLaws.{wiped-length, wiped-below, wiped-within, wiped-above}
 use Rattle.inplace.specs.Marks.{countsIn, restored}
@@ -94,15 +94,15 @@ cut-ranges-view m t = λ i. record { count = m; rows = rows i }
         (λ j l h u. let f : j < m + (lesser (t .n) - m) = falls m (t .n) j l h u in
         λ i. rangeRow (dom (zeroed-in m (t .controller) k j h f i) (zeroed-in m (t .its) k j h f i) (zeroed-in m (t .device) k j h f i)) (zeroed-in m (t .start) k j h f i) (zeroed-in m (t .end) k j h f i) (zeroed-in m (t .owner) k j h f i))
 
-pub cut-wires-view : (m : ℕ) (t : Wires) → wiresView (cutWires m t) ≡ cutTo m (wiredRow 0 0 0 0 0) (wiresView t)
-unfolding cutTo cutWires
-cut-wires-view m t = λ i. record { count = m; rows = rows i }
+pub cut-inputs-view : (m : ℕ) (t : Inputs) → inputsView (cutInputs m t) ≡ cutTo m (wiredRow 0 0 0 0 0) (inputsView t)
+unfolding cutTo cutInputs
+cut-inputs-view m t = λ i. record { count = m; rows = rows i }
   where
     k : ℕ
     k = lesser (t .n) - m
 
-    rows : listed (λ j. wireOf (wireAt (cutWires m t) j)) rowLimit ≡ wiped m (t .n) (wiredRow 0 0 0 0 0) (listed (λ j. wireOf (wireAt t j)) rowLimit)
-    rows = wipe-listed (wiredRow 0 0 0 0 0) (λ j. wireOf (wireAt t j)) (λ j. wireOf (wireAt (cutWires m t) j)) m (t .n) rowLimit
+    rows : listed (λ j. inputOf (inputAt (cutInputs m t) j)) rowLimit ≡ wiped m (t .n) (wiredRow 0 0 0 0 0) (listed (λ j. inputOf (inputAt t j)) rowLimit)
+    rows = wipe-listed (wiredRow 0 0 0 0 0) (λ j. inputOf (inputAt t j)) (λ j. inputOf (inputAt (cutInputs m t) j)) m (t .n) rowLimit
         (λ j l o. let s : (j < m) ⊎ (m + (lesser (t .n) - m) ≤ j) = stays m (t .n) j l o in
         λ i. wiredRow (zeroed-out m (t .controller) k j s i) (zeroed-out m (t .input) k j s i) (zeroed-out m (t .trigger) k j s i) (zeroed-out m (t .sharing) k j s i) (zeroed-out m (t .owner) k j s i))
         (λ j l h u. let f : j < m + (lesser (t .n) - m) = falls m (t .n) j l h u in
@@ -116,7 +116,7 @@ restored-view m s = λ i. C.state (stateView s .pools) (stateView s .held) (λ k
     owners : (k : Kind) → stateView (restored m s) .owners k ≡ cutTo (countsIn m k) (blankRow k) (stateView s .owners k)
     owners mmio = cut-ranges-view (m .mmio) (s .owners .mmio)
     owners pio = cut-ranges-view (m .pio) (s .owners .pio)
-    owners input = cut-wires-view (m .input) (s .owners .input)
+    owners input = cut-inputs-view (m .input) (s .owners .input)
     owners host = cut-ranges-view (m .host) (s .owners .host)
     owners device = cut-ranges-view (m .device) (s .owners .device)
     owners event = cut-ranges-view (m .event) (s .owners .event)

@@ -5,9 +5,9 @@ use Prim.Native.Nat.{ℕ, zero, suc, _+_, _-_}
 use lib.Dec.{leb}
 use lib.ListN.{set}
 use Rattle.definition.specs.Tables.{rowLimit}
-use Rattle.tables.specs.Views.{ranges, wires}
+use Rattle.tables.specs.Views.{ranges, inputs}
 use Rattle.tables.specs.declared.Ranges.{Ranges}
-use Rattle.tables.specs.declared.Wires.{Wires}
+use Rattle.tables.specs.declared.Inputs.{Inputs}
 
 -- the numbers from m on, k of them, are 0
 unfoldable pub zeroed : ℕ → List ℕ → ℕ → List ℕ
@@ -19,8 +19,8 @@ abbrev pub zeroRanges : ℕ → ℕ → Ranges → ℕ → Ranges
 zeroRanges n m t k =
     ranges n (zeroed m (t .controller) k) (zeroed m (t .its) k) (zeroed m (t .device) k) (zeroed m (t .start) k) (zeroed m (t .end) k) (zeroed m (t .owner) k)
 
-abbrev pub zeroWires : ℕ → ℕ → Wires → ℕ → Wires
-zeroWires n m t k = wires n (zeroed m (t .controller) k) (zeroed m (t .input) k) (zeroed m (t .trigger) k) (zeroed m (t .sharing) k) (zeroed m (t .owner) k)
+abbrev pub zeroInputs : ℕ → ℕ → Inputs → ℕ → Inputs
+zeroInputs n m t k = inputs n (zeroed m (t .controller) k) (zeroed m (t .input) k) (zeroed m (t .trigger) k) (zeroed m (t .sharing) k) (zeroed m (t .owner) k)
 
 -- a count, and at most the rows that there are
 unfoldable pub lesser : ℕ → ℕ
@@ -30,5 +30,5 @@ lesser n = elim (leb n rowLimit) [ true ↦ n | false ↦ rowLimit ]
 unfoldable pub cutRanges : ℕ → Ranges → Ranges
 cutRanges m t = zeroRanges m m t (lesser (t .n) - m)
 
-unfoldable pub cutWires : ℕ → Wires → Wires
-cutWires m t = zeroWires m m t (lesser (t .n) - m)
+unfoldable pub cutInputs : ℕ → Inputs → Inputs
+cutInputs m t = zeroInputs m m t (lesser (t .n) - m)

@@ -3,7 +3,7 @@ use Prim.Native.Nat.{ℕ}
 use Rattle.definition.specs.Tables.{Kind, mmio, pio, input, host, device, event, lpi}
 use Rattle.tables.specs.Whole.{holders}
 use Rattle.tables.specs.declared.State.{State}
-use Rattle.inplace.specs.Cut.{cutRanges, cutWires}
+use Rattle.inplace.specs.Cut.{cutRanges, cutInputs}
 use Rattle.inplace.specs.declared.marks.Marks.{Marks}
 
 abbrev pub marksOf : State → Marks
@@ -30,7 +30,7 @@ restored p s =
       fixed = s .fixed;
       held = s .held;
       owners =
-          holders (cutRanges (p .mmio) (s .owners .mmio)) (cutRanges (p .pio) (s .owners .pio)) (cutWires (p .input) (s .owners .input)) (cutRanges (p .host) (s .owners .host))
+          holders (cutRanges (p .mmio) (s .owners .mmio)) (cutRanges (p .pio) (s .owners .pio)) (cutInputs (p .input) (s .owners .input)) (cutRanges (p .host) (s .owners .host))
           (cutRanges (p .device) (s .owners .device)) (cutRanges (p .event) (s .owners .event)) (cutRanges (p .lpi) (s .owners .lpi));
       number = s .number;
       index = s .index;

@@ -39,7 +39,7 @@ pub fn find(s: &State, r: Request) -> Granted
         return decide::one(q, seen);
     }
     if decide::ask::for_input(q) {
-        let seen = lent_table::look::wire(
+        let seen = lent_table::look::input(
             &s.auto.input,
             &s.fixed.input,
             &s.owners.input,
@@ -84,7 +84,7 @@ pub fn keep(s: &mut State, g: Granted)
 {
     lent_table::store::range(&mut s.owners.mmio, decide::put::mmio(g));
     lent_table::store::range(&mut s.owners.pio, decide::put::pio(g));
-    lent_table::store::wire(&mut s.owners.input, decide::put::input(g));
+    lent_table::store::input(&mut s.owners.input, decide::put::input(g));
     lent_table::store::range(&mut s.owners.host, decide::put::host(g));
     lent_table::store::range(&mut s.owners.device, decide::put::device(g));
     lent_table::store::range(&mut s.owners.event, decide::put::event(g));

@@ -1,10 +1,10 @@
 // A lent state: the counts and the numbers that are read of it, and its owner tables cut back, in place.
+use tables::Inputs;
 use tables::ROWS;
 use tables::Ranges;
 use tables::State;
-use tables::Wires;
 ghost use mathlib.Core.Path.{_≡_};
-ghost use Rattle.inplace.specs.Cut.{lesser, cutRanges, cutWires};
+ghost use Rattle.inplace.specs.Cut.{lesser, cutRanges, cutInputs};
 ghost use Rattle.inplace.specs.Marks.{marksOf, restored};
 
 // The row counts of the owner tables, and the five numbers of the last answer.
@@ -54,8 +54,8 @@ pub fn ranges_to(t: Ranges, m: usize) -> Ranges
     next
 }
 
-pub fn wires_to(t: Wires, m: usize) -> Wires
-    ensures { λ r. ⌜ r ≡ cutWires m t ⌝ }
+pub fn inputs_to(t: Inputs, m: usize) -> Inputs
+    ensures { λ r. ⌜ r ≡ cutInputs m t ⌝ }
 {
     let end = lesser(t.n);
     let mut next = t;
@@ -112,7 +112,7 @@ pub fn restore(s: &mut State, m: Marks)
 {
     s.owners.mmio = ranges_to(s.owners.mmio, m.mmio);
     s.owners.pio = ranges_to(s.owners.pio, m.pio);
-    s.owners.input = wires_to(s.owners.input, m.input);
+    s.owners.input = inputs_to(s.owners.input, m.input);
     s.owners.host = ranges_to(s.owners.host, m.host);
     s.owners.device = ranges_to(s.owners.device, m.device);
     s.owners.event = ranges_to(s.owners.event, m.event);

@@ -121,25 +121,25 @@ unfolding reserve require allOf
 tell-input r t e = record { said = rw e }
 
 -- a wired row whose numbers keep to their types fits where its codes are known
-wire-fits : (c x t s o : ℕ) → c ≤ top 32 → x ≤ top 64 → o ≤ top 32 → fits input (wiredRow c x t s o) ≡ leb t lastTrigger && leb s shared
+input-fits : (c x t s o : ℕ) → c ≤ top 32 → x ≤ top 64 → o ≤ top 32 → fits input (wiredRow c x t s o) ≡ leb t lastTrigger && leb s shared
 unfolding fits within
-wire-fits c x t s o hc hx ho =
+input-fits c x t s o hc hx ho =
     rw (le-leb c (top 32) hc, le-leb x (top 64) hx, eq-eqb (suc x) (suc x) refl, le-leb o (top 32) ho, and-true (leb s shared))
 
 module _ (c x t s o : ℕ) (hc : c ≤ top 32) (hx : x ≤ top 64) (ho : o ≤ top 32) where
-  pub wire-known : t ≤ lastTrigger → s ≤ shared → T (fits input (wiredRow c x t s o))
-  wire-known ht hs = true-T (fits input (wiredRow c x t s o)) (wire-fits c x t s o hc hx ho ∙ rw (le-leb t lastTrigger ht, le-leb s shared hs))
+  pub input-known : t ≤ lastTrigger → s ≤ shared → T (fits input (wiredRow c x t s o))
+  input-known ht hs = true-T (fits input (wiredRow c x t s o)) (input-fits c x t s o hc hx ho ∙ rw (le-leb t lastTrigger ht, le-leb s shared hs))
 
-  pub wire-no-trigger : lastTrigger < t → fits input (wiredRow c x t s o) ≡ false
-  wire-no-trigger ht = wire-fits c x t s o hc hx ho ∙ rw (lt-leb t lastTrigger ht)
+  pub input-no-trigger : lastTrigger < t → fits input (wiredRow c x t s o) ≡ false
+  input-no-trigger ht = input-fits c x t s o hc hx ho ∙ rw (lt-leb t lastTrigger ht)
 
-  pub wire-no-sharing : shared < s → fits input (wiredRow c x t s o) ≡ false
-  wire-no-sharing hs = wire-fits c x t s o hc hx ho ∙ rw (lt-leb s shared hs, and-false (leb t lastTrigger))
+  pub input-no-sharing : shared < s → fits input (wiredRow c x t s o) ≡ false
+  input-no-sharing hs = input-fits c x t s o hc hx ho ∙ rw (lt-leb s shared hs, and-false (leb t lastTrigger))
 
 module _ (c x t s o c′ x′ t′ s′ o′ : ℕ) where
-  pub wires-apart : (x ≡ x′ → ⊥) → meets (wiredRow c x t s o) (wiredRow c′ x′ t′ s′ o′) ≡ false
+  pub inputs-apart : (x ≡ x′ → ⊥) → meets (wiredRow c x t s o) (wiredRow c′ x′ t′ s′ o′) ≡ false
   unfolding meets overlap
-  wires-apart h =
+  inputs-apart h =
       ap (λ b. sameDom (dom c 0 0) (dom c′ 0 0) && b)
       (T-false (ltb x (suc x′) && ltb x′ (suc x)) (λ b. h (omega (
         arith,
@@ -148,9 +148,9 @@ module _ (c x t s o c′ x′ t′ s′ o′ : ℕ) where
       ))))
       ∙ and-false (sameDom (dom c 0 0) (dom c′ 0 0))
 
-  pub wires-level : x ≡ x′ → meets (wiredRow c x t s o) (wiredRow c′ x′ t′ s′ o′) ≡ eqb c c′
+  pub inputs-level : x ≡ x′ → meets (wiredRow c x t s o) (wiredRow c′ x′ t′ s′ o′) ≡ eqb c c′
   unfolding meets overlap sameDom
-  wires-level h =
+  inputs-level h =
       rw (lt-ltb x (suc x′) (omega arith), lt-ltb x′ (suc x) (omega arith)) (and-true (eqb c c′ && true) ∙ and-true (eqb c c′))
 
 -- ---- the table afterwards

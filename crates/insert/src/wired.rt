@@ -2,13 +2,13 @@
 use super::Reply;
 use super::wide;
 use tables::Hit;
+use tables::InputRow;
 use tables::ROWS;
-use tables::WireRow;
 ghost use mathlib.Core.Path.{_≡_};
 ghost use Prim.Native.Nat.{_≤_, _<_};
 ghost use Rattle.definition.specs.Tables.{rowLimit, input as wired, meets};
 ghost use Rattle.tables.specs.Below.{first};
-ghost use Rattle.tables.specs.Views.{wires, wireOf, wireAt, wiresView};
+ghost use Rattle.tables.specs.Views.{inputs, inputOf, inputAt, inputsView};
 ghost use Rattle.insert.specs.Answers.{Told};
 
 const LAST_TRIGGER: u32 = 3;
@@ -16,8 +16,8 @@ const LAST_TRIGGER: u32 = 3;
 const SHARED: u32 = 1;
 
 // Whether two rows are of one input.
-pub fn same_input(a: WireRow, b: WireRow) -> bool
-    ensures { λ r. ⌜ r ≡ meets (wireOf a) (wireOf b) ⌝ }
+pub fn same_input(a: InputRow, b: InputRow) -> bool
+    ensures { λ r. ⌜ r ≡ meets (inputOf a) (inputOf b) ⌝ }
 {
     if a.input != b.input {
         return false;
@@ -33,16 +33,16 @@ pub fn first_input<'a>(
     trigger: &'a [u32; ROWS],
     sharing: &'a [u32; ROWS],
     owner: &'a [u32; ROWS],
-    r: WireRow,
+    r: InputRow,
 ) -> Hit
     requires { ⌜ n ≤ rowLimit ⌝ }
-    ensures { λ h. ⌜ h ≡ first (λ k. meets (wireOf r) (wireOf (wireAt (wires n (now (controller .entry)) (now (input .entry)) (now (trigger .entry)) (now (sharing .entry)) (now (owner .entry))) k))) n ⌝ }
+    ensures { λ h. ⌜ h ≡ first (λ k. meets (inputOf r) (inputOf (inputAt (inputs n (now (controller .entry)) (now (input .entry)) (now (trigger .entry)) (now (sharing .entry)) (now (owner .entry))) k))) n ⌝ }
 {
     let mut k: usize = 0;
     while k < n {
         if same_input(
             r,
-            tables::wire_at(k, controller, input, trigger, sharing, owner),
+            tables::input_at(k, controller, input, trigger, sharing, owner),
         ) {
             return Hit::At(k);
         }
@@ -59,10 +59,10 @@ pub fn refuse_input<'a>(
     trigger: &'a [u32; ROWS],
     sharing: &'a [u32; ROWS],
     owner: &'a [u32; ROWS],
-    r: WireRow,
+    r: InputRow,
 ) -> Reply
     requires { ⌜ n ≤ rowLimit ⌝ }
-    ensures told { λ a. ⌜ Told wired (wireOf r) (wiresView (wires n (now (controller .entry)) (now (input .entry)) (now (trigger .entry)) (now (sharing .entry)) (now (owner .entry)))) a ⌝ }
+    ensures told { λ a. ⌜ Told wired (inputOf r) (inputsView (inputs n (now (controller .entry)) (now (input .entry)) (now (trigger .entry)) (now (sharing .entry)) (now (owner .entry)))) a ⌝ }
     ensures room { λ a. ⌜ (a .number ≡ 0 → n < rowLimit) ⌝ }
 {
     if LAST_TRIGGER < r.trigger {

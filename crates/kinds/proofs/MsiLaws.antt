@@ -16,7 +16,7 @@ use Rattle.tables.specs.Views.{rangesView}
 use Rattle.tables.specs.declared.Ranges.{Ranges}
 use Rattle.sound.proofs.KindLaws.{set-ranges}
 use Rattle.choose.specs.Told.{refusalOf}
-use Rattle.msi.specs.Msi.{msiRows, toldMsi, msiWant}
+use Rattle.msi.specs.Msi.{msiRows, toldMsi, askedMsi}
 use Rattle.msi.specs.declared.Msi.{Msi}
 use Rattle.msi.specs.declared.MsiChosen.{MsiChosen}
 use Rattle.msi.specs.declared.MsiChosen.the-variants.{Stands, Refused}
@@ -111,7 +111,7 @@ bases-said m (Refused y) a h = subst (λ (x : Answer (List Claim)). basesSaid x 
 
 module _ (t : MsiTables) (m : Msi) (r : MsiAnswer) (s : ℕ) where
   abbrev q : R.Request
-  q = asked (m .requester) s (msiWant m)
+  q = asked (m .requester) s (askedMsi m)
 
   answered : (i : Said) → MsiServed t (goodRequest q) m r → toldMsi m (r .chosen) ≡ answerOf three q (msiState t i)
   unfolding resolve
@@ -135,7 +135,7 @@ module _ (t : MsiTables) (m : Msi) (r : MsiAnswer) (s : ℕ) where
       go event = refl
       go lpi = refl
 
-  pub msi-serves : MsiServed t (goodRequest q) m r → ServesMsi t (m .requester) s (msiWant m) r
+  pub msi-serves : MsiServed t (goodRequest q) m r → ServesMsi t (m .requester) s (askedMsi m) r
   msi-serves h =
       record {
         tables = λ i. kept (saidMsi (r .chosen)) h ∙ msi-after t _ _ _ m (r .chosen) i (h .devices) (h .events) (h .lpis) ∙ ap (after (msiState t i)) (answered i h) ∙ serve-after three q (msiState t i);

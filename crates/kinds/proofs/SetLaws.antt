@@ -10,30 +10,30 @@ use Rattle.definition.specs.Request.{automatic, fixed, one, claims, goodRequest
 use Rattle.definition.specs.Request as R
 use Rattle.definition.specs.Calls.{State, state, poolsOf, ownersOf, sound, soundAt, want, serve}
 use Rattle.definition.specs.StateLaws.{Sound, sound-says}
-use Rattle.tables.specs.Views.{kindOf, poolView, rangesView, wiresView}
+use Rattle.tables.specs.Views.{kindOf, poolView, rangesView, inputsView}
 use Rattle.tables.specs.declared.Pool.{Pool}
 use Rattle.tables.specs.declared.Ranges.{Ranges}
-use Rattle.tables.specs.declared.Wires.{Wires}
+use Rattle.tables.specs.declared.Inputs.{Inputs}
 use Rattle.table_tests.specs.Tests.{limitsOf}
 use Rattle.table_tests.proofs.KindLaws.{Ranged}
-use Rattle.sound.specs.Tests.{setRanges, setWires}
-use Rattle.sound.proofs.KindLaws.{set-ranges, set-wires}
+use Rattle.sound.specs.Tests.{setRanges, setInputs}
+use Rattle.sound.proofs.KindLaws.{set-ranges, set-inputs}
 use Rattle.search.specs.Asks.{needOf}
 use Rattle.search.specs.Finds.{InOrder}
 use Rattle.tables.specs.declared.Kind as K
 use Rattle.search.specs.declared.Need.{Need}
 use Rattle.choose.specs.Told.{choiceOf, told, chosenIn}
-use Rattle.choose.specs.Wired.{wireAsked}
+use Rattle.choose.specs.Wired.{inputAsked}
 use Rattle.choose.specs.declared.Choice.{Choice}
-use Rattle.choose.specs.declared.wired.Wire.{Wire}
+use Rattle.choose.specs.declared.wired.InputNeed.{InputNeed}
 use Rattle.decide.specs.Outcome.{after}
 use Rattle.decide.proofs.AnswerLaws.{claimOf}
 use Rattle.decide.proofs.ReadyLaws.{pool-order}
 use Rattle.kinds.specs.declared.RangeTables.{RangeTables}
 use Rattle.kinds.specs.declared.RangeAnswer.{RangeAnswer}
-use Rattle.kinds.specs.declared.WireTables.{WireTables}
-use Rattle.kinds.specs.declared.WireAnswer.{WireAnswer}
-use Rattle.kinds.specs.Kinds.{poolAs, tablesAt, rangeState, wireState, answerOf, asked, saidBy, RangeServed, WireServed, ServesRange, ServesWire}
+use Rattle.kinds.specs.declared.InputTables.{InputTables}
+use Rattle.kinds.specs.declared.InputAnswer.{InputAnswer}
+use Rattle.kinds.specs.Kinds.{poolAs, tablesAt, rangeState, inputState, answerOf, asked, saidBy, RangeServed, InputServed, ServesRange, ServesInput}
 use Rattle.kinds.proofs.KindLaws.{only-same, sound-alone, kind-answer, rows-said, serve-after, said-told, kind-after}
 
 -- ---- what a passed test gives the choice
@@ -54,11 +54,11 @@ ranges-passed k w a f h o e =
     let s : Sound v (kindOf k) = sound-says v (kindOf k) (true-T (soundAt v (kindOf k)) (set-ranges v (kindOf k) w a f h o refl refl refl refl ∙ e)) in
     record { order = pool-order (kindOf k) a (s .given .pools automatic); fixed-count = s .given .pools fixed .tidied .within; rows = s .owners .tidied .within }
 
-pub wires-passed : (a f : Pool) (h o : Wires) → setWires a f h o ≡ true → Passed a f (o .n)
+pub inputs-passed : (a f : Pool) (h o : Inputs) → setInputs a f h o ≡ true → Passed a f (o .n)
 unfolding everywhere
-wires-passed a f h o e =
-    let v : State = everywhere (poolView a) (poolView f) (wiresView h) (wiresView o) in
-    let s : Sound v input = sound-says v input (true-T (soundAt v input) (set-wires v a f h o refl refl refl refl ∙ e)) in
+inputs-passed a f h o e =
+    let v : State = everywhere (poolView a) (poolView f) (inputsView h) (inputsView o) in
+    let s : Sound v input = sound-says v input (true-T (soundAt v input) (set-inputs v a f h o refl refl refl refl ∙ e)) in
     record { order = pool-order input a (s .given .pools automatic); fixed-count = s .given .pools fixed .tidied .within; rows = s .owners .tidied .within }
 
 -- ---- the call's promise
@@ -102,26 +102,26 @@ module _ (t : RangeTables) (m : Need) (c : Choice) (r : RangeAnswer) (q s : ℕ)
           ∙ ap (after (at-range i)) (answer i)
           ∙ serve-after (Kd ∷ []) (asked q s w) (at-range i)
 
-module _ (t : WireTables) (m : Wire) (c : Choice) (r : WireAnswer) (q s : ℕ) (w : R.Want) where
-  abbrev at-wire : Said → State
-  at-wire i = wireState t i
+module _ (t : InputTables) (m : InputNeed) (c : Choice) (r : InputAnswer) (q s : ℕ) (w : R.Want) where
+  abbrev at-input : Said → State
+  at-input i = inputState t i
 
-  abbrev wire-rest : Said → Answer Row
-  wire-rest i = require (goodRequest (asked q s w)) badInput (chosenIn (poolsOf (at-wire i) automatic input) (poolsOf (at-wire i) fixed input) (ownersOf (at-wire i) input) (wireAsked m) (choiceOf c))
+  abbrev input-rest : Said → Answer Row
+  input-rest i = require (goodRequest (asked q s w)) badInput (chosenIn (poolsOf (at-input i) automatic input) (poolsOf (at-input i) fixed input) (ownersOf (at-input i) input) (inputAsked m) (choiceOf c))
 
-  pub wire-serves : ((i : Said) → claims (poolsOf (at-wire i)) (ownersOf (at-wire i)) q w ≡ one (poolsOf (at-wire i)) (ownersOf (at-wire i)) (wireAsked m) (choiceOf c))
-      → WireServed t (goodRequest (asked q s w)) m c r → ServesWire t q s w r
-  wire-serves cl h = record { tables = tables; answer = λ i. rows-said input (wireAsked m) (r .chosen) _ (answer i) }
+  pub input-serves : ((i : Said) → claims (poolsOf (at-input i)) (ownersOf (at-input i)) q w ≡ one (poolsOf (at-input i)) (ownersOf (at-input i)) (inputAsked m) (choiceOf c))
+      → InputServed t (goodRequest (asked q s w)) m c r → ServesInput t q s w r
+  input-serves cl h = record { tables = tables; answer = λ i. rows-said input (inputAsked m) (r .chosen) _ (answer i) }
     where
-      judged : (i : Said) → sound (input ∷ []) (at-wire i) ≡ setWires (t .auto) (t .fixed) (t .held) (t .owners)
-      judged i = sound-alone (at-wire i) input ∙ set-wires (at-wire i) (t .auto) (t .fixed) (t .held) (t .owners) refl refl refl refl
+      judged : (i : Said) → sound (input ∷ []) (at-input i) ≡ setInputs (t .auto) (t .fixed) (t .held) (t .owners)
+      judged i = sound-alone (at-input i) input ∙ set-inputs (at-input i) (t .auto) (t .fixed) (t .held) (t .owners) refl refl refl refl
 
-      answer : (i : Said) → claimOf input (told (wireAsked m) (r .chosen)) ≡ answerOf (input ∷ []) (asked q s w) (at-wire i)
-      answer i = kind-answer (at-wire i) q s w (wireAsked m) (choiceOf c) (cl i) (told (wireAsked m) (r .chosen)) (h .answer ∙ ap (λ b. require b malformed (wire-rest i)) (sym (judged i)))
+      answer : (i : Said) → claimOf input (told (inputAsked m) (r .chosen)) ≡ answerOf (input ∷ []) (asked q s w) (at-input i)
+      answer i = kind-answer (at-input i) q s w (inputAsked m) (choiceOf c) (cl i) (told (inputAsked m) (r .chosen)) (h .answer ∙ ap (λ b. require b malformed (input-rest i)) (sym (judged i)))
 
-      tables : (i : Said) → wireState (r .tables) (saidBy (r .chosen)) ≡ serve (input ∷ []) (want (asked q s w)) (at-wire i)
+      tables : (i : Said) → inputState (r .tables) (saidBy (r .chosen)) ≡ serve (input ∷ []) (want (asked q s w)) (at-input i)
       tables i =
-          (λ d. tablesAt input (poolView (h .auto d)) (poolView (h .fixed d)) (wiresView (h .held d)) (wiresView (r .tables .owners)) (said-told (wireAsked m) (r .chosen) d))
-          ∙ kind-after input (poolView (t .auto)) (poolView (t .fixed)) (wiresView (t .held)) (wiresView (t .owners)) (wiresView (r .tables .owners)) i (told (wireAsked m) (r .chosen)) (h .owners)
-          ∙ ap (after (at-wire i)) (answer i)
-          ∙ serve-after (input ∷ []) (asked q s w) (at-wire i)
+          (λ d. tablesAt input (poolView (h .auto d)) (poolView (h .fixed d)) (inputsView (h .held d)) (inputsView (r .tables .owners)) (said-told (inputAsked m) (r .chosen) d))
+          ∙ kind-after input (poolView (t .auto)) (poolView (t .fixed)) (inputsView (t .held)) (inputsView (t .owners)) (inputsView (r .tables .owners)) i (told (inputAsked m) (r .chosen)) (h .owners)
+          ∙ ap (after (at-input i)) (answer i)
+          ∙ serve-after (input ∷ []) (asked q s w) (at-input i)

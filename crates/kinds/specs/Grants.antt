@@ -8,22 +8,22 @@ use Rattle.definition.specs.Tables.{poolLimit, rowLimit, device, event, lpi, Ro
 use Rattle.definition.specs.Tables as D
 use Rattle.definition.specs.Pools.{Claim, rowsOf}
 use Rattle.definition.specs.Calls.{pushAll}
-use Rattle.tables.specs.Views.{poolView, rangesView, wiresView}
+use Rattle.tables.specs.Views.{poolView, rangesView, inputsView}
 use Rattle.tables.specs.declared.Pool.{Pool}
 use Rattle.tables.specs.declared.Ranges.{Ranges}
-use Rattle.tables.specs.declared.Wires.{Wires}
+use Rattle.tables.specs.declared.Inputs.{Inputs}
 use Rattle.search.specs.Asks.{needOf}
 use Rattle.search.specs.Finds.{InOrder}
 use Rattle.search.specs.declared.Need.{Need}
 use Rattle.choose.specs.Told.{choiceOf, told, chosenIn}
-use Rattle.choose.specs.Wired.{wireAsked}
+use Rattle.choose.specs.Wired.{inputAsked}
 use Rattle.choose.specs.declared.Choice.{Choice}
-use Rattle.choose.specs.declared.wired.Wire.{Wire}
+use Rattle.choose.specs.declared.wired.InputNeed.{InputNeed}
 use Rattle.msi.specs.Msi.{part, toldMsi, msiIn}
 use Rattle.msi.specs.declared.Msi.{Msi}
 use Rattle.msi.specs.declared.MsiChosen.{MsiChosen}
 use Rattle.kinds.specs.declared.rows.RangeGrant.{RangeGrant}
-use Rattle.kinds.specs.declared.rows.WireGrant.{WireGrant}
+use Rattle.kinds.specs.declared.rows.InputGrant.{InputGrant}
 use Rattle.kinds.specs.declared.rows.MsiGrant.{MsiGrant}
 
 -- what the choice asks of the tables of a kind, and soundness gives
@@ -55,9 +55,9 @@ pub record RangeGrants (auto fixed : Pool) (owners : Ranges) (n : Need) (c : Cho
   pub answer : told (needOf n) (r .chosen) ≡ chosenIn (used (poolView auto)) (used (poolView fixed)) (used (rangesView owners)) (needOf n) (choiceOf c)
   pub table : rangesView (r .owners) ≡ pushAll (rangesView owners) (rowGot (told (needOf n) (r .chosen)))
 
-pub record WireGrants (auto fixed : Pool) (owners : Wires) (w : Wire) (c : Choice) (r : WireGrant) : Type 0 where
-  pub answer : told (wireAsked w) (r .chosen) ≡ chosenIn (used (poolView auto)) (used (poolView fixed)) (used (wiresView owners)) (wireAsked w) (choiceOf c)
-  pub table : wiresView (r .owners) ≡ pushAll (wiresView owners) (rowGot (told (wireAsked w) (r .chosen)))
+pub record InputGrants (auto fixed : Pool) (owners : Inputs) (w : InputNeed) (c : Choice) (r : InputGrant) : Type 0 where
+  pub answer : told (inputAsked w) (r .chosen) ≡ chosenIn (used (poolView auto)) (used (poolView fixed)) (used (inputsView owners)) (inputAsked w) (choiceOf c)
+  pub table : inputsView (r .owners) ≡ pushAll (inputsView owners) (rowGot (told (inputAsked w) (r .chosen)))
 
 abbrev pub MsiDecides : Ranges → Ranges → Ranges → Pool → Pool → Pool → Pool → Pool → Pool → Msi → MsiChosen → Type 0
 MsiDecides ds es ls da df ea ef la lf m c = toldMsi m c ≡ msiIn (part da df ds) (part ea ef es) (part la lf ls) m

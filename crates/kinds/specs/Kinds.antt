@@ -10,22 +10,22 @@ use Rattle.definition.specs.Pools.{Claim}
 use Rattle.definition.specs.Request.{Use, automatic, fixed, resolve}
 use Rattle.definition.specs.Request as R
 use Rattle.definition.specs.Calls.{State, state, zeros, pushAll, poolsOf, ownersOf, sound, want, serve}
-use Rattle.tables.specs.Views.{kindOf, poolView, rangesView, wiresView}
+use Rattle.tables.specs.Views.{kindOf, poolView, rangesView, inputsView}
 use Rattle.table_tests.specs.Tests.{limitsOf}
-use Rattle.sound.specs.Tests.{setRanges, setWires}
+use Rattle.sound.specs.Tests.{setRanges, setInputs}
 use Rattle.search.specs.Asks.{needOf}
 use Rattle.search.specs.declared.Need.{Need}
 use Rattle.choose.specs.Told.{choiceOf, refusalOf, told, chosenIn}
-use Rattle.choose.specs.Wired.{wireAsked}
+use Rattle.choose.specs.Wired.{inputAsked}
 use Rattle.choose.specs.declared.Choice.{Choice}
 use Rattle.choose.specs.declared.Chosen.{Chosen}
 use Rattle.choose.specs.declared.Chosen.the-variants.{Stands, Refused}
-use Rattle.choose.specs.declared.wired.Wire.{Wire}
+use Rattle.choose.specs.declared.wired.InputNeed.{InputNeed}
 use Rattle.kinds.specs.Grants.{rowGot}
 use Rattle.kinds.specs.declared.RangeTables.{RangeTables}
 use Rattle.kinds.specs.declared.RangeAnswer.{RangeAnswer}
-use Rattle.kinds.specs.declared.WireTables.{WireTables}
-use Rattle.kinds.specs.declared.WireAnswer.{WireAnswer}
+use Rattle.kinds.specs.declared.InputTables.{InputTables}
+use Rattle.kinds.specs.declared.InputAnswer.{InputAnswer}
 
 -- ---- a state with tables of one kind
 
@@ -44,8 +44,8 @@ tablesAt k a f h o w =
 abbrev pub rangeState : Kind → RangeTables → Said → State
 rangeState k t w = tablesAt k (poolView (t .auto)) (poolView (t .fixed)) (rangesView (t .held)) (rangesView (t .owners)) w
 
-abbrev pub wireState : WireTables → Said → State
-wireState t w = tablesAt input (poolView (t .auto)) (poolView (t .fixed)) (wiresView (t .held)) (wiresView (t .owners)) w
+abbrev pub inputState : InputTables → Said → State
+inputState t w = tablesAt input (poolView (t .auto)) (poolView (t .fixed)) (inputsView (t .held)) (inputsView (t .owners)) w
 
 -- ---- the answer of a call that judges the tables of ks
 
@@ -71,15 +71,15 @@ pub record ServesRange (k : Kind) (t : RangeTables) (q s : ℕ) (w : R.Want) (r 
   pub tables : (i : Said) → rangeState k (r .tables) (saidBy (r .chosen)) ≡ serve (k ∷ []) (want (asked q s w)) (rangeState k t i)
   pub answer : (i : Said) → rowsSaid (answerOf (k ∷ []) (asked q s w) (rangeState k t i)) (r .chosen)
 
-pub record ServesWire (t : WireTables) (q s : ℕ) (w : R.Want) (r : WireAnswer) : Type 0 where
-  pub tables : (i : Said) → wireState (r .tables) (saidBy (r .chosen)) ≡ serve (input ∷ []) (want (asked q s w)) (wireState t i)
-  pub answer : (i : Said) → rowsSaid (answerOf (input ∷ []) (asked q s w) (wireState t i)) (r .chosen)
+pub record ServesInput (t : InputTables) (q s : ℕ) (w : R.Want) (r : InputAnswer) : Type 0 where
+  pub tables : (i : Said) → inputState (r .tables) (saidBy (r .chosen)) ≡ serve (input ∷ []) (want (asked q s w)) (inputState t i)
+  pub answer : (i : Said) → rowsSaid (answerOf (input ∷ []) (asked q s w) (inputState t i)) (r .chosen)
 
 -- ---- the core under them
 
 pub record Sense (s a : ℕ) : Type 0 where
   pub size : 0 < s
-  pub align : 0 < a
+  pub alignment : 0 < a
 
 abbrev pub Sensible : Bool → Need → Type 0
 Sensible good n = good ≡ true → Sense (n .size) (n .alignment)
@@ -94,12 +94,12 @@ pub record RangeServed (t : RangeTables) (good : Bool) (n : Need) (c : Choice) (
   pub held : r .tables .held ≡ t .held
   pub owners : rangesView (r .tables .owners) ≡ pushAll (rangesView (t .owners)) (rowGot (told (needOf n) (r .chosen)))
 
-pub record WireServed (t : WireTables) (good : Bool) (w : Wire) (c : Choice) (r : WireAnswer) : Type 0 where
+pub record InputServed (t : InputTables) (good : Bool) (w : InputNeed) (c : Choice) (r : InputAnswer) : Type 0 where
   pub answer :
-      told (wireAsked w) (r .chosen)
-      ≡ require (setWires (t .auto) (t .fixed) (t .held) (t .owners)) malformed
-      (require good badInput (chosenIn (used (poolView (t .auto))) (used (poolView (t .fixed))) (used (wiresView (t .owners))) (wireAsked w) (choiceOf c)))
+      told (inputAsked w) (r .chosen)
+      ≡ require (setInputs (t .auto) (t .fixed) (t .held) (t .owners)) malformed
+      (require good badInput (chosenIn (used (poolView (t .auto))) (used (poolView (t .fixed))) (used (inputsView (t .owners))) (inputAsked w) (choiceOf c)))
   pub auto : r .tables .auto ≡ t .auto
   pub fixed : r .tables .fixed ≡ t .fixed
   pub held : r .tables .held ≡ t .held
-  pub owners : wiresView (r .tables .owners) ≡ pushAll (wiresView (t .owners)) (rowGot (told (wireAsked w) (r .chosen)))
+  pub owners : inputsView (r .tables .owners) ≡ pushAll (inputsView (t .owners)) (rowGot (told (inputAsked w) (r .chosen)))

@@ -5,7 +5,7 @@ use choose::Refusal;
 use choose::ids::DeviceChoice;
 use choose::ids::EventChoice;
 use choose::ids::LpiChoice;
-use choose::wired::Wire;
+use choose::wired::InputNeed;
 use msi::Msi;
 use msi::MsiChosen;
 use request::Request;
@@ -13,19 +13,19 @@ use request::Want;
 use search::Need;
 use table_tests::limits;
 use table_tests::limits::Limits;
+use tables::Inputs;
 use tables::Kind;
 use tables::Pool;
 use tables::Ranges;
-use tables::Wires;
 ghost use mathlib.Core.Path.{_≡_};
 ghost use mathlib.Core.Bool.{false};
 ghost use Rattle.definition.specs.Tables.{mmio, pio, host, nature};
-ghost use Rattle.definition.specs.Request.{memory, ports, wire, irq};
+ghost use Rattle.definition.specs.Request.{mmioWant, pioWant, inputWant, hostWant};
 ghost use Rattle.table_tests.specs.Tests.{limitsOf};
 ghost use Rattle.tables.specs.Views.{kindOf};
 ghost use Rattle.choose.specs.Told.{choiceOf};
 ghost use Rattle.choose.specs.Ids.{deviceChoice, eventChoice, lpiChoice};
-ghost use Rattle.kinds.specs.Kinds.{Sensible, RangeServed, WireServed, ServesRange, ServesWire};
+ghost use Rattle.kinds.specs.Kinds.{Sensible, RangeServed, InputServed, ServesRange, ServesInput};
 ghost use Rattle.kinds.specs.Msis.{setMsi, keeping, SomeEvents, MsiServed, ServesMsi};
 ghost use Rattle.definition.specs.Request as R;
 
@@ -45,15 +45,15 @@ pub struct RangeAnswer {
 }
 
 #[repr(C)]
-pub struct WireTables {
+pub struct InputTables {
     pub auto: Pool,
     pub fixed: Pool,
-    pub held: Wires,
-    pub owners: Wires,
+    pub held: Inputs,
+    pub owners: Inputs,
 }
 
-pub struct WireAnswer {
-    pub tables: WireTables,
+pub struct InputAnswer {
+    pub tables: InputTables,
     pub chosen: Chosen,
 }
 
@@ -95,31 +95,31 @@ pub fn range_answer(
     }
 }
 
-pub fn wire_answer(t: WireTables, good: bool, ask: Wire, choice: Choice) -> WireAnswer
-    ensures { λ r. ⌜ WireServed t good ask choice r ⌝ }
+pub fn input_answer(t: InputTables, good: bool, ask: InputNeed, choice: Choice) -> InputAnswer
+    ensures { λ r. ⌜ InputServed t good ask choice r ⌝ }
 {
     let auto = t.auto;
     let fixed = t.fixed;
     let held = t.held;
-    if sound::wires_set(auto, fixed, held, t.owners) {
+    if sound::inputs_set(auto, fixed, held, t.owners) {
         if good {
-            let got = rows::grant_wire(t.owners, auto, fixed, ask, choice);
+            let got = rows::grant_input(t.owners, auto, fixed, ask, choice);
             let owners = got.owners;
             let chosen = got.chosen;
-            let tables = WireTables {
+            let tables = InputTables {
                 auto,
                 fixed,
                 held,
                 owners,
             };
-            return WireAnswer { tables, chosen };
+            return InputAnswer { tables, chosen };
         }
-        return WireAnswer {
+        return InputAnswer {
             tables: t,
             chosen: Chosen::Refused(Refusal::BadInput),
         };
     }
-    WireAnswer {
+    InputAnswer {
         tables: t,
         chosen: Chosen::Refused(Refusal::Malformed),
     }
@@ -134,7 +134,7 @@ pub fn allocate_mmio(
     alignment: u64,
     choice: Choice,
 ) -> RangeAnswer
-    ensures { λ r. ⌜ ServesRange mmio t requester slot (memory size alignment (choiceOf choice)) r ⌝ }
+    ensures { λ r. ⌜ ServesRange mmio t requester slot (mmioWant size alignment (choiceOf choice)) r ⌝ }
 {
     let request = Request {
         requester,
@@ -168,7 +168,7 @@ pub fn allocate_pio(
     alignment: u64,
     choice: Choice,
 ) -> RangeAnswer
-    ensures { λ r. ⌜ ServesRange pio t requester slot (ports size alignment (choiceOf choice)) r ⌝ }
+    ensures { λ r. ⌜ ServesRange pio t requester slot (pioWant size alignment (choiceOf choice)) r ⌝ }
 {
     let request = Request {
         requester,
@@ -195,12 +195,12 @@ pub fn allocate_pio(
 
 // A host IRQ.
 pub fn allocate_host_irq(t: RangeTables, requester: u32, slot: u32, choice: Choice) -> RangeAnswer
-    ensures { λ r. ⌜ ServesRange host t requester slot (irq (choiceOf choice)) r ⌝ }
+    ensures { λ r. ⌜ ServesRange host t requester slot (hostWant (choiceOf choice)) r ⌝ }
 {
     let request = Request {
         requester,
         slot,
-        want: Want::HostIrq { choice },
+        want: Want::Host { choice },
     };
     let good = request::good_request(request);
     let need = Need {
@@ -218,20 +218,20 @@ pub fn allocate_host_irq(t: RangeTables, requester: u32, slot: u32, choice: Choi
 
 // An input of a controller.
 pub fn allocate_wired(
-    t: WireTables,
+    t: InputTables,
     requester: u32,
     slot: u32,
     controller: u32,
     trigger: u32,
     sharing: u32,
     choice: Choice,
-) -> WireAnswer
-    ensures { λ r. ⌜ ServesWire t requester slot (wire controller trigger sharing (choiceOf choice)) r ⌝ }
+) -> InputAnswer
+    ensures { λ r. ⌜ ServesInput t requester slot (inputWant controller trigger sharing (choiceOf choice)) r ⌝ }
 {
     let request = Request {
         requester,
         slot,
-        want: Want::WiredIrq {
+        want: Want::Input {
             controller,
             trigger,
             sharing,
@@ -239,13 +239,13 @@ pub fn allocate_wired(
         },
     };
     let good = request::good_request(request);
-    let ask = Wire {
+    let ask = InputNeed {
         controller,
         trigger,
         sharing,
         requester,
     };
-    wire_answer(t, good, ask, choice)
+    input_answer(t, good, ask, choice)
 }
 
 #[repr(C)]
@@ -340,7 +340,7 @@ pub fn allocate_msi(
     event: EventChoice,
     lpi: LpiChoice,
 ) -> MsiAnswer
-    ensures { λ r. ⌜ ServesMsi t requester slot (R.msi controller its count (deviceChoice device) (eventChoice event) (lpiChoice lpi)) r ⌝ }
+    ensures { λ r. ⌜ ServesMsi t requester slot (R.msiWant controller its count (deviceChoice device) (eventChoice event) (lpiChoice lpi)) r ⌝ }
 {
     let request = Request {
         requester,

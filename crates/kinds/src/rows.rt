@@ -1,28 +1,28 @@
 // What a request is granted, with its rows recorded, over tables by value: looked at and judged as in place, then pushed. Tables are taken to be sound here.
 use choose::Choice;
 use choose::Chosen;
-use choose::wired::Wire;
+use choose::wired::InputNeed;
 use decide::ask;
 use decide::grant;
 use decide::value;
 use lent_table::look::Ask;
-use lent_table::look::WireAsk;
+use lent_table::look::InputAsk;
 use msi::Msi;
 use msi::MsiChosen;
 use search::Need;
+use tables::InputRow;
+use tables::Inputs;
 use tables::Pool;
 use tables::RangeRow;
 use tables::Ranges;
-use tables::WireRow;
-use tables::Wires;
 ghost use mathlib.Core.Path.{_≡_};
 ghost use mathlib.Core.List.{[], _∷_};
 ghost use Prim.Native.Nat.{_≤_, _<_};
 ghost use Rattle.definition.specs.Tables.{poolLimit, rowLimit};
 ghost use Rattle.definition.specs.Calls.{pushAll};
-ghost use Rattle.tables.specs.Views.{rangeOf, wireOf, rangesView, wiresView};
+ghost use Rattle.tables.specs.Views.{rangeOf, inputOf, rangesView, inputsView};
 ghost use Rattle.search.specs.Finds.{InOrder};
-ghost use Rattle.kinds.specs.Grants.{ReadyDevice, ReadyEvent, ReadyLpi, RangeGrants, WireGrants, MsiDecides, MsiGrants};
+ghost use Rattle.kinds.specs.Grants.{ReadyDevice, ReadyEvent, ReadyLpi, RangeGrants, InputGrants, MsiDecides, MsiGrants};
 
 // The owner table afterwards, and what was chosen.
 pub struct RangeGrant {
@@ -30,8 +30,8 @@ pub struct RangeGrant {
     pub chosen: Chosen,
 }
 
-pub struct WireGrant {
-    pub owners: Wires,
+pub struct InputGrant {
+    pub owners: Inputs,
     pub chosen: Chosen,
 }
 
@@ -50,11 +50,11 @@ pub fn record_range(t: Ranges, r: RangeRow) -> Ranges
     tables::push_range(t, r)
 }
 
-pub fn record_wire(t: Wires, r: WireRow) -> Wires
+pub fn record_input(t: Inputs, r: InputRow) -> Inputs
     requires { ⌜ t .n < rowLimit ⌝ }
-    ensures { λ s. ⌜ wiresView s ≡ pushAll (wiresView t) (wireOf r ∷ []) ⌝ }
+    ensures { λ s. ⌜ inputsView s ≡ pushAll (inputsView t) (inputOf r ∷ []) ⌝ }
 {
-    tables::push_wire(t, r)
+    tables::push_input(t, r)
 }
 
 // A range of the need's kind, at the end of its owner table.
@@ -92,32 +92,38 @@ pub fn grant_range(
 }
 
 // An input, at the end of the owner table of inputs.
-pub fn grant_wire(owners: Wires, auto: Pool, fixed: Pool, wire: Wire, choice: Choice) -> WireGrant
+pub fn grant_input(
+    owners: Inputs,
+    auto: Pool,
+    fixed: Pool,
+    need: InputNeed,
+    choice: Choice,
+) -> InputGrant
     requires { ⌜ (InOrder auto) × (fixed .n ≤ poolLimit) × (owners .n ≤ rowLimit) ⌝ }
-    ensures { λ r. ⌜ WireGrants auto fixed owners wire choice r ⌝ }
+    ensures { λ r. ⌜ InputGrants auto fixed owners need choice r ⌝ }
 {
-    let ask = WireAsk {
+    let ask = InputAsk {
         go: true,
-        wire,
+        need,
         choice,
     };
-    let seen = value::see_wire(auto, fixed, owners, ask);
+    let seen = value::see_input(auto, fixed, owners, ask);
     let got = grant::standing(seen);
     match got {
-        Chosen::Refused(y) => WireGrant {
+        Chosen::Refused(y) => InputGrant {
             owners,
             chosen: Chosen::Refused(y),
         },
         Chosen::Stands(b, e) => {
-            let row = WireRow {
-                controller: wire.controller,
+            let row = InputRow {
+                controller: need.controller,
                 input: b,
-                trigger: wire.trigger,
-                sharing: wire.sharing,
-                owner: wire.requester,
+                trigger: need.trigger,
+                sharing: need.sharing,
+                owner: need.requester,
             };
-            let next = record_wire(owners, row);
-            WireGrant {
+            let next = record_input(owners, row);
+            InputGrant {
                 owners: next,
                 chosen: Chosen::Stands(b, e),
             }

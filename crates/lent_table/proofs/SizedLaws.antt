@@ -5,11 +5,11 @@ use Prim.Native.Nat.{ℕ}
 use lib.ListN.{length, length-map}
 use mir.Val.{Val}
 use denote.Laws.{Is}
-use Rattle.tables.specs.Sized.{SizedRanges, SizedWires}
+use Rattle.tables.specs.Sized.{SizedRanges, SizedInputs}
 use Rattle.tables.specs.declared.Ranges.{Ranges}
-use Rattle.tables.specs.declared.Wires.{Wires}
+use Rattle.tables.specs.declared.Inputs.{Inputs}
 use Rattle.tables.proofs.Ranges as R
-use Rattle.tables.proofs.Wires as W
+use Rattle.tables.proofs.Inputs as W
 
 -- a column stands in memory as its numbers, each as it is
 column : (xs : List ℕ) (n : ℕ) → length (map (λ (v : ℕ). v) xs) ≡ n → length xs ≡ n
@@ -27,8 +27,8 @@ ranges-full t vs is =
       owner = column (t .owner) _ (f .1 .1 .1 .1 .1 .1 .0 .1 .0 .1);
     }
 
-pub wires-full : (t : Wires) (vs : List Val) → Is W.the-row t vs → SizedWires t
-wires-full t vs is =
+pub inputs-full : (t : Inputs) (vs : List Val) → Is W.the-row t vs → SizedInputs t
+inputs-full t vs is =
     let f = is .1 .1 in
     record {
       controller = column (t .controller) _ (f .1 .0 .1 .0 .1);

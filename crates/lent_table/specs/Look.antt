@@ -3,19 +3,19 @@ use mathlib.Core.Path.{_≡_}
 use mathlib.Core.Bool.{true, false}
 use Prim.Native.Nat.{ℕ, _≤_, _<_}
 use Rattle.definition.specs.Tables.{poolLimit, rowLimit, used}
-use Rattle.tables.specs.Views.{poolView, rangesView, wiresView}
-use Rattle.tables.specs.Sized.{SizedRanges, SizedWires}
+use Rattle.tables.specs.Views.{poolView, rangesView, inputsView}
+use Rattle.tables.specs.Sized.{SizedRanges, SizedInputs}
 use Rattle.tables.specs.declared.Pool.{Pool}
 use Rattle.tables.specs.declared.Ranges.{Ranges}
-use Rattle.tables.specs.declared.Wires.{Wires}
+use Rattle.tables.specs.declared.Inputs.{Inputs}
 use Rattle.search.specs.Finds.{InOrder}
 use Rattle.search.specs.Asks.{needOf}
 use Rattle.choose.specs.Told.{choiceOf, told, placeIn}
-use Rattle.choose.specs.Wired.{wireAsked}
+use Rattle.choose.specs.Wired.{inputAsked}
 use Rattle.choose.specs.declared.Refusal.the-variants.{Full}
 use Rattle.choose.specs.declared.Chosen.the-variants.{Refused}
 use Rattle.lent_table.specs.declared.look.Ask.{Ask}
-use Rattle.lent_table.specs.declared.look.WireAsk.{WireAsk}
+use Rattle.lent_table.specs.declared.look.InputAsk.{InputAsk}
 use Rattle.lent_table.specs.declared.look.Seen.{Seen}
 
 -- a table that was asked nothing: its count alone
@@ -42,16 +42,16 @@ pub record Sees (a f : Pool) (t : Ranges) (k : Ask) (r : Seen) : Type 0 where
   pub idle : k .go ≡ false → r ≡ unasked (t .n)
   pub chosen : k .go ≡ true → told (needOf (k .need)) (r .chosen) ≡ placeIn (used (poolView a)) (used (poolView f)) (used (rangesView t)) (needOf (k .need)) (choiceOf (k .choice))
 
-abbrev pub WireAsks : Pool → Pool → Wires → WireAsk → Type 0
-WireAsks a f t k = k .go ≡ true → Fit a f (t .n)
+abbrev pub InputAsks : Pool → Pool → Inputs → InputAsk → Type 0
+InputAsks a f t k = k .go ≡ true → Fit a f (t .n)
 
-pub record TellsWire (a f : Pool) (t : Wires) (k : WireAsk) (r : Seen) : Type 0 where
+pub record TellsInput (a f : Pool) (t : Inputs) (k : InputAsk) (r : Seen) : Type 0 where
   pub at : r .at ≡ t .n
   pub idle : k .go ≡ false → r ≡ unasked (t .n)
-  pub chosen : k .go ≡ true → told (wireAsked (k .wire)) (r .chosen) ≡ placeIn (used (poolView a)) (used (poolView f)) (used (wiresView t)) (wireAsked (k .wire)) (choiceOf (k .choice))
+  pub chosen : k .go ≡ true → told (inputAsked (k .need)) (r .chosen) ≡ placeIn (used (poolView a)) (used (poolView f)) (used (inputsView t)) (inputAsked (k .need)) (choiceOf (k .choice))
 
-pub record SeesWire (a f : Pool) (t : Wires) (k : WireAsk) (r : Seen) : Type 0 where
-  pub sized : SizedWires t
+pub record SeesInput (a f : Pool) (t : Inputs) (k : InputAsk) (r : Seen) : Type 0 where
+  pub sized : SizedInputs t
   pub at : r .at ≡ t .n
   pub idle : k .go ≡ false → r ≡ unasked (t .n)
-  pub chosen : k .go ≡ true → told (wireAsked (k .wire)) (r .chosen) ≡ placeIn (used (poolView a)) (used (poolView f)) (used (wiresView t)) (wireAsked (k .wire)) (choiceOf (k .choice))
+  pub chosen : k .go ≡ true → told (inputAsked (k .need)) (r .chosen) ≡ placeIn (used (poolView a)) (used (poolView f)) (used (inputsView t)) (inputAsked (k .need)) (choiceOf (k .choice))

@@ -2,16 +2,16 @@
 use choose::Choice;
 use choose::Chosen;
 use choose::Refusal;
-use choose::wired::Wire;
+use choose::wired::InputNeed;
 use search::Need;
+use tables::Inputs;
 use tables::POOL_ROWS;
 use tables::Pool;
 use tables::ROWS;
 use tables::Ranges;
-use tables::Wires;
 ghost use mathlib.Core.Path.{_≡_};
-ghost use Rattle.tables.specs.Views.{pool, ranges, wires};
-ghost use Rattle.lent_table.specs.Look.{unasked, Asks, Tells, Sees, WireAsks, TellsWire, SeesWire};
+ghost use Rattle.tables.specs.Views.{pool, ranges, inputs};
+ghost use Rattle.lent_table.specs.Look.{unasked, Asks, Tells, Sees, InputAsks, TellsInput, SeesInput};
 
 // What a table of ranges is asked: nothing, or a range.
 pub struct Ask {
@@ -21,9 +21,9 @@ pub struct Ask {
 }
 
 // What the table of inputs is asked.
-pub struct WireAsk {
+pub struct InputAsk {
     pub go: bool,
-    pub wire: Wire,
+    pub need: InputNeed,
     pub choice: Choice,
 }
 
@@ -96,7 +96,7 @@ pub fn range_columns<'a>(
     unasked(n)
 }
 
-pub fn wire_columns<'a>(
+pub fn input_columns<'a>(
     pc: &'a [u32; POOL_ROWS],
     pi: &'a [u32; POOL_ROWS],
     ps: &'a [u64; POOL_ROWS],
@@ -113,14 +113,14 @@ pub fn wire_columns<'a>(
     os: &'a [u32; ROWS],
     ow: &'a [u32; ROWS],
     on: &'a usize,
-    ask: WireAsk,
+    ask: InputAsk,
 ) -> Seen
-    requires { ⌜ WireAsks (pool (now pn) (now pc) (now pi) (now ps) (now pe)) (pool (now nf) (now fc) (now fi) (now fs) (now fe)) (wires (now on) (now oc) (now ox) (now ot) (now os) (now ow)) ask ⌝ }
-    ensures { λ r. ⌜ TellsWire (pool (now (pn .entry)) (now (pc .entry)) (now (pi .entry)) (now (ps .entry)) (now (pe .entry))) (pool (now (nf .entry)) (now (fc .entry)) (now (fi .entry)) (now (fs .entry)) (now (fe .entry))) (wires (now (on .entry)) (now (oc .entry)) (now (ox .entry)) (now (ot .entry)) (now (os .entry)) (now (ow .entry))) ask r ⌝ }
+    requires { ⌜ InputAsks (pool (now pn) (now pc) (now pi) (now ps) (now pe)) (pool (now nf) (now fc) (now fi) (now fs) (now fe)) (inputs (now on) (now oc) (now ox) (now ot) (now os) (now ow)) ask ⌝ }
+    ensures { λ r. ⌜ TellsInput (pool (now (pn .entry)) (now (pc .entry)) (now (pi .entry)) (now (ps .entry)) (now (pe .entry))) (pool (now (nf .entry)) (now (fc .entry)) (now (fi .entry)) (now (fs .entry)) (now (fe .entry))) (inputs (now (on .entry)) (now (oc .entry)) (now (ox .entry)) (now (ot .entry)) (now (os .entry)) (now (ow .entry))) ask r ⌝ }
 {
     let n = *on;
     if ask.go {
-        let wire = ask.wire;
+        let need = ask.need;
         let choice = ask.choice;
         let chosen = choose::wired::place(
             pc,
@@ -139,7 +139,7 @@ pub fn wire_columns<'a>(
             os,
             ow,
             n,
-            wire,
+            need,
             choice,
         );
         return Seen { chosen, at: n };
@@ -175,11 +175,11 @@ pub fn range<'a>(auto: &'a Pool, fixed: &'a Pool, own: &'a Ranges, ask: Ask) -> 
 }
 
 // An input of the table of inputs.
-pub fn wire<'a>(auto: &'a Pool, fixed: &'a Pool, own: &'a Wires, ask: WireAsk) -> Seen
-    requires { ⌜ WireAsks (now auto) (now fixed) (now own) ask ⌝ }
-    ensures { λ r. ⌜ SeesWire (now (auto .entry)) (now (fixed .entry)) (now (own .entry)) ask r ⌝ }
+pub fn input<'a>(auto: &'a Pool, fixed: &'a Pool, own: &'a Inputs, ask: InputAsk) -> Seen
+    requires { ⌜ InputAsks (now auto) (now fixed) (now own) ask ⌝ }
+    ensures { λ r. ⌜ SeesInput (now (auto .entry)) (now (fixed .entry)) (now (own .entry)) ask r ⌝ }
 {
-    wire_columns(
+    input_columns(
         &auto.controller,
         &auto.its,
         &auto.start,

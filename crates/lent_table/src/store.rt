@@ -1,10 +1,10 @@
 // A row stored at the end of a lent table, in place.
+use tables::InputRow;
+use tables::Inputs;
 use tables::RangeRow;
 use tables::Ranges;
-use tables::WireRow;
-use tables::Wires;
 ghost use mathlib.Core.Path.{_≡_};
-ghost use Rattle.lent_table.specs.Store.{Free, putRange, putWire};
+ghost use Rattle.lent_table.specs.Store.{Free, putRange, putInput};
 
 // A row for a table of ranges, or none.
 pub struct Put {
@@ -13,9 +13,9 @@ pub struct Put {
 }
 
 // A row for the table of inputs, or none.
-pub struct WirePut {
+pub struct InputPut {
     pub go: bool,
-    pub row: WireRow,
+    pub row: InputRow,
 }
 
 pub fn range(t: &mut Ranges, put: Put)
@@ -34,9 +34,9 @@ pub fn range(t: &mut Ranges, put: Put)
     }
 }
 
-pub fn wire(t: &mut Wires, put: WirePut)
+pub fn input(t: &mut Inputs, put: InputPut)
     requires { ⌜ Free (now t .n) (put .go) ⌝ }
-    ensures { λ _. ⌜ now (t .exit) ≡ putWire (now (t .entry)) put ⌝ }
+    ensures { λ _. ⌜ now (t .exit) ≡ putInput (now (t .entry)) put ⌝ }
 {
     if put.go {
         let to = t.n;

@@ -7,7 +7,7 @@ use lib.ListN.{replicate}
 use Rattle.definition.specs.Tables.{recordSize, kinds}
 use Rattle.definition.specs.Base.{malformed, tell, Answer, accepted, refused, require, _then_}
 use Rattle.definition.specs.Pools.{Claim}
-use Rattle.definition.specs.Request.{Want, memory, ports, wire, irq, msi, Request, resolve}
+use Rattle.definition.specs.Request.{Want, mmioWant, pioWant, inputWant, hostWant, msiWant, Request, resolve}
 use Rattle.definition.specs.Calls.{State, poolsOf, ownersOf, sound, saying, granting, want, settle, serve}
 use Rattle.definition.specs.Plan.{grant, record-of, recordOf, written, Lent, lent, allocateInto}
 
@@ -29,11 +29,11 @@ want-serves r s = go (sound kinds s) (resolve (poolsOf s) (ownersOf s) r)
     go true (refused x) = refl
 
 record-whole : (q s : ℕ) (w : Want) (cs : List Claim) → written (record-of q s w cs) blank ≡ record-of q s w cs
-record-whole q s (memory n a c) cs = refl
-record-whole q s (ports n a c) cs = refl
-record-whole q s (wire k t h c) cs = refl
-record-whole q s (irq c) cs = refl
-record-whole q s (msi k i n d e l) cs = refl
+record-whole q s (mmioWant n a c) cs = refl
+record-whole q s (pioWant n a c) cs = refl
+record-whole q s (inputWant k t h c) cs = refl
+record-whole q s (hostWant c) cs = refl
+record-whole q s (msiWant k i n d e l) cs = refl
 
 -- an accepted want leaves its record, and nothing else
 pub want-record : (r : Request) (s : State) (cs : List Claim) → sound kinds s ≡ true → resolve (poolsOf s) (ownersOf s) r ≡ accepted cs

@@ -7,7 +7,7 @@ use lib.Dec.{eqb, leb}
 use lib.ListN.{length, getD}
 use Rattle.definition.specs.Tables.{top}
 use Rattle.definition.specs.Pools.{mmioPool, pioPool, hostPool, inputPool, msiPool, mmioHold, pioHold, hostHold, inputHold, deviceHold, eventHold, lpiHold}
-use Rattle.definition.specs.Request.{auto, at, Want, memory, ports, wire, irq, msi, Use, automatic, fixed}
+use Rattle.definition.specs.Request.{auto, at, Want, mmioWant, pioWant, inputWant, hostWant, msiWant, Use, automatic, fixed}
 use Rattle.definition.specs.Calls.{Call, pool, hold, want}
 use Rattle.lines.specs.Base.{lineLimit, bytes, tab, newline, same, split, when, pick, _andThen_, _orElse_}
 use Rattle.lines.specs.Numbers.{number}
@@ -53,8 +53,8 @@ form w ms k fs = when (same k w) (numbers ms fs)
 
 -- what is made of the numbers, which are counted from 0
 unfoldable pub _gives_ : {A : Type 0} → Option (List ℕ) → ((ℕ → ℕ) → A) → Option A
-_gives_ none f = none
-_gives_ (some ns) f = some (f (λ i. getD ns i 0))
+_gives_ none make = none
+_gives_ (some ns) make = some (make (λ i. getD ns i 0))
 
 infixl 30 _gives_
 -- ---- the forms, from the kind's word k on, with the fields fs behind it. A form with a controller (`..Of`) is tried after those
@@ -103,32 +103,32 @@ module _ (k : List ℕ) (fs : List (List ℕ)) where
   -- and last `auto` or a number (three for msi)
   module _ (q s : ℕ) where
     abbrev pub asked : Want → Call
-    asked w = want (record { requester = q; slot = s; want = w })
+    asked wanted = want (record { requester = q; slot = s; want = wanted })
 
     unfoldable pub wantAtOf : Option Call
     wantAtOf =
-        like "input" (n32 ∷ n32 ∷ n32 ∷ n64 ∷ []) gives (λ n. asked (wire (n 0) (n 1) (n 2) (at (n 3))))
-        orElse like "msi" (n32 ∷ n32 ∷ n32 ∷ n32 ∷ n32 ∷ n32 ∷ []) gives (λ n. asked (msi (n 0) (n 1) (n 2) (at (n 3)) (at (n 4)) (at (n 5))))
+        like "input" (n32 ∷ n32 ∷ n32 ∷ n64 ∷ []) gives (λ n. asked (inputWant (n 0) (n 1) (n 2) (at (n 3))))
+        orElse like "msi" (n32 ∷ n32 ∷ n32 ∷ n32 ∷ n32 ∷ n32 ∷ []) gives (λ n. asked (msiWant (n 0) (n 1) (n 2) (at (n 3)) (at (n 4)) (at (n 5))))
         orElse none
 
     unfoldable pub wantAt : Option Call
     wantAt =
-        like "mmio" (n64 ∷ n64 ∷ n64 ∷ []) gives (λ n. asked (memory (n 0) (n 1) (at (n 2))))
-        orElse like "pio" (n16 ∷ n16 ∷ n16 ∷ []) gives (λ n. asked (ports (n 0) (n 1) (at (n 2))))
-        orElse like "host" (n64 ∷ []) gives (λ n. asked (irq (at (n 0))))
+        like "mmio" (n64 ∷ n64 ∷ n64 ∷ []) gives (λ n. asked (mmioWant (n 0) (n 1) (at (n 2))))
+        orElse like "pio" (n16 ∷ n16 ∷ n16 ∷ []) gives (λ n. asked (pioWant (n 0) (n 1) (at (n 2))))
+        orElse like "host" (n64 ∷ []) gives (λ n. asked (hostWant (at (n 0))))
         orElse wantAtOf
 
     unfoldable pub wantOf : Option Call
     wantOf =
-        like "input" (n32 ∷ n32 ∷ n32 ∷ theAuto ∷ []) gives (λ n. asked (wire (n 0) (n 1) (n 2) auto))
-        orElse like "msi" (n32 ∷ n32 ∷ n32 ∷ theAuto ∷ []) gives (λ n. asked (msi (n 0) (n 1) (n 2) auto auto auto))
+        like "input" (n32 ∷ n32 ∷ n32 ∷ theAuto ∷ []) gives (λ n. asked (inputWant (n 0) (n 1) (n 2) auto))
+        orElse like "msi" (n32 ∷ n32 ∷ n32 ∷ theAuto ∷ []) gives (λ n. asked (msiWant (n 0) (n 1) (n 2) auto auto auto))
         orElse wantAt
 
     unfoldable pub wantLine : Option Call
     wantLine =
-        like "mmio" (n64 ∷ n64 ∷ theAuto ∷ []) gives (λ n. asked (memory (n 0) (n 1) auto))
-        orElse like "pio" (n16 ∷ n16 ∷ theAuto ∷ []) gives (λ n. asked (ports (n 0) (n 1) auto))
-        orElse like "host" (theAuto ∷ []) gives (λ n. asked (irq auto))
+        like "mmio" (n64 ∷ n64 ∷ theAuto ∷ []) gives (λ n. asked (mmioWant (n 0) (n 1) auto))
+        orElse like "pio" (n16 ∷ n16 ∷ theAuto ∷ []) gives (λ n. asked (pioWant (n 0) (n 1) auto))
+        orElse like "host" (theAuto ∷ []) gives (λ n. asked (hostWant auto))
         orElse wantOf
 
 -- ---- a whole line

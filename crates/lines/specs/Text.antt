@@ -48,7 +48,7 @@ refuse t x = sofar (suc (t .lines)) (t .state) (t .wants) (t .records) (tell 0 x
 
 -- no `pool` or `hold` after a `want`
 unfoldable pub setUp : Sofar → Call → Sofar
-setUp t c = elim (eqb (t .wants) 0) [ true ↦ next t (serve kinds c (t .state)) | false ↦ refuse t badLine ]
+setUp t call = elim (eqb (t .wants) 0) [ true ↦ next t (serve kinds call (t .state)) | false ↦ refuse t badLine ]
 
 -- the owner tables are started at the first `want`
 unfoldable pub opened : Sofar → State
@@ -60,10 +60,10 @@ naming i s = saying (says i (s .said .number) (s .said .namespace) (s .said .own
 
 -- an accepted `want` leaves its record
 unfoldable pub answered : Sofar → Lent → Sofar
-answered t r =
-    elim (accepts (r .state .said)) [
-      | true ↦ sofar (suc (t .lines)) (r .state) (suc (t .wants)) (t .records ++ r .results) (r .state .said)
-      | false ↦ next t (naming (t .wants) (r .state))
+answered t v =
+    elim (accepts (v .state .said)) [
+      | true ↦ sofar (suc (t .lines)) (v .state) (suc (t .wants)) (t .records ++ v .results) (v .state .said)
+      | false ↦ next t (naming (t .wants) (v .state))
     ]
 
 -- one `want` more than a plan has is 11
@@ -77,7 +77,7 @@ ask t r =
 -- 10 before any other number
 abbrev pub take-line : Sofar → Option Call → Sofar
 take-line t none = refuse t badLine
-take-line t (some (pool u p)) = setUp t (pool u p)
+take-line t (some (pool u ranges)) = setUp t (pool u ranges)
 take-line t (some (hold o h)) = setUp t (hold o h)
 take-line t (some start) = refuse t badLine  -- which no line says
 take-line t (some (want r)) = ask t r
@@ -94,16 +94,16 @@ pub record Fed (S : Type 0) : Type 0 where
   pub open-line : List ℕ
 
 abbrev pub fed : {S : Type 0} → S → List ℕ → Fed S
-fed s l = record { after = s; open-line = l }
+fed s p = record { after = s; open-line = p }
 
 -- every part but the last is a line
 unfoldable pub feedParts : {S : Type 0} → (S → List ℕ → S) → S → List (List ℕ) → Fed S
-feedParts f s [] = fed s []
-feedParts f s (p ∷ []) = fed s p
-feedParts f s (p ∷ q ∷ ps) = feedParts f (f s p) (q ∷ ps)
+feedParts each s [] = fed s []
+feedParts each s (p ∷ []) = fed s p
+feedParts each s (p ∷ p′ ∷ ps) = feedParts each (each s p) (p′ ∷ ps)
 
 unfoldable pub feed : {S : Type 0} → (S → List ℕ → S) → S → List ℕ → Fed S
-feed f s text = feedParts f s (split newline text)
+feed each s text = feedParts each s (split newline text)
 
 -- ---- the whole text
 

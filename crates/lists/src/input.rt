@@ -161,7 +161,7 @@ pub fn want(turn: u32) -> Want {
         };
     }
     if kind == 2 {
-        return Want::WiredIrq {
+        return Want::Input {
             controller: 1,
             trigger: 1,
             sharing: 0,
@@ -169,7 +169,7 @@ pub fn want(turn: u32) -> Want {
         };
     }
     if kind == 3 {
-        return Want::HostIrq {
+        return Want::Host {
             choice: chosen(turn, 4096 + t),
         };
     }

@@ -28,7 +28,7 @@ pub stays : (b : ℕ) → b < 2 ^ 32 → narrowed b ≡ b
 stays b l = ap (λ u. ifFits u b) (lt-ltb b (2 ^ 32) l)
 
 -- what stands on sound tables is the need's own row, from a number of 32 bits on
-stood : (p : Part) (n : R.Need) (c : R.Choice) (b e : ℕ) → T (allOf (goodSpan (n .kind)) (p .auto)) → 0 < n .align → nature (n .kind) .top < 2 ^ 32
+stood : (p : Part) (n : R.Need) (c : R.Choice) (b e : ℕ) → T (allOf (goodSpan (n .kind)) (p .auto)) → 0 < n .alignment → nature (n .kind) .top < 2 ^ 32
     → told n (Stands b e) ≡ placePart p n c → accepted (rowAt n (narrowed b)) ≡ placePart p n c
 stood p n c b e goods pos low h =
     let g = granted (p .auto) (p .fixed) (p .rows) n goods c _ pos h in

@@ -8,7 +8,7 @@ use Rattle.definition.specs.Request.{Need, need, Pools, automatic, fixed, place
 use Rattle.definition.specs.Request as R
 use Rattle.search.specs.Asks.{needOf}
 use Rattle.choose.specs.Ids.{deviceChoice, eventChoice, lpiChoice}
-use Rattle.msi.specs.Msi.{Part, deviceNeed, lpiNeed, msiIn, msiPools, msiHolders, msiWant}
+use Rattle.msi.specs.Msi.{Part, deviceNeed, lpiNeed, msiIn, msiPools, msiHolders, askedMsi}
 use Rattle.msi.specs.declared.Msi.{Msi}
 use Rattle.msi.proofs.ChainLaws.{place-in}
 
@@ -34,7 +34,7 @@ module _ (m : Msi) where
   flat P S = place P S (needOf (deviceNeed m)) (deviceChoice (m .device)) then second P S
 
   -- the room test under the three choices
-  flatten : (P : Pools) (S : Holders) → (claims P S (m .requester) (msiWant m) then λ cs. require (room S cs) full (accepted cs)) ≡ flat P S
+  flatten : (P : Pools) (S : Holders) → (claims P S (m .requester) (askedMsi m) then λ cs. require (room S cs) full (accepted cs)) ≡ flat P S
   unfolding claims flat
   flatten P S = device (place P S (needOf (deviceNeed m)) (deviceChoice (m .device)))
     where
@@ -54,7 +54,7 @@ module _ (m : Msi) where
       device (refused y) = refl
 
   -- the lists of the three kinds are all that is read
-  pub msi-is : (P : Pools) (S : Holders) → (claims P S (m .requester) (msiWant m) then λ cs. require (room S cs) full (accepted cs)) ≡ msiIn (partOf P S device) (partOf P S event) (partOf P S lpi) m
+  pub msi-is : (P : Pools) (S : Holders) → (claims P S (m .requester) (askedMsi m) then λ cs. require (room S cs) full (accepted cs)) ≡ msiIn (partOf P S device) (partOf P S event) (partOf P S lpi) m
   unfolding flat room allOf
   msi-is P S =
       flatten P S

@@ -12,7 +12,7 @@ use Rattle.definition.specs.RequestLaws.{then-accepted, require-accepted}
 use Rattle.tables.specs.declared.DeviceId.{DeviceId}
 use Rattle.tables.specs.declared.EventId.{EventId}
 use Rattle.tables.specs.declared.Lpi.{Lpi}
-use Rattle.msi.specs.Msi.{Part, msiRows, msiPools, msiHolders, msiWant, msiIn}
+use Rattle.msi.specs.Msi.{Part, msiRows, msiPools, msiHolders, askedMsi, msiIn}
 use Rattle.msi.specs.declared.Msi.{Msi}
 
 pub record ThreeFree (d e l : Part) : Type 0 where
@@ -23,7 +23,7 @@ pub record ThreeFree (d e l : Part) : Type 0 where
 pub msi-room : (d e l : Part) (m : Msi) (x : DeviceId) (y : EventId) (z : Lpi) → accepted (msiRows m x y z) ≡ msiIn d e l m → ThreeFree d e l
 unfolding room allOf
 msi-room d e l m x y z h =
-    let (cs, p, q) = then-accepted (claims (msiPools d e l) (msiHolders d e l) (m .requester) (msiWant m)) (λ cs. require (room (msiHolders d e l) cs) full (accepted cs)) (sym h) in
+    let (cs, p, q) = then-accepted (claims (msiPools d e l) (msiHolders d e l) (m .requester) (askedMsi m)) (λ cs. require (room (msiHolders d e l) cs) full (accepted cs)) (sym h) in
     let (t, k) = require-accepted (room (msiHolders d e l) cs) full (accepted cs) q in
     let c : cs ≡ msiRows m x y z = cc in
     let u : T (room (msiHolders d e l) (msiRows m x y z)) = rw c at t in

@@ -43,7 +43,7 @@ module _ (ps fs : List Span) (rs : List Row) (n : Need) (goods : T (allOf (goodS
       let l : T (leb (b + n .size) (nature (n .kind) .top)) = search (and-l, and-r) in
       made b r (cc) (leb→le (b + n .size) (nature (n .kind) .top) l)
 
-  pub granted : (c : R.Choice) (r : Row) → 0 < n .align → accepted r ≡ placeIn ps fs rs n c → Granted n r
+  pub granted : (c : R.Choice) (r : Row) → 0 < n .alignment → accepted r ≡ placeIn ps fs rs n c → Granted n r
   unfolding place
   granted auto r pos e = by-auto r (lowest-says ps rs n pos) (sym e)
   granted (at b) r pos e = let (t, e′) = require-accepted (allowed fs n b) _ _ (sym e) in by-fixed b r (obstacle (rowAt n b) rs) t e′

@@ -141,11 +141,11 @@ msiHolders d e l device = d .rows
 msiHolders d e l event = e .rows
 msiHolders d e l lpi = l .rows
 
-abbrev pub msiWant : Msi → R.Want
-msiWant m = R.msi (m .controller) (m .its) (m .count) (deviceChoice (m .device)) (eventChoice (m .event)) (lpiChoice (m .lpi))
+abbrev pub askedMsi : Msi → R.Want
+askedMsi m = R.msiWant (m .controller) (m .its) (m .count) (deviceChoice (m .device)) (eventChoice (m .event)) (lpiChoice (m .lpi))
 
 -- the definition's `claims` and its room test, which read the lists of the three kinds and no others: law `msi-is`
 abbrev pub msiIn : Part → Part → Part → Msi → Answer (List Claim)
 msiIn d e l m =
-    claims (msiPools d e l) (msiHolders d e l) (m .requester) (msiWant m)
+    claims (msiPools d e l) (msiHolders d e l) (m .requester) (askedMsi m)
     then λ cs. require (room (msiHolders d e l) cs) full (accepted cs)

@@ -12,13 +12,13 @@ use Rattle.definition.specs.BaseLaws.{and-l, and-r, true-T, T-true}
 use Rattle.definition.specs.Tables.{poolLimit, rowLimit, Kind, nature, input, Span, Row, blankSpan, blankRow}
 use Rattle.definition.specs.Calls.{State as Given}
 use Rattle.definition.specs.Plan.{written}
-use Rattle.tables.specs.Views.{spanOf, rangeOf, wireOf, poolAt, rangeAt, wireAt, poolView, rangesView, wiresView}
+use Rattle.tables.specs.Views.{spanOf, rangeOf, inputOf, poolAt, rangeAt, inputAt, poolView, rangesView, inputsView}
 use Rattle.tables.specs.declared.Pool.{Pool}
 use Rattle.tables.specs.declared.Ranges.{Ranges}
-use Rattle.tables.specs.declared.Wires.{Wires}
+use Rattle.tables.specs.declared.Inputs.{Inputs}
 use Rattle.tables.specs.declared.PoolRow.{PoolRow}
 use Rattle.tables.specs.declared.RangeRow.{RangeRow}
-use Rattle.tables.specs.declared.WireRow.{WireRow}
+use Rattle.tables.specs.declared.InputRow.{InputRow}
 use Rattle.tables.proofs.ListedLaws.{listed-at}
 use Rattle.numbers.specs.Rows.{spanNumbers, rowNumbers, poolRow, holderRow, inputRow, told, answerSize, answerNumbers, answerTold}
 use Rattle.numbers.specs.Back.{asked, pick}
@@ -34,8 +34,8 @@ range-row-is t i l r e k w =
     ap (λ (r : Row). t .n ∷ rowNumbers false r) (ap rangeOf e ∙ sym (listed-at (λ j. rangeOf (rangeAt t j)) rowLimit i (blankRow k) l))
     ∙ ap (λ (w : Bool). t .n ∷ rowNumbers w (getD (rangesView t .rows) i (blankRow k))) (sym w)
 
-pub wire-row-is : (t : Wires) (i : ℕ) → i < rowLimit → (r : WireRow) → r ≡ wireAt t i → t .n ∷ rowNumbers true (wireOf r) ≡ inputRow (wiresView t) i
-wire-row-is t i l r e = ap (λ (r : Row). t .n ∷ rowNumbers true r) (ap wireOf e ∙ sym (listed-at (λ j. wireOf (wireAt t j)) rowLimit i (blankRow input) l))
+pub input-row-is : (t : Inputs) (i : ℕ) → i < rowLimit → (r : InputRow) → r ≡ inputAt t i → t .n ∷ rowNumbers true (inputOf r) ≡ inputRow (inputsView t) i
+input-row-is t i l r e = ap (λ (r : Row). t .n ∷ rowNumbers true r) (ap inputOf e ∙ sym (listed-at (λ j. inputOf (inputAt t j)) rowLimit i (blankRow input) l))
 
 -- ---- whether a table has the row
 

@@ -22,7 +22,7 @@ abbrev pub below : ℕ → ℕ → Bool
 below bits n = leb n (top bits)
 
 unfoldable pub narrow : ℕ → List ℕ → Option Call → Option Call
-narrow bits xs c = elim (allOf (below bits) xs) [ true ↦ c | false ↦ bad ]
+narrow bits xs call = elim (allOf (below bits) xs) [ true ↦ call | false ↦ bad ]
 
 -- ---- one call from its numbers; kinds are counted from 1, and what stands at 0 is for all numbers that are no kind
 

@@ -1,16 +1,16 @@
 // Reading back a row as plain numbers: every table is asked for it through a reference, and the one that has it tells it as it is stored. Nothing is judged, and no table is copied.
 use allocation::Record;
 use allocation::line;
+use tables::Inputs;
 use tables::POOL_ROWS;
 use tables::Pool;
 use tables::ROWS;
 use tables::Ranges;
 use tables::State;
-use tables::Wires;
 ghost use mathlib.Core.Path.{_≡_};
 ghost use mathlib.Core.Option.{none};
 ghost use Rattle.definition.specs.Tables.{poolLimit, rowLimit};
-ghost use Rattle.tables.specs.Views.{pool, ranges, wires, poolView, rangesView, wiresView, stateView};
+ghost use Rattle.tables.specs.Views.{pool, ranges, inputs, poolView, rangesView, inputsView, stateView};
 ghost use Rattle.numbers.specs.Rows.{poolRow, inputRow};
 ghost use Rattle.numbers.specs.Back.{asked, pick, foundOf, PickedRange, rowIn};
 
@@ -121,7 +121,7 @@ fn range_columns<'a>(
     before
 }
 
-fn wire_columns<'a>(
+fn input_columns<'a>(
     controller: &'a [u32; ROWS],
     input: &'a [u64; ROWS],
     trigger: &'a [u32; ROWS],
@@ -133,10 +133,10 @@ fn wire_columns<'a>(
     kind: u64,
     before: Found,
 ) -> Found
-    ensures { λ r. ⌜ foundOf r ≡ pick (asked k part kind rowLimit) (inputRow (wiresView (wires (now (n .entry)) (now (controller .entry)) (now (input .entry)) (now (trigger .entry)) (now (sharing .entry)) (now (owner .entry)))) (k .row)) (foundOf before) ⌝ }
+    ensures { λ r. ⌜ foundOf r ≡ pick (asked k part kind rowLimit) (inputRow (inputsView (inputs (now (n .entry)) (now (controller .entry)) (now (input .entry)) (now (trigger .entry)) (now (sharing .entry)) (now (owner .entry)))) (k .row)) (foundOf before) ⌝ }
 {
     if has_row(k, part, kind, ROWS) {
-        let r = tables::wire_at(k.row as usize, controller, input, trigger, sharing, owner);
+        let r = tables::input_at(k.row as usize, controller, input, trigger, sharing, owner);
         let numbers = line(
             *n as u64,
             r.controller as u64,
@@ -191,10 +191,10 @@ fn range_row<'a>(t: &'a Ranges, k: Which, part: u64, kind: u64, before: Found) -
     )
 }
 
-fn wire_row<'a>(t: &'a Wires, k: Which, part: u64, kind: u64, before: Found) -> Found
-    ensures { λ r. ⌜ foundOf r ≡ pick (asked k part kind rowLimit) (inputRow (wiresView (now (t .entry))) (k .row)) (foundOf before) ⌝ }
+fn input_row<'a>(t: &'a Inputs, k: Which, part: u64, kind: u64, before: Found) -> Found
+    ensures { λ r. ⌜ foundOf r ≡ pick (asked k part kind rowLimit) (inputRow (inputsView (now (t .entry))) (k .row)) (foundOf before) ⌝ }
 {
-    wire_columns(
+    input_columns(
         &t.controller,
         &t.input,
         &t.trigger,
@@ -230,14 +230,14 @@ pub fn row<'a>(s: &'a State, k: Which) -> Found
     let x = pool_row(&s.fixed.lpi, k, 2, 7, x);
     let x = range_row(&s.held.mmio, k, 3, 1, x);
     let x = range_row(&s.held.pio, k, 3, 2, x);
-    let x = wire_row(&s.held.input, k, 3, 3, x);
+    let x = input_row(&s.held.input, k, 3, 3, x);
     let x = range_row(&s.held.host, k, 3, 4, x);
     let x = range_row(&s.held.device, k, 3, 5, x);
     let x = range_row(&s.held.event, k, 3, 6, x);
     let x = range_row(&s.held.lpi, k, 3, 7, x);
     let x = range_row(&s.owners.mmio, k, 4, 1, x);
     let x = range_row(&s.owners.pio, k, 4, 2, x);
-    let x = wire_row(&s.owners.input, k, 4, 3, x);
+    let x = input_row(&s.owners.input, k, 4, 3, x);
     let x = range_row(&s.owners.host, k, 4, 4, x);
     let x = range_row(&s.owners.device, k, 4, 5, x);
     let x = range_row(&s.owners.event, k, 4, 6, x);

@@ -3,7 +3,7 @@ use mathlib.Core.Path.{_≡_, refl, sym, _∙_, ap}
 use mathlib.Core.Option.{Option, none, some}
 use Rattle.definition.specs.Pools.{Pool, mmioPool, pioPool, hostPool, inputPool, msiPool, Hold, mmioHold, pioHold, hostHold, inputHold, deviceHold, eventHold, lpiHold, pairHold}
 use Rattle.definition.specs.Request as D
-use Rattle.definition.specs.Request.{auto, at, memory, ports, wire, irq, msi, automatic, fixed}
+use Rattle.definition.specs.Request.{auto, at, mmioWant, pioWant, inputWant, hostWant, msiWant, automatic, fixed}
 use Rattle.definition.specs.Calls as D′
 use Rattle.definition.specs.Calls.{pool, hold, start, want}
 use Rattle.choose.specs.declared.Choice.{Choice}
@@ -69,11 +69,11 @@ lpiFor auto = L.Auto
 lpiFor (at n) = L.Fixed (record { 0 = n })
 
 abbrev wantFor : D.Want → Want
-wantFor (memory s a c) = W.Mmio s a (choiceFor c)
-wantFor (ports s a c) = W.Pio s a (choiceFor c)
-wantFor (wire k t s c) = W.WiredIrq k t s (choiceFor c)
-wantFor (irq c) = W.HostIrq (choiceFor c)
-wantFor (msi k i n d e l) = W.Msi k i n (deviceFor d) (eventFor e) (lpiFor l)
+wantFor (mmioWant s a c) = W.Mmio s a (choiceFor c)
+wantFor (pioWant s a c) = W.Pio s a (choiceFor c)
+wantFor (inputWant k t s c) = W.Input k t s (choiceFor c)
+wantFor (hostWant c) = W.Host (choiceFor c)
+wantFor (msiWant k i n d e l) = W.Msi k i n (deviceFor d) (eventFor e) (lpiFor l)
 
 abbrev callFor : Option D′.Call → Call
 callFor none = C.Bad
@@ -103,8 +103,8 @@ lpi-back (L.Fixed l) = refl
 want-back : (w : Want) → wantFor (wantOf w) ≡ w
 want-back (W.Mmio s a c) = ap (W.Mmio s a) (choice-back c)
 want-back (W.Pio s a c) = ap (W.Pio s a) (choice-back c)
-want-back (W.WiredIrq k t s c) = ap (W.WiredIrq k t s) (choice-back c)
-want-back (W.HostIrq c) = ap W.HostIrq (choice-back c)
+want-back (W.Input k t s c) = ap (W.Input k t s) (choice-back c)
+want-back (W.Host c) = ap W.Host (choice-back c)
 want-back (W.Msi k i n d e l) = λ j. W.Msi k i n (device-back d j) (event-back e j) (lpi-back l j)
 
 use-back : (u : Use) → useFor (useOf u) ≡ u

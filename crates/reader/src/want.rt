@@ -68,7 +68,7 @@ pub fn read_want(requester: u32, slot: u32, kind: &[u8], rest: &[u8]) -> Call
         return asked(
             requester,
             slot,
-            Want::HostIrq {
+            Want::Host {
                 choice: Choice::Auto,
             },
         );
@@ -86,7 +86,7 @@ pub fn read_want_of(requester: u32, slot: u32, kind: &[u8], rest: &[u8]) -> Call
         return asked(
             requester,
             slot,
-            Want::WiredIrq {
+            Want::Input {
                 controller: n[0] as u32,
                 trigger: n[1] as u32,
                 sharing: n[2] as u32,
@@ -149,7 +149,7 @@ pub fn read_want_at(requester: u32, slot: u32, kind: &[u8], rest: &[u8]) -> Call
         return asked(
             requester,
             slot,
-            Want::HostIrq {
+            Want::Host {
                 choice: Choice::Fixed(n[0]),
             },
         );
@@ -167,7 +167,7 @@ pub fn read_want_at_of(requester: u32, slot: u32, kind: &[u8], rest: &[u8]) -> C
         return asked(
             requester,
             slot,
-            Want::WiredIrq {
+            Want::Input {
                 controller: n[0] as u32,
                 trigger: n[1] as u32,
                 sharing: n[2] as u32,

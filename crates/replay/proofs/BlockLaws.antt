@@ -9,7 +9,7 @@ use lib.Seq.{getD-take, getD-drop, take-at, drop-append-add}
 use Rattle.definition.specs.Tables.{recordSize, mmio, pio, input, host, device, event, lpi, dom, Row}
 use Rattle.definition.specs.Base.{Answer, accepted, refused, badInput, full, require, _then_}
 use Rattle.definition.specs.Pools.{Holders, Claim, _⊕_, room, at-kind}
-use Rattle.definition.specs.Request.{Choice, auto, at, Want, memory, ports, wire, irq, msi, Request, goodRequest, Need, need, wireNeed, one, rowAt, found, lowest, allowed, obstacle, unopposed, automatic, fixed, Pools, place, claims, resolve}
+use Rattle.definition.specs.Request.{Choice, auto, at, Want, mmioWant, pioWant, inputWant, hostWant, msiWant, Request, goodRequest, Need, need, inputNeed, one, rowAt, found, lowest, allowed, obstacle, unopposed, automatic, fixed, Pools, place, claims, resolve}
 use Rattle.definition.specs.Plan.{Grant, grant, done, run, allRows, record-of, recordOf, records}
 use Rattle.definition.specs.RequestLaws.{not-accepted, then-accepted, require-accepted}
 use Rattle.definition.specs.RunLaws.{run-accepted, run-refused, not-done, after-done, record-length}
@@ -135,27 +135,27 @@ one-row P S n c cs e =
 
 msi-told : (q s k i n : ℕ) (d e l : Choice) (rd re rl : Row) (cs : List Claim) → (b : ℕ) × (rd ≡ rowAt (need device (dom k i 0) 1 1 q) b)
     → (b : ℕ) × (re ≡ rowAt (need event (dom k i (rd .start)) n 1 q) b) → (b : ℕ) × (rl ≡ rowAt (need lpi (dom k 0 0) n 1 q) b)
-    → cs ≡ at-kind device rd ∷ at-kind event re ∷ at-kind lpi rl ∷ [] → rowsTold (record-of q s (msi k i n d e l) cs) ≡ cs
+    → cs ≡ at-kind device rd ∷ at-kind event re ∷ at-kind lpi rl ∷ [] → rowsTold (record-of q s (msiWant k i n d e l) cs) ≡ cs
 unfolding rowsIn rowAt
 msi-told q s k i n d e l rd re rl cs (x, u) (y, v) (z, w) e₀ =
     let a : at-kind device (rowAt (need device (dom k i 0) 1 1 q) (rd .start)) ≡ at-kind device rd = ap (at-kind device) (own (need device (dom k i 0) 1 1 q) rd x u) in
     let b : at-kind event (rowAt (need event (dom k i (rd .start)) n 1 q) (re .start)) ≡ at-kind event re = ap (at-kind event) (own (need event (dom k i (rd .start)) n 1 q) re y v) in
     let c : at-kind lpi (rowAt (need lpi (dom k 0 0) n 1 q) (rl .start)) ≡ at-kind lpi rl = ap (at-kind lpi) (own (need lpi (dom k 0 0) n 1 q) rl z w) in
-    subst (λ (xs : List Claim). rowsTold (record-of q s (msi k i n d e l) xs) ≡ xs) (sym e₀) (λ t. a t ∷ b t ∷ c t ∷ [])
+    subst (λ (xs : List Claim). rowsTold (record-of q s (msiWant k i n d e l) xs) ≡ xs) (sym e₀) (λ t. a t ∷ b t ∷ c t ∷ [])
   where
     own : (m : Need) (r : Row) (p : ℕ) → r ≡ rowAt m p → rowAt m (r .start) ≡ r
     own m r p h = ap (λ (x : Row). rowAt m (x .start)) h ∙ sym h
 
 claims-told : (P : Pools) (S : Holders) (q s : ℕ) (w : Want) (cs : List Claim) → claims P S q w ≡ accepted cs → rowsTold (record-of q s w cs) ≡ cs
 unfolding claims rowsIn rowAt
-claims-told P S q s (memory n a c) cs e = let (b, z) = one-row P S (need mmio (dom 0 0 0) n a q) c cs e in subst (λ (v : List Claim). rowsTold (record-of q s (memory n a c) v) ≡ v) (sym z) refl
-claims-told P S q s (ports n a c) cs e = let (b, z) = one-row P S (need pio (dom 0 0 0) n a q) c cs e in subst (λ (v : List Claim). rowsTold (record-of q s (ports n a c) v) ≡ v) (sym z) refl
-claims-told P S q s (wire k t h c) cs e =
-    let (b, z) = one-row P S (wireNeed k t h q) c cs e in
+claims-told P S q s (mmioWant n a c) cs e = let (b, z) = one-row P S (need mmio (dom 0 0 0) n a q) c cs e in subst (λ (v : List Claim). rowsTold (record-of q s (mmioWant n a c) v) ≡ v) (sym z) refl
+claims-told P S q s (pioWant n a c) cs e = let (b, z) = one-row P S (need pio (dom 0 0 0) n a q) c cs e in subst (λ (v : List Claim). rowsTold (record-of q s (pioWant n a c) v) ≡ v) (sym z) refl
+claims-told P S q s (inputWant k t h c) cs e =
+    let (b, z) = one-row P S (inputNeed k t h q) c cs e in
     let u : suc b ≡ b + 1 = omega arith in
-    subst (λ (v : List Claim). rowsTold (record-of q s (wire k t h c) v) ≡ v) (sym z) (ap (λ (x : ℕ). at-kind input (record { dom = dom k 0 0; start = b; end = x; trigger = t; sharing = h; owner = q }) ∷ []) u)
-claims-told P S q s (irq c) cs e = let (b, z) = one-row P S (need host (dom 0 0 0) 1 1 q) c cs e in subst (λ (v : List Claim). rowsTold (record-of q s (irq c) v) ≡ v) (sym z) refl
-claims-told P S q s (msi k i n d e′ l) cs e =
+    subst (λ (v : List Claim). rowsTold (record-of q s (inputWant k t h c) v) ≡ v) (sym z) (ap (λ (x : ℕ). at-kind input (record { dom = dom k 0 0; start = b; end = x; trigger = t; sharing = h; owner = q }) ∷ []) u)
+claims-told P S q s (hostWant c) cs e = let (b, z) = one-row P S (need host (dom 0 0 0) 1 1 q) c cs e in subst (λ (v : List Claim). rowsTold (record-of q s (hostWant c) v) ≡ v) (sym z) refl
+claims-told P S q s (msiWant k i n d e′ l) cs e =
     let nd : Need = need device (dom k i 0) 1 1 q in
     let nl : Need = need lpi (dom k 0 0) n 1 q in
     let (rd, e₁, f₁) = then-accepted (place P S nd d) _ e in

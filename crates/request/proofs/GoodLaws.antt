@@ -6,19 +6,19 @@ use native.Mathlib.Omega.{arith}
 use lib.Dec.{T, leb, ltb, ltb→lt}
 use borrow.Author.Tests.{leb-true}
 use Rattle.definition.specs.BaseLaws.{and-l, and-r, T-true, true-T}
-use Rattle.definition.specs.Request.{Choice, goodChoice, oneBit, goodWant, goodRequest, memory, ports, msi}
+use Rattle.definition.specs.Request.{Choice, goodChoice, oneBit, goodWant, goodRequest, mmioWant, pioWant, msiWant}
 use Rattle.definition.specs.Request as R
 use Rattle.definition.specs.RequestLaws.{oneBit-pos}
 use Rattle.search.proofs.OnesLaws.{one-bit-wide}
 use Rattle.request.specs.Asked.{goodSpan}
 
-pub memory-good : (s a : ℕ) (c : Choice) → goodSpan 18446744073709551615 s a c ≡ goodWant (memory s a c)
+pub mmio-good : (s a : ℕ) (c : Choice) → goodSpan 18446744073709551615 s a c ≡ goodWant (mmioWant s a c)
 unfolding goodSpan goodWant
-memory-good s a c = refl
+mmio-good s a c = refl
 
-pub ports-good : (s a : ℕ) (c : Choice) → a < 2 ^ 64 → goodSpan 65535 s a c ≡ goodWant (ports s a c)
+pub pio-good : (s a : ℕ) (c : Choice) → a < 2 ^ 64 → goodSpan 65535 s a c ≡ goodWant (pioWant s a c)
 unfolding goodSpan goodWant
-ports-good s a c l = go (leb a 65535) refl
+pio-good s a c l = go (leb a 65535) refl
   where
     go : (b : Bool) → leb a 65535 ≡ b → ltb 0 s && (leb s 65535 && (b && (oneBit 64 a && goodChoice 65535 c))) ≡ ltb 0 s && (leb s 65535 && (b && (oneBit 16 a && goodChoice 65535 c)))
     go false e = refl
@@ -28,28 +28,28 @@ ports-good s a c l = go (leb a 65535) refl
 
 pub record SpanGood (s a : ℕ) : Type 0 where
   pub size : 0 < s
-  pub align : 0 < a
+  pub alignment : 0 < a
 
-pub memory-says : (s a : ℕ) (c : Choice) → goodWant (memory s a c) ≡ true → SpanGood s a
+pub mmio-says : (s a : ℕ) (c : Choice) → goodWant (mmioWant s a c) ≡ true → SpanGood s a
 unfolding goodWant
-memory-says s a c e =
-    let t : T (goodWant (memory s a c)) = true-T _ e in
+mmio-says s a c e =
+    let t : T (goodWant (mmioWant s a c)) = true-T _ e in
     let p : T (ltb 0 s) = search (and-l) in
     let q : T (oneBit 64 a) = search (and-l, and-r) in
-    record { size = ltb→lt 0 s p; align = oneBit-pos 64 a q }
+    record { size = ltb→lt 0 s p; alignment = oneBit-pos 64 a q }
 
-pub ports-says : (s a : ℕ) (c : Choice) → goodWant (ports s a c) ≡ true → SpanGood s a
+pub pio-says : (s a : ℕ) (c : Choice) → goodWant (pioWant s a c) ≡ true → SpanGood s a
 unfolding goodWant
-ports-says s a c e =
-    let t : T (goodWant (ports s a c)) = true-T _ e in
+pio-says s a c e =
+    let t : T (goodWant (pioWant s a c)) = true-T _ e in
     let p : T (ltb 0 s) = search (and-l) in
     let q : T (oneBit 16 a) = search (and-l, and-r) in
-    record { size = ltb→lt 0 s p; align = oneBit-pos 16 a q }
+    record { size = ltb→lt 0 s p; alignment = oneBit-pos 16 a q }
 
-pub msi-says : (k i n : ℕ) (d e l : Choice) → goodWant (msi k i n d e l) ≡ true → 0 < n
+pub msi-says : (k i n : ℕ) (d e l : Choice) → goodWant (msiWant k i n d e l) ≡ true → 0 < n
 unfolding goodWant
 msi-says k i n d e l h =
-    let t : T (goodWant (msi k i n d e l)) = true-T _ h in
+    let t : T (goodWant (msiWant k i n d e l)) = true-T _ h in
     let p : T (ltb 0 n) = search (and-l, and-r) depth 8 in
     ltb→lt 0 n p
 

@@ -22,17 +22,17 @@ poolCall (P.Mmio s e) = mmioPool s e
 poolCall (P.Pio s e) = pioPool s e
 poolCall (P.Host s e) = hostPool s e
 poolCall (P.Input c s e) = inputPool c s e
-poolCall (P.Msi c i d e l) = msiPool c i (d .start .0) (d .end .0) (e .start .0) (e .end .0) (l .start .0) (l .end .0)
+poolCall (P.Msi c i devices events lpis) = msiPool c i (devices .start .0) (devices .end .0) (events .start .0) (events .end .0) (lpis .start .0) (lpis .end .0)
 
 abbrev pub holdCall : Hold → DHold
 holdCall (H.Mmio s e) = mmioHold s e
 holdCall (H.Pio s e) = pioHold s e
 holdCall (H.Host s e) = hostHold s e
-holdCall (H.Input c n t s) = inputHold c n t s
-holdCall (H.Devices c i d) = deviceHold c i (d .start .0) (d .end .0)
-holdCall (H.Events c i v e) = eventHold c i (v .0) (e .start .0) (e .end .0)
-holdCall (H.Lpis c l) = lpiHold c (l .start .0) (l .end .0)
-holdCall (H.Pair c n t h) = pairHold c n t h
+holdCall (H.Input c n t sharing) = inputHold c n t sharing
+holdCall (H.Devices c i devices) = deviceHold c i (devices .start .0) (devices .end .0)
+holdCall (H.Events c i v events) = eventHold c i (v .0) (events .start .0) (events .end .0)
+holdCall (H.Lpis c lpis) = lpiHold c (lpis .start .0) (lpis .end .0)
+holdCall (H.Pair c n t irq) = pairHold c n t irq
 
 -- none is what cannot be read
 abbrev pub callOf : Call → Option DCall

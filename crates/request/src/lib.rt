@@ -6,7 +6,7 @@ use choose::ids::EventChoice;
 use choose::ids::LpiChoice;
 ghost use mathlib.Core.Path.{_≡_};
 ghost use Rattle.definition.specs.Base.{tell};
-ghost use Rattle.definition.specs.Request.{goodChoice, goodWant, goodRequest, wire, msi};
+ghost use Rattle.definition.specs.Request.{goodChoice, goodWant, goodRequest, inputWant, msiWant};
 ghost use Rattle.choose.specs.Told.{choiceOf, refusalOf};
 ghost use Rattle.choose.specs.Ids.{deviceChoice, eventChoice, lpiChoice};
 ghost use Rattle.request.specs.Asked.{wantOf, requestOf, saidOf, goodSpan};
@@ -29,13 +29,13 @@ pub enum Want {
         alignment: u64,
         choice: Choice,
     },
-    WiredIrq {
+    Input {
         controller: u32,
         trigger: u32,
         sharing: u32,
         choice: Choice,
     },
-    HostIrq {
+    Host {
         choice: Choice,
     },
     Msi {
@@ -92,8 +92,8 @@ pub fn good_span(most: u64, size: u64, alignment: u64, choice: Choice) -> bool
 }
 
 // A wired request's codes are known.
-pub fn good_wire(controller: u32, trigger: u32, sharing: u32, choice: Choice) -> bool
-    ensures { λ r. ⌜ r ≡ goodWant (wire controller trigger sharing (choiceOf choice)) ⌝ }
+pub fn good_input(controller: u32, trigger: u32, sharing: u32, choice: Choice) -> bool
+    ensures { λ r. ⌜ r ≡ goodWant (inputWant controller trigger sharing (choiceOf choice)) ⌝ }
 {
     if 3 < trigger {
         return false;
@@ -113,7 +113,7 @@ pub fn good_msi(
     event: EventChoice,
     lpi: LpiChoice,
 ) -> bool
-    ensures { λ r. ⌜ r ≡ goodWant (msi controller its count (deviceChoice device) (eventChoice event) (lpiChoice lpi)) ⌝ }
+    ensures { λ r. ⌜ r ≡ goodWant (msiWant controller its count (deviceChoice device) (eventChoice event) (lpiChoice lpi)) ⌝ }
 {
     count != 0
 }
@@ -132,13 +132,13 @@ pub fn good_want(want: Want) -> bool
             alignment,
             choice,
         } => good_span(TOP_16, size, alignment, choice),
-        Want::WiredIrq {
+        Want::Input {
             controller,
             trigger,
             sharing,
             choice,
-        } => good_wire(controller, trigger, sharing, choice),
-        Want::HostIrq { choice } => good_choice(TOP_64, choice),
+        } => good_input(controller, trigger, sharing, choice),
+        Want::Host { choice } => good_choice(TOP_64, choice),
         Want::Msi {
             controller,
             its,

@@ -11,17 +11,17 @@ use Rattle.definition.specs.Tables.{Span, nature}
 use Rattle.definition.specs.Request.{Need, aligned, holds, allowed}
 
 module _ (ps : List Span) (n : Need) (b : ℕ) where
-  pub askew : (b % n .align ≡ 0 → ⊥) → false ≡ allowed ps n b
+  pub askew : (b % n .alignment ≡ 0 → ⊥) → false ≡ allowed ps n b
   unfolding allowed aligned
-  askew f = rw (ne-eqb (b % n .align) 0 f)
+  askew f = rw (ne-eqb (b % n .alignment) 0 f)
 
   pub high : nature (n .kind) .top < b + n .size → false ≡ allowed ps n b
   unfolding allowed
   high l = rw (lt-leb (b + n .size) (nature (n .kind) .top) l, and-false (aligned n b))
 
-  pub by-pool : (r : Bool) → b % n .align ≡ 0 → b + n .size ≤ nature (n .kind) .top → r ≡ anyOf (holds n b) ps → r ≡ allowed ps n b
+  pub by-pool : (r : Bool) → b % n .alignment ≡ 0 → b + n .size ≤ nature (n .kind) .top → r ≡ anyOf (holds n b) ps → r ≡ allowed ps n b
   unfolding allowed aligned
-  by-pool r e l h = rw (eq-eqb (b % n .align) 0 e, le-leb (b + n .size) (nature (n .kind) .top) l) h
+  by-pool r e l h = rw (eq-eqb (b % n .alignment) 0 e, le-leb (b + n .size) (nature (n .kind) .top) l) h
 
   pub allowed-high : allowed ps n b ≡ true → b + n .size ≤ nature (n .kind) .top
   unfolding allowed

@@ -26,7 +26,7 @@ use Rattle.search.proofs.MeetLaws.{meets-says, says-meets, holds-says}
 
 module _ (g : ℕ → Row) (on : ℕ) (n : Need) where
   -- a row that meets the run at c meets that at every base from c to the row's end: so no base is lost by going on from the next multiple past that end
-  pub jump : (c stop r k : ℕ) → c < stop → k < on → meets (rowAt n c) (g k) ≡ true → Up (g k .end) (n .align) stop r → Jumps g on n c stop r
+  pub jump : (c stop r k : ℕ) → c < stop → k < on → meets (rowAt n c) (g k) ≡ true → Up (g k .end) (n .alignment) stop r → Jumps g on n c stop r
   unfolding rowAt
   jump c stop r k l used hit u =
       let m = meets-says (rowAt n c) (g k) hit in
@@ -42,7 +42,7 @@ module _ (g : ℕ → Row) (on : ℕ) (n : Need) where
             (lt-or-le x (g k .end));
       }
 
-  pub tried-first : (lo stop c : ℕ) → Up lo (n .align) stop c → Tried g on n lo c
+  pub tried-first : (lo stop c : ℕ) → Up lo (n .alignment) stop c → Tried g on n lo c
   tried-first lo stop c u x l h e f = u .none-before x l h e
 
   pub tried-none : (lo : ℕ) → Tried g on n lo lo
@@ -55,7 +55,7 @@ module _ (g : ℕ → Row) (on : ℕ) (n : Need) where
 
 -- pool row k has no usable base
 abbrev pub Barren : (ℕ → Span) → (ℕ → Row) → ℕ → Need → ℕ → Type 0
-Barren f g on n k = (b : ℕ) → T (holds n b (f k)) → b % n .align ≡ 0 → Free g on n b → ⊥
+Barren f g on n k = (b : ℕ) → T (holds n b (f k)) → b % n .alignment ≡ 0 → Free g on n b → ⊥
 
 module _ (f : ℕ → Span) (g : ℕ → Row) (on : ℕ) (n : Need) where
   -- a candidate past the last base of pool row i: the row is barren
@@ -81,28 +81,28 @@ module _ (f : ℕ → Span) (g : ℕ → Row) (on : ℕ) (n : Need) where
     Rs = listed g on
 
     -- free by index
-    free-in : (b i : ℕ) → i < pn → T (holds n b (f i)) → b % n .align ≡ 0 → Free g on n b → T (free Ps Rs n b)
+    free-in : (b i : ℕ) → i < pn → T (holds n b (f i)) → b % n .alignment ≡ 0 → Free g on n b → T (free Ps Rs n b)
     unfolding free aligned
     free-in b i l h e z =
         let a : T (anyOf (holds n b) Ps) = any-in (holds n b) f pn i l h in
         let c : T (anyOf (meets (rowAt n b)) Rs) → ⊥ = λ t. let (k, m, w) = any-out (meets (rowAt n b)) g on t in false-T (meets (rowAt n b) (g k)) (z k m) w in
         search (and-i, →not-T, eq→eqb)
 
-    free-out : (b : ℕ) → T (free Ps Rs n b) → ((i : ℕ) × (i < pn) × T (holds n b (f i))) × (b % n .align ≡ 0) × Free g on n b
+    free-out : (b : ℕ) → T (free Ps Rs n b) → ((i : ℕ) × (i < pn) × T (holds n b (f i))) × (b % n .alignment ≡ 0) × Free g on n b
     unfolding free aligned
     free-out b t =
-        let a : T (eqb (b % n .align) 0) = search (and-l) in
+        let a : T (eqb (b % n .alignment) 0) = search (and-l) in
         let h : T (anyOf (holds n b) Ps) = search (and-l, and-r) in
         let z : T (not (anyOf (meets (rowAt n b)) Rs)) = search (and-l, and-r) in (
           any-out (holds n b) f pn h,
-          eqb→eq (b % n .align) 0 a,
+          eqb→eq (b % n .alignment) 0 a,
           λ k m. T-false (meets (rowAt n b) (g k)) (λ w. not-T→ (anyOf (meets (rowAt n b)) Rs) z (any-in (meets (rowAt n b)) g on k m w)),
         )
 
-    module _ (pos : 0 < n .align) where
+    module _ (pos : 0 < n .alignment) where
       -- a free candidate of pool row i is the least of all, where the rows before i are barren: a lesser one would lie in a row from i on, whose start is no less than row i's
       pub lowest-here : (i c : ℕ) → T (pairsOf inOrder Ps) → i < pn → ((k : ℕ) → k < i → Barren f g on n k) → Tried g on n (f i .start) c
-          → T (holds n c (f i)) → c % n .align ≡ 0 → Free g on n c → lowest Ps Rs n ≡ some c
+          → T (holds n c (f i)) → c % n .alignment ≡ 0 → Free g on n c → lowest Ps Rs n ≡ some c
       lowest-here i c o l before t h e z = all-some c (lowest-says Ps Rs n pos) (free-in c i l h e z) low
         where
           from : (x k : ℕ) → k < pn → T (holds n x (f k)) → i ≤ k → f i .start ≤ x

@@ -8,10 +8,10 @@ use Rattle.definition.specs.Tables.{poolLimit, rowLimit, Span, Row, used, inOrd
 use Rattle.definition.specs.Request.{lowest}
 use Rattle.definition.specs.Request as R
 use Rattle.tables.specs.Below.{listed}
-use Rattle.tables.specs.Views.{spanOf, poolAt, rangeOf, rangeAt, wireOf, wireAt, poolView, rangesView, wiresView}
+use Rattle.tables.specs.Views.{spanOf, poolAt, rangeOf, rangeAt, inputOf, inputAt, poolView, rangesView, inputsView}
 use Rattle.tables.specs.declared.Pool.{Pool}
 use Rattle.tables.specs.declared.Ranges.{Ranges}
-use Rattle.tables.specs.declared.Wires.{Wires}
+use Rattle.tables.specs.declared.Inputs.{Inputs}
 use Rattle.tables.proofs.TableLaws.{used-is}
 use Rattle.search.specs.Finds.{InOrder}
 
@@ -21,8 +21,8 @@ spanAt p k = spanOf (poolAt p k)
 abbrev pub rangeIn : Ranges → ℕ → Row
 rangeIn t k = rangeOf (rangeAt t k)
 
-abbrev pub wireIn : Wires → ℕ → Row
-wireIn t k = wireOf (wireAt t k)
+abbrev pub inputIn : Inputs → ℕ → Row
+inputIn t k = inputOf (inputAt t k)
 
 pub pool-used : (p : Pool) → p .n ≤ poolLimit → used (poolView p) ≡ listed (spanAt p) (p .n)
 pool-used p l = used-is poolLimit (spanAt p) (p .n) l
@@ -30,8 +30,8 @@ pool-used p l = used-is poolLimit (spanAt p) (p .n) l
 pub ranges-used : (t : Ranges) → t .n ≤ rowLimit → used (rangesView t) ≡ listed (rangeIn t) (t .n)
 ranges-used t l = used-is rowLimit (rangeIn t) (t .n) l
 
-pub wires-used : (t : Wires) → t .n ≤ rowLimit → used (wiresView t) ≡ listed (wireIn t) (t .n)
-wires-used t l = used-is rowLimit (wireIn t) (t .n) l
+pub inputs-used : (t : Inputs) → t .n ≤ rowLimit → used (inputsView t) ≡ listed (inputIn t) (t .n)
+inputs-used t l = used-is rowLimit (inputIn t) (t .n) l
 
 pub order-used : (p : Pool) → InOrder p → T (pairsOf inOrder (listed (spanAt p) (p .n)))
 order-used p h = rw (pool-used p (h .count)) at (h .order)
@@ -41,6 +41,6 @@ pub found-ranges : (p : Pool) (t : Ranges) (n : R.Need) (x : Option ℕ) → InO
     → lowest (listed (spanAt p) (p .n)) (listed (rangeIn t) (t .n)) n ≡ x → x ≡ lowest (used (poolView p)) (used (rangesView t)) n
 found-ranges p t n x h l e = sym (ap₂ (λ ps rs. lowest ps rs n) (pool-used p (h .count)) (ranges-used t l) ∙ e)
 
-pub found-wires : (p : Pool) (t : Wires) (n : R.Need) (x : Option ℕ) → InOrder p → t .n ≤ rowLimit
-    → lowest (listed (spanAt p) (p .n)) (listed (wireIn t) (t .n)) n ≡ x → x ≡ lowest (used (poolView p)) (used (wiresView t)) n
-found-wires p t n x h l e = sym (ap₂ (λ ps rs. lowest ps rs n) (pool-used p (h .count)) (wires-used t l) ∙ e)
+pub found-inputs : (p : Pool) (t : Inputs) (n : R.Need) (x : Option ℕ) → InOrder p → t .n ≤ rowLimit
+    → lowest (listed (spanAt p) (p .n)) (listed (inputIn t) (t .n)) n ≡ x → x ≡ lowest (used (poolView p)) (used (inputsView t)) n
+found-inputs p t n x h l e = sym (ap₂ (λ ps rs. lowest ps rs n) (pool-used p (h .count)) (inputs-used t l) ∙ e)

@@ -16,11 +16,11 @@ module _ (g : ℕ → Row) (on : ℕ) (n : Need) (c stop : ℕ) where
   pub record Passing (i b : ℕ) : Type 0 where
     pub from : c ≤ b
     pub below : b < stop
-    pub aligned : b % n .align ≡ 0
+    pub aligned : b % n .alignment ≡ 0
     pub clear : b ≡ c → (k : ℕ) → k < i → meets (rowAt n c) (g k) ≡ false
     pub tried : Tried g on n c b
 
-  pub pass-start : c < stop → c % n .align ≡ 0 → Passing 0 c
+  pub pass-start : c < stop → c % n .alignment ≡ 0 → Passing 0 c
   pass-start l e = record { from = omega arith; below = l; aligned = e; clear = λ p k h. absurd (omega arith); tried = tried-none g on n c }
 
   module _ (i b r : ℕ) (used : i < on) (h : Passing i b) (p : Passes (g i) n b stop r) where

@@ -8,9 +8,9 @@ use Rattle.definition.specs.Base.{pairsOf}
 use Rattle.definition.specs.Tables.{poolLimit, used, inOrder}
 use Rattle.definition.specs.Request.{lowest, holds}
 use Rattle.definition.specs.Request as R
-use Rattle.tables.specs.Views.{ranges, wires, spanOf, poolAt, poolView, rangesView, wiresView}
+use Rattle.tables.specs.Views.{ranges, inputs, spanOf, poolAt, poolView, rangesView, inputsView}
 use Rattle.tables.specs.declared.Pool.{Pool}
-use Rattle.search.specs.Asks.{needOf, bareWire, foundOf}
+use Rattle.search.specs.Asks.{needOf, bareInput, foundOf}
 use Rattle.search.specs.declared.Need.{Need}
 use Rattle.search.specs.declared.Found.{Found}
 use Rattle.search.specs.declared.Found.the-variants.{At, Nothing}
@@ -36,5 +36,5 @@ pub record Finds (p : Pool) (on : ℕ) (c i d s e : List ℕ) (n : Need) (r : Fo
 
 -- .. of inputs, whatever the codes of their rows
 pub record FindsInput (p : Pool) (on : ℕ) (c x : List ℕ) (k : ℕ) (r : Found) : Type 0 where
-  pub is : (t s o : List ℕ) → foundOf r ≡ lowest (used (poolView p)) (used (wiresView (wires on c x t s o))) (bareWire k)
+  pub is : (t s o : List ℕ) → foundOf r ≡ lowest (used (poolView p)) (used (inputsView (inputs on c x t s o))) (bareInput k)
   pub ends : Ends 1 r

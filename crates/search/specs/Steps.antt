@@ -23,16 +23,16 @@ Free g on n x = (k : ℕ) → k < on → meets (rowAt n x) (g k) ≡ false
 
 -- no aligned base from lo up to c is free, whatever pool it lies in
 abbrev pub Tried : (ℕ → Row) → ℕ → Need → ℕ → ℕ → Type 0
-Tried g on n lo c = (x : ℕ) → lo ≤ x → x < c → x % n .align ≡ 0 → Free g on n x → ⊥
+Tried g on n lo c = (x : ℕ) → lo ≤ x → x < c → x % n .alignment ≡ 0 → Free g on n x → ⊥
 
 -- the base after a row: past the row's end where that is in the way of the run at b, else b
 abbrev pub Passes : Row → Need → ℕ → ℕ → ℕ → Type 0
-Passes w n b stop r = ((meets (rowAt n b) w ≡ false) × (r ≡ b)) ⊎ ((meets (rowAt n b) w ≡ true) × Up (w .end) (n .align) stop r)
+Passes w n b stop r = ((meets (rowAt n b) w ≡ false) × (r ≡ b)) ⊎ ((meets (rowAt n b) w ≡ true) × Up (w .end) (n .alignment) stop r)
 
 pub record Jumps (g : ℕ → Row) (on : ℕ) (n : Need) (c stop r : ℕ) : Type 0 where
   pub rises : c < r
   pub within : r ≤ stop
-  pub aligned : r < stop → r % n .align ≡ 0
+  pub aligned : r < stop → r % n .alignment ≡ 0
   pub tried : Tried g on n c r
 
 -- one step of the search at base c: stay where the run is free, else go to the next base to try

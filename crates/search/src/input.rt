@@ -12,14 +12,14 @@ ghost use mathlib.Core.List.{[]};
 ghost use Prim.Native.Nat.{_^_, _≤_, _<_};
 ghost use Rattle.definition.specs.Tables.{rowLimit, wiredRow, meets};
 ghost use Rattle.tables.specs.Below.{first};
-ghost use Rattle.tables.specs.Views.{pool, wires, wireOf, wireAt};
-ghost use Rattle.search.specs.Asks.{needOf, inputNeed};
+ghost use Rattle.tables.specs.Views.{pool, inputs, inputOf, inputAt};
+ghost use Rattle.search.specs.Asks.{needOf, oneInput};
 ghost use Rattle.search.specs.Steps.{Passes, Steps};
 ghost use Rattle.search.specs.Finds.{InOrder, FindsInput};
 
 // One input of a controller, as a need: no search reads who asks.
 pub fn one_input(controller: u32) -> Need
-    ensures { λ r. ⌜ r ≡ inputNeed controller ⌝ }
+    ensures { λ r. ⌜ r ≡ oneInput controller ⌝ }
 {
     Need {
         kind: Kind::Input,
@@ -41,7 +41,7 @@ pub fn first_on<'a>(
     x: u64,
 ) -> Hit
     requires { ⌜ n ≤ rowLimit ⌝ }
-    ensures { λ r. ⌜ r ≡ first (λ k. meets (wiredRow c x 0 0 0) (wireOf (wireAt (wires n (now (controller .entry)) (now (input .entry)) [] [] []) k))) n ⌝ }
+    ensures { λ r. ⌜ r ≡ first (λ k. meets (wiredRow c x 0 0 0) (inputOf (inputAt (inputs n (now (controller .entry)) (now (input .entry)) [] [] []) k))) n ⌝ }
 {
     let mut i: usize = 0;
     while i < n {
@@ -67,7 +67,7 @@ pub fn past_input<'a>(
     stop: u64,
 ) -> u64
     requires { ⌜ (k < rowLimit) × (b < stop) × (stop < 2 ^ 64) ⌝ }
-    ensures { λ r. ⌜ Passes (wireOf (wireAt (wires 0 (now (controller .entry)) (now (input .entry)) [] [] []) k)) (needOf (inputNeed c)) b stop r ⌝ }
+    ensures { λ r. ⌜ Passes (inputOf (inputAt (inputs 0 (now (controller .entry)) (now (input .entry)) [] [] []) k)) (needOf (oneInput c)) b stop r ⌝ }
 {
     if input[k] != b {
         return b;
@@ -88,7 +88,7 @@ pub fn next_input<'a>(
     stop: u64,
 ) -> Step
     requires { ⌜ (n ≤ rowLimit) × (x < stop) × (stop < 2 ^ 64) ⌝ }
-    ensures { λ r. ⌜ Steps (λ k. wireOf (wireAt (wires n (now (controller .entry)) (now (input .entry)) [] [] []) k)) n (needOf (inputNeed c)) x stop r ⌝ }
+    ensures { λ r. ⌜ Steps (λ k. inputOf (inputAt (inputs n (now (controller .entry)) (now (input .entry)) [] [] []) k)) n (needOf (oneInput c)) x stop r ⌝ }
 {
     let mut b = x;
     let mut i: usize = 0;

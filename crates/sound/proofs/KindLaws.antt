@@ -4,23 +4,23 @@ use mathlib.Core.Bool.{Bool, true, false, _&&_}
 use Rattle.definition.specs.Tables.{Kind, input, used, soundHeld, soundOwners, begins}
 use Rattle.definition.specs.Request.{automatic, fixed}
 use Rattle.definition.specs.Calls.{State, givenAt, soundAt}
-use Rattle.tables.specs.Views.{poolView, rangesView, wiresView}
+use Rattle.tables.specs.Views.{poolView, rangesView, inputsView}
 use Rattle.tables.specs.declared.Pool.{Pool}
 use Rattle.tables.specs.declared.Ranges.{Ranges}
-use Rattle.tables.specs.declared.Wires.{Wires}
+use Rattle.tables.specs.declared.Inputs.{Inputs}
 use Rattle.table_tests.specs.Tests.{limitsOf, soundPoolIn, soundRangesIn, holdersIn}
 use Rattle.table_tests.proofs.KindLaws.{Ranged, pool-kind, held-kind, owners-kind}
-use Rattle.sound.specs.Tests.{soundWires, poolsIn, givenRanges, setRanges, givenWires, setWires}
+use Rattle.sound.specs.Tests.{soundInputs, poolsIn, givenRanges, setRanges, givenInputs, setInputs}
 
 -- ---- inputs
 
-pub held-wires : (t : Wires) → soundHeld input (wiresView t) ≡ soundWires true t
-unfolding soundWires
-held-wires t = refl
+pub held-inputs : (t : Inputs) → soundHeld input (inputsView t) ≡ soundInputs true t
+unfolding soundInputs
+held-inputs t = refl
 
-pub owners-wires : (t : Wires) → soundOwners input (wiresView t) ≡ soundWires false t
-unfolding soundWires
-owners-wires t = refl
+pub owners-inputs : (t : Inputs) → soundOwners input (inputsView t) ≡ soundInputs false t
+unfolding soundInputs
+owners-inputs t = refl
 
 -- ---- the tables of one kind of a state
 
@@ -49,19 +49,19 @@ module _ (s : State) where
       (ap₂ (λ x y. x && y) (ap (soundOwners k) d ∙ owners-kind k r o) (ap₂ (λ x y. begins (used x) (used y)) e d))
       ∙ sym (together (poolsIn (limitsOf k) a f) (soundRangesIn (limitsOf k) h) _)
 
-  pub given-wires :
-      (a f : Pool) (h : Wires) → s .pools automatic input ≡ poolView a → s .pools fixed input ≡ poolView f → s .held input ≡ wiresView h
-      → givenAt s input ≡ givenWires a f h
-  unfolding givenAt givenWires poolsIn
-  given-wires a f h p q e =
-      rw (p, q, e) (ap₂ (λ x y. x && y) (pool-kind input a) (ap₂ (λ x y. x && y) (pool-kind input f) (held-wires h)))
-      ∙ together (soundPoolIn (limitsOf input) a) (soundPoolIn (limitsOf input) f) (soundWires true h)
+  pub given-inputs :
+      (a f : Pool) (h : Inputs) → s .pools automatic input ≡ poolView a → s .pools fixed input ≡ poolView f → s .held input ≡ inputsView h
+      → givenAt s input ≡ givenInputs a f h
+  unfolding givenAt givenInputs poolsIn
+  given-inputs a f h p q e =
+      rw (p, q, e) (ap₂ (λ x y. x && y) (pool-kind input a) (ap₂ (λ x y. x && y) (pool-kind input f) (held-inputs h)))
+      ∙ together (soundPoolIn (limitsOf input) a) (soundPoolIn (limitsOf input) f) (soundInputs true h)
 
-  pub set-wires :
-      (a f : Pool) (h o : Wires)
-      → s .pools automatic input ≡ poolView a → s .pools fixed input ≡ poolView f → s .held input ≡ wiresView h → s .owners input ≡ wiresView o
-      → soundAt s input ≡ setWires a f h o
-  unfolding soundAt setWires
-  set-wires a f h o p q e d =
-      ap₂ (λ x y. x && y) (given-wires a f h p q e)
-      (ap₂ (λ x y. x && y) (ap (soundOwners input) d ∙ owners-wires o) (ap₂ (λ x y. begins (used x) (used y)) e d))
+  pub set-inputs :
+      (a f : Pool) (h o : Inputs)
+      → s .pools automatic input ≡ poolView a → s .pools fixed input ≡ poolView f → s .held input ≡ inputsView h → s .owners input ≡ inputsView o
+      → soundAt s input ≡ setInputs a f h o
+  unfolding soundAt setInputs
+  set-inputs a f h o p q e d =
+      ap₂ (λ x y. x && y) (given-inputs a f h p q e)
+      (ap₂ (λ x y. x && y) (ap (soundOwners input) d ∙ owners-inputs o) (ap₂ (λ x y. begins (used x) (used y)) e d))

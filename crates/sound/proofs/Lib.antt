@@ -1,3 +1,3 @@
 pub mod KindLaws
 pub mod StateLaws
-pub mod WireLaws
+pub mod InputLaws

@@ -8,12 +8,12 @@ use Rattle.tables.specs.Views.{stateView}
 use Rattle.tables.specs.declared.State.{State}
 use Rattle.definition.specs.BaseLaws.{and-true}
 use Rattle.sound.specs.Tests.{givenOf, setOf}
-use Rattle.sound.proofs.KindLaws.{given-ranges, set-ranges, given-wires, set-wires}
+use Rattle.sound.proofs.KindLaws.{given-ranges, set-ranges, given-inputs, set-inputs}
 
 pub given-at : (s : State) (k : Kind) → givenAt (stateView s) k ≡ givenOf s k
 given-at s mmio = given-ranges (stateView s) mmio refl _ _ _ refl refl refl
 given-at s pio = given-ranges (stateView s) pio refl _ _ _ refl refl refl
-given-at s input = given-wires (stateView s) _ _ _ refl refl refl
+given-at s input = given-inputs (stateView s) _ _ _ refl refl refl
 given-at s host = given-ranges (stateView s) host refl _ _ _ refl refl refl
 given-at s device = given-ranges (stateView s) device refl _ _ _ refl refl refl
 given-at s event = given-ranges (stateView s) event refl _ _ _ refl refl refl
@@ -22,7 +22,7 @@ given-at s lpi = given-ranges (stateView s) lpi refl _ _ _ refl refl refl
 pub sound-at : (s : State) (k : Kind) → soundAt (stateView s) k ≡ setOf s k
 sound-at s mmio = set-ranges (stateView s) mmio refl _ _ _ _ refl refl refl refl
 sound-at s pio = set-ranges (stateView s) pio refl _ _ _ _ refl refl refl refl
-sound-at s input = set-wires (stateView s) _ _ _ _ refl refl refl refl
+sound-at s input = set-inputs (stateView s) _ _ _ _ refl refl refl refl
 sound-at s host = set-ranges (stateView s) host refl _ _ _ _ refl refl refl refl
 sound-at s device = set-ranges (stateView s) device refl _ _ _ _ refl refl refl refl
 sound-at s event = set-ranges (stateView s) event refl _ _ _ _ refl refl refl refl

@@ -3,32 +3,32 @@ use mathlib.Core.Bool.{Bool, true, false, not, _&&_}
 use Prim.Native.Nat.{ℕ}
 use Rattle.definition.specs.Tables.{rowLimit, Kind, mmio, pio, input, host, device, event, lpi, Row, sameRow, meets, clash, blankRow, goodRow, used, tidy, soundTable, begins}
 use Rattle.tables.specs.Below.{rowOk}
-use Rattle.tables.specs.Views.{wireOf, wireAt, wiresView}
+use Rattle.tables.specs.Views.{inputOf, inputAt, inputsView}
 use Rattle.tables.specs.declared.Pool.{Pool}
 use Rattle.tables.specs.declared.Ranges.{Ranges}
-use Rattle.tables.specs.declared.Wires.{Wires}
+use Rattle.tables.specs.declared.Inputs.{Inputs}
 use Rattle.tables.specs.declared.State.{State}
 use Rattle.table_tests.specs.declared.limits.Limits.{Limits}
 use Rattle.table_tests.specs.Tests.{limitsOf, soundPoolIn, soundRangesIn, holdersIn}
 
 -- ---- wired rows
 
-abbrev pub blankWire : Row
-blankWire = blankRow input
+abbrev pub blankInput : Row
+blankInput = blankRow input
 
 -- reservations want an input once, owners may share it
-abbrev pub wireFit : Bool → Row → Row → Bool
-wireFit true a b = not (meets a b)
-wireFit false a b = not (clash a b)
+abbrev pub inputFit : Bool → Row → Row → Bool
+inputFit true a b = not (meets a b)
+inputFit false a b = not (clash a b)
 
-unfoldable pub wireOk : Bool → Wires → ℕ → Bool
-wireOk single t = rowOk (goodRow input) (wireFit single) (λ k. wireOf (wireAt t k))
+unfoldable pub inputOk : Bool → Inputs → ℕ → Bool
+inputOk single t = rowOk (goodRow input) (inputFit single) (λ k. inputOf (inputAt t k))
 
-unfoldable pub tidyWires : Wires → Bool
-tidyWires t = tidy rowLimit (sameRow blankWire) (wiresView t)
+unfoldable pub tidyInputs : Inputs → Bool
+tidyInputs t = tidy rowLimit (sameRow blankInput) (inputsView t)
 
-unfoldable pub soundWires : Bool → Wires → Bool
-soundWires single t = soundTable rowLimit (sameRow blankWire) (goodRow input) (wireFit single) (wiresView t)
+unfoldable pub soundInputs : Bool → Inputs → Bool
+soundInputs single t = soundTable rowLimit (sameRow blankInput) (goodRow input) (inputFit single) (inputsView t)
 
 -- ---- the tables of one kind: what an addition reads, and what a request reads
 
@@ -41,19 +41,19 @@ givenRanges l auto fixed held = poolsIn l auto fixed && soundRangesIn l held
 unfoldable pub setRanges : Limits → Pool → Pool → Ranges → Ranges → Bool
 setRanges l auto fixed held owners = poolsIn l auto fixed && holdersIn l held owners
 
-unfoldable pub givenWires : Pool → Pool → Wires → Bool
-givenWires auto fixed held = poolsIn (limitsOf input) auto fixed && soundWires true held
+unfoldable pub givenInputs : Pool → Pool → Inputs → Bool
+givenInputs auto fixed held = poolsIn (limitsOf input) auto fixed && soundInputs true held
 
-unfoldable pub setWires : Pool → Pool → Wires → Wires → Bool
-setWires auto fixed held owners =
-    givenWires auto fixed held && (soundWires false owners && begins (used (wiresView held)) (used (wiresView owners)))
+unfoldable pub setInputs : Pool → Pool → Inputs → Inputs → Bool
+setInputs auto fixed held owners =
+    givenInputs auto fixed held && (soundInputs false owners && begins (used (inputsView held)) (used (inputsView owners)))
 
 -- ---- .. of a whole state
 
 abbrev pub givenOf : State → Kind → Bool
 givenOf s mmio = givenRanges (limitsOf mmio) (s .auto .mmio) (s .fixed .mmio) (s .held .mmio)
 givenOf s pio = givenRanges (limitsOf pio) (s .auto .pio) (s .fixed .pio) (s .held .pio)
-givenOf s input = givenWires (s .auto .input) (s .fixed .input) (s .held .input)
+givenOf s input = givenInputs (s .auto .input) (s .fixed .input) (s .held .input)
 givenOf s host = givenRanges (limitsOf host) (s .auto .host) (s .fixed .host) (s .held .host)
 givenOf s device = givenRanges (limitsOf device) (s .auto .device) (s .fixed .device) (s .held .device)
 givenOf s event = givenRanges (limitsOf event) (s .auto .event) (s .fixed .event) (s .held .event)
@@ -62,7 +62,7 @@ givenOf s lpi = givenRanges (limitsOf lpi) (s .auto .lpi) (s .fixed .lpi) (s .he
 abbrev pub setOf : State → Kind → Bool
 setOf s mmio = setRanges (limitsOf mmio) (s .auto .mmio) (s .fixed .mmio) (s .held .mmio) (s .owners .mmio)
 setOf s pio = setRanges (limitsOf pio) (s .auto .pio) (s .fixed .pio) (s .held .pio) (s .owners .pio)
-setOf s input = setWires (s .auto .input) (s .fixed .input) (s .held .input) (s .owners .input)
+setOf s input = setInputs (s .auto .input) (s .fixed .input) (s .held .input) (s .owners .input)
 setOf s host = setRanges (limitsOf host) (s .auto .host) (s .fixed .host) (s .held .host) (s .owners .host)
 setOf s device = setRanges (limitsOf device) (s .auto .device) (s .fixed .device) (s .held .device) (s .owners .device)
 setOf s event = setRanges (limitsOf event) (s .auto .event) (s .fixed .event) (s .held .event) (s .owners .event)

@@ -7,8 +7,8 @@ use table_tests::range;
 use tables::POOL_ROWS;
 use tables::ROWS;
 ghost use mathlib.Core.Path.{_≡_};
-ghost use Rattle.tables.specs.Views.{pool, ranges, wires};
-ghost use Rattle.sound.specs.Tests.{poolsIn, givenRanges, setRanges, givenWires, setWires};
+ghost use Rattle.tables.specs.Views.{pool, ranges, inputs};
+ghost use Rattle.sound.specs.Tests.{poolsIn, givenRanges, setRanges, givenInputs, setInputs};
 
 // Whether the two pools of a kind are sound: the first test of each of the four below.
 pub fn pools_sound<'a>(
@@ -98,7 +98,7 @@ pub fn ranges_set<'a>(
 }
 
 // Whether the pools and reservations of inputs are sound.
-pub fn wires_given<'a>(
+pub fn inputs_given<'a>(
     pc: &'a [u32; POOL_ROWS],
     pi: &'a [u32; POOL_ROWS],
     ps: &'a [u64; POOL_ROWS],
@@ -116,7 +116,7 @@ pub fn wires_given<'a>(
     hw: &'a [u32; ROWS],
     hn: &'a usize,
 ) -> bool
-    ensures { λ r. ⌜ r ≡ givenWires (pool (now (pn .entry)) (now (pc .entry)) (now (pi .entry)) (now (ps .entry)) (now (pe .entry))) (pool (now (nf .entry)) (now (fc .entry)) (now (fi .entry)) (now (fs .entry)) (now (fe .entry))) (wires (now (hn .entry)) (now (hc .entry)) (now (hx .entry)) (now (ht .entry)) (now (hs .entry)) (now (hw .entry))) ⌝ }
+    ensures { λ r. ⌜ r ≡ givenInputs (pool (now (pn .entry)) (now (pc .entry)) (now (pi .entry)) (now (ps .entry)) (now (pe .entry))) (pool (now (nf .entry)) (now (fc .entry)) (now (fi .entry)) (now (fs .entry)) (now (fe .entry))) (inputs (now (hn .entry)) (now (hc .entry)) (now (hx .entry)) (now (ht .entry)) (now (hs .entry)) (now (hw .entry))) ⌝ }
 {
     if !pools_sound(input_limits(), pc, pi, ps, pe, pn, fc, fi, fs, fe, nf) {
         return false;
@@ -125,7 +125,7 @@ pub fn wires_given<'a>(
 }
 
 // Whether all tables of inputs are sound.
-pub fn wires_set<'a>(
+pub fn inputs_set<'a>(
     pc: &'a [u32; POOL_ROWS],
     pi: &'a [u32; POOL_ROWS],
     ps: &'a [u64; POOL_ROWS],
@@ -149,9 +149,9 @@ pub fn wires_set<'a>(
     ow: &'a [u32; ROWS],
     on: &'a usize,
 ) -> bool
-    ensures { λ r. ⌜ r ≡ setWires (pool (now (pn .entry)) (now (pc .entry)) (now (pi .entry)) (now (ps .entry)) (now (pe .entry))) (pool (now (nf .entry)) (now (fc .entry)) (now (fi .entry)) (now (fs .entry)) (now (fe .entry))) (wires (now (hn .entry)) (now (hc .entry)) (now (hx .entry)) (now (ht .entry)) (now (hs .entry)) (now (hw .entry))) (wires (now (on .entry)) (now (oc .entry)) (now (ox .entry)) (now (ot .entry)) (now (os .entry)) (now (ow .entry))) ⌝ }
+    ensures { λ r. ⌜ r ≡ setInputs (pool (now (pn .entry)) (now (pc .entry)) (now (pi .entry)) (now (ps .entry)) (now (pe .entry))) (pool (now (nf .entry)) (now (fc .entry)) (now (fi .entry)) (now (fs .entry)) (now (fe .entry))) (inputs (now (hn .entry)) (now (hc .entry)) (now (hx .entry)) (now (ht .entry)) (now (hs .entry)) (now (hw .entry))) (inputs (now (on .entry)) (now (oc .entry)) (now (ox .entry)) (now (ot .entry)) (now (os .entry)) (now (ow .entry))) ⌝ }
 {
-    if !wires_given(
+    if !inputs_given(
         pc,
         pi,
         ps,

@@ -7,16 +7,16 @@ use table_tests::limits::host_limits;
 use table_tests::limits::lpi_limits;
 use table_tests::limits::mmio_limits;
 use table_tests::limits::pio_limits;
+use tables::Inputs;
 use tables::Pool;
 use tables::Ranges;
 use tables::State;
-use tables::Wires;
 ghost use mathlib.Core.Path.{_≡_};
 ghost use mathlib.Core.Bool.{_&&_};
 ghost use Rattle.definition.specs.Tables.{kinds};
 ghost use Rattle.definition.specs.Calls.{given, sound};
 ghost use Rattle.tables.specs.Views.{stateView};
-ghost use Rattle.sound.specs.Tests.{givenRanges, setRanges, givenWires, setWires};
+ghost use Rattle.sound.specs.Tests.{givenRanges, setRanges, givenInputs, setInputs};
 
 // Whether the pools and reservations of a kind of ranges are sound: the tables are lent whole.
 pub fn ranges_given<'a>(l: Limits, auto: &'a Pool, fixed: &'a Pool, held: &'a Ranges) -> bool
@@ -84,10 +84,10 @@ pub fn ranges_set<'a>(
 }
 
 // Whether the pools and reservations of inputs are sound.
-pub fn wires_given<'a>(auto: &'a Pool, fixed: &'a Pool, held: &'a Wires) -> bool
-    ensures { λ r. ⌜ r ≡ givenWires (now (auto .entry)) (now (fixed .entry)) (now (held .entry)) ⌝ }
+pub fn inputs_given<'a>(auto: &'a Pool, fixed: &'a Pool, held: &'a Inputs) -> bool
+    ensures { λ r. ⌜ r ≡ givenInputs (now (auto .entry)) (now (fixed .entry)) (now (held .entry)) ⌝ }
 {
-    columns::wires_given(
+    columns::inputs_given(
         &auto.controller,
         &auto.its,
         &auto.start,
@@ -108,10 +108,10 @@ pub fn wires_given<'a>(auto: &'a Pool, fixed: &'a Pool, held: &'a Wires) -> bool
 }
 
 // Whether all tables of inputs are sound.
-pub fn wires_set<'a>(auto: &'a Pool, fixed: &'a Pool, held: &'a Wires, owners: &'a Wires) -> bool
-    ensures { λ r. ⌜ r ≡ setWires (now (auto .entry)) (now (fixed .entry)) (now (held .entry)) (now (owners .entry)) ⌝ }
+pub fn inputs_set<'a>(auto: &'a Pool, fixed: &'a Pool, held: &'a Inputs, owners: &'a Inputs) -> bool
+    ensures { λ r. ⌜ r ≡ setInputs (now (auto .entry)) (now (fixed .entry)) (now (held .entry)) (now (owners .entry)) ⌝ }
 {
-    columns::wires_set(
+    columns::inputs_set(
         &auto.controller,
         &auto.its,
         &auto.start,
@@ -176,7 +176,7 @@ pub fn given(s: &State) -> bool
 {
     let mmio = ranges_given(mmio_limits(), &s.auto.mmio, &s.fixed.mmio, &s.held.mmio);
     let pio = ranges_given(pio_limits(), &s.auto.pio, &s.fixed.pio, &s.held.pio);
-    let input = wires_given(&s.auto.input, &s.fixed.input, &s.held.input);
+    let input = inputs_given(&s.auto.input, &s.fixed.input, &s.held.input);
     let host = ranges_given(host_limits(), &s.auto.host, &s.fixed.host, &s.held.host);
     let device = ranges_given(
         device_limits(),
@@ -207,7 +207,7 @@ pub fn sound(s: &State) -> bool
         &s.held.pio,
         &s.owners.pio,
     );
-    let input = wires_set(
+    let input = inputs_set(
         &s.auto.input,
         &s.fixed.input,
         &s.held.input,

@@ -6,15 +6,15 @@ use table_tests::limits::host_limits;
 use table_tests::limits::lpi_limits;
 use table_tests::limits::mmio_limits;
 use table_tests::limits::pio_limits;
+use tables::Inputs;
 use tables::Pool;
 use tables::Ranges;
 use tables::State;
-use tables::Wires;
 ghost use mathlib.Core.Path.{_≡_};
 ghost use Rattle.definition.specs.Tables.{kinds};
 ghost use Rattle.definition.specs.Calls.{sound};
 ghost use Rattle.tables.specs.Views.{stateView};
-ghost use Rattle.sound.specs.Tests.{setRanges, setWires};
+ghost use Rattle.sound.specs.Tests.{setRanges, setInputs};
 
 pub mod columns;
 pub mod lent;
@@ -54,10 +54,10 @@ pub fn ranges_set(l: Limits, auto: Pool, fixed: Pool, held: Ranges, owners: Rang
 }
 
 // Whether all tables of inputs are sound.
-pub fn wires_set(auto: Pool, fixed: Pool, held: Wires, owners: Wires) -> bool
-    ensures { λ r. ⌜ r ≡ setWires auto fixed held owners ⌝ }
+pub fn inputs_set(auto: Pool, fixed: Pool, held: Inputs, owners: Inputs) -> bool
+    ensures { λ r. ⌜ r ≡ setInputs auto fixed held owners ⌝ }
 {
-    columns::wires_set(
+    columns::inputs_set(
         &auto.controller,
         &auto.its,
         &auto.start,
@@ -105,7 +105,7 @@ pub fn sound(s: State) -> bool
     ) {
         return false;
     }
-    if !wires_set(s.auto.input, s.fixed.input, s.held.input, s.owners.input) {
+    if !inputs_set(s.auto.input, s.fixed.input, s.held.input, s.owners.input) {
         return false;
     }
     if !ranges_set(

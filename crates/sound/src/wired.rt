@@ -1,23 +1,23 @@
 // Reservation and owner tables of wired inputs.
 use table_tests::limits::capped;
 use table_tests::limits::higher;
+use tables::InputRow;
 use tables::ROWS;
-use tables::WireRow;
 ghost use mathlib.Core.Path.{_≡_};
 ghost use Prim.Native.Nat.{_≤_, _<_};
 ghost use Rattle.definition.specs.Tables.{rowLimit, input as wired, sameRow, goodRow, used, begins};
 ghost use Rattle.tables.specs.Below.{allBelow, allFrom};
-ghost use Rattle.tables.specs.Views.{wires, wireOf, wireAt, wiresView};
+ghost use Rattle.tables.specs.Views.{inputs, inputOf, inputAt, inputsView};
 ghost use Rattle.table_tests.specs.Tests.{NoneAbove};
-ghost use Rattle.sound.specs.Tests.{blankWire, wireFit, wireOk, soundWires, tidyWires};
+ghost use Rattle.sound.specs.Tests.{blankInput, inputFit, inputOk, soundInputs, tidyInputs};
 
 const LAST_TRIGGER: u32 = 3;
 
 const SHARED: u32 = 1;
 
 // Whether two rows can stand in one table: an input is reserved once (`single`), and owned once or by rows that share it with one trigger.
-pub fn wires_fit(single: bool, a: WireRow, b: WireRow) -> bool
-    ensures { λ r. ⌜ r ≡ wireFit single (wireOf a) (wireOf b) ⌝ }
+pub fn inputs_fit(single: bool, a: InputRow, b: InputRow) -> bool
+    ensures { λ r. ⌜ r ≡ inputFit single (inputOf a) (inputOf b) ⌝ }
 {
     if a.input != b.input {
         return true;
@@ -37,8 +37,8 @@ pub fn wires_fit(single: bool, a: WireRow, b: WireRow) -> bool
     a.trigger == b.trigger
 }
 
-pub fn same_row(a: WireRow, b: WireRow) -> bool
-    ensures { λ r. ⌜ r ≡ sameRow (wireOf a) (wireOf b) ⌝ }
+pub fn same_row(a: InputRow, b: InputRow) -> bool
+    ensures { λ r. ⌜ r ≡ sameRow (inputOf a) (inputOf b) ⌝ }
 {
     let controller = a.controller == b.controller;
     let input = a.input == b.input;
@@ -49,8 +49,8 @@ pub fn same_row(a: WireRow, b: WireRow) -> bool
 }
 
 // Whether a row has known codes and an owner. Its numbers keep to their width by their types.
-pub fn good_row(r: WireRow) -> bool
-    ensures { λ b. ⌜ b ≡ goodRow wired (wireOf r) ⌝ }
+pub fn good_row(r: InputRow) -> bool
+    ensures { λ b. ⌜ b ≡ goodRow wired (inputOf r) ⌝ }
 {
     if LAST_TRIGGER < r.trigger {
         return false;
@@ -70,16 +70,16 @@ pub fn fits_below<'a>(
     trigger: &'a [u32; ROWS],
     sharing: &'a [u32; ROWS],
     owner: &'a [u32; ROWS],
-    r: WireRow,
+    r: InputRow,
 ) -> bool
     requires { ⌜ k ≤ rowLimit ⌝ }
-    ensures { λ b. ⌜ b ≡ allBelow (λ j. wireFit single (wireOf (wireAt (wires 0 (now (controller .entry)) (now (input .entry)) (now (trigger .entry)) (now (sharing .entry)) (now (owner .entry))) j)) (wireOf r)) k ⌝ }
+    ensures { λ b. ⌜ b ≡ allBelow (λ j. inputFit single (inputOf (inputAt (inputs 0 (now (controller .entry)) (now (input .entry)) (now (trigger .entry)) (now (sharing .entry)) (now (owner .entry))) j)) (inputOf r)) k ⌝ }
 {
     let mut j: usize = 0;
     while j < k {
-        if !wires_fit(
+        if !inputs_fit(
             single,
-            tables::wire_at(j, controller, input, trigger, sharing, owner),
+            tables::input_at(j, controller, input, trigger, sharing, owner),
             r,
         ) {
             return false;
@@ -99,9 +99,9 @@ pub fn unused_zero<'a>(
     owner: &'a [u32; ROWS],
 ) -> bool
     requires { ⌜ n ≤ rowLimit ⌝ }
-    ensures { λ r. ⌜ r ≡ allFrom (λ k. sameRow blankWire (wireOf (wireAt (wires n (now (controller .entry)) (now (input .entry)) (now (trigger .entry)) (now (sharing .entry)) (now (owner .entry))) k))) n rowLimit ⌝ }
+    ensures { λ r. ⌜ r ≡ allFrom (λ k. sameRow blankInput (inputOf (inputAt (inputs n (now (controller .entry)) (now (input .entry)) (now (trigger .entry)) (now (sharing .entry)) (now (owner .entry))) k))) n rowLimit ⌝ }
 {
-    let zero = WireRow {
+    let zero = InputRow {
         controller: 0,
         input: 0,
         trigger: 0,
@@ -113,7 +113,7 @@ pub fn unused_zero<'a>(
     while k < ROWS {
         let same = same_row(
             zero,
-            tables::wire_at(k, controller, input, trigger, sharing, owner),
+            tables::input_at(k, controller, input, trigger, sharing, owner),
         );
         zeros = zeros & same;
         k += 1;
@@ -130,7 +130,7 @@ pub fn tidy<'a>(
     sharing: &'a [u32; ROWS],
     owner: &'a [u32; ROWS],
 ) -> bool
-    ensures { λ r. ⌜ r ≡ tidyWires (wires n (now (controller .entry)) (now (input .entry)) (now (trigger .entry)) (now (sharing .entry)) (now (owner .entry))) ⌝ }
+    ensures { λ r. ⌜ r ≡ tidyInputs (inputs n (now (controller .entry)) (now (input .entry)) (now (trigger .entry)) (now (sharing .entry)) (now (owner .entry))) ⌝ }
 {
     if ROWS < n {
         return false;
@@ -151,9 +151,9 @@ pub fn row_ok<'a>(
 ) -> bool
     requires { ⌜ k < rowLimit ⌝ }
     requires { ⌜ NoneAbove high (now input) k ⌝ }
-    ensures { λ r. ⌜ r ≡ wireOk single (wires 0 (now (controller .entry)) (now (input .entry)) (now (trigger .entry)) (now (sharing .entry)) (now (owner .entry))) k ⌝ }
+    ensures { λ r. ⌜ r ≡ inputOk single (inputs 0 (now (controller .entry)) (now (input .entry)) (now (trigger .entry)) (now (sharing .entry)) (now (owner .entry))) k ⌝ }
 {
-    let r = tables::wire_at(k, controller, input, trigger, sharing, owner);
+    let r = tables::input_at(k, controller, input, trigger, sharing, owner);
     if !good_row(r) {
         return false;
     }
@@ -174,7 +174,7 @@ pub fn rows_ok<'a>(
     owner: &'a [u32; ROWS],
 ) -> bool
     requires { ⌜ n ≤ rowLimit ⌝ }
-    ensures { λ r. ⌜ r ≡ allBelow (wireOk single (wires 0 (now (controller .entry)) (now (input .entry)) (now (trigger .entry)) (now (sharing .entry)) (now (owner .entry)))) n ⌝ }
+    ensures { λ r. ⌜ r ≡ allBelow (inputOk single (inputs 0 (now (controller .entry)) (now (input .entry)) (now (trigger .entry)) (now (sharing .entry)) (now (owner .entry)))) n ⌝ }
 {
     let mut high: u64 = 0;
     let mut k: usize = 0;
@@ -198,7 +198,7 @@ pub fn table_sound<'a>(
     sharing: &'a [u32; ROWS],
     owner: &'a [u32; ROWS],
 ) -> bool
-    ensures { λ r. ⌜ r ≡ soundWires single (wires n (now (controller .entry)) (now (input .entry)) (now (trigger .entry)) (now (sharing .entry)) (now (owner .entry))) ⌝ }
+    ensures { λ r. ⌜ r ≡ soundInputs single (inputs n (now (controller .entry)) (now (input .entry)) (now (trigger .entry)) (now (sharing .entry)) (now (owner .entry))) ⌝ }
 {
     if !tidy(n, controller, input, trigger, sharing, owner) {
         return false;
@@ -221,12 +221,12 @@ pub fn rows_same<'a>(
     owner2: &'a [u32; ROWS],
 ) -> bool
     requires { ⌜ m ≤ rowLimit ⌝ }
-    ensures { λ r. ⌜ r ≡ allBelow (λ k. sameRow (wireOf (wireAt (wires 0 (now (controller .entry)) (now (input .entry)) (now (trigger .entry)) (now (sharing .entry)) (now (owner .entry))) k)) (wireOf (wireAt (wires 0 (now (controller2 .entry)) (now (input2 .entry)) (now (trigger2 .entry)) (now (sharing2 .entry)) (now (owner2 .entry))) k))) m ⌝ }
+    ensures { λ r. ⌜ r ≡ allBelow (λ k. sameRow (inputOf (inputAt (inputs 0 (now (controller .entry)) (now (input .entry)) (now (trigger .entry)) (now (sharing .entry)) (now (owner .entry))) k)) (inputOf (inputAt (inputs 0 (now (controller2 .entry)) (now (input2 .entry)) (now (trigger2 .entry)) (now (sharing2 .entry)) (now (owner2 .entry))) k))) m ⌝ }
 {
     let mut k: usize = 0;
     while k < m {
-        let a = tables::wire_at(k, controller, input, trigger, sharing, owner);
-        let b = tables::wire_at(k, controller2, input2, trigger2, sharing2, owner2);
+        let a = tables::input_at(k, controller, input, trigger, sharing, owner);
+        let b = tables::input_at(k, controller2, input2, trigger2, sharing2, owner2);
         if !same_row(a, b) {
             return false;
         }
@@ -250,7 +250,7 @@ pub fn begins_with<'a>(
     sharing2: &'a [u32; ROWS],
     owner2: &'a [u32; ROWS],
 ) -> bool
-    ensures { λ r. ⌜ r ≡ begins (used (wiresView (wires m (now (controller .entry)) (now (input .entry)) (now (trigger .entry)) (now (sharing .entry)) (now (owner .entry))))) (used (wiresView (wires n (now (controller2 .entry)) (now (input2 .entry)) (now (trigger2 .entry)) (now (sharing2 .entry)) (now (owner2 .entry))))) ⌝ }
+    ensures { λ r. ⌜ r ≡ begins (used (inputsView (inputs m (now (controller .entry)) (now (input .entry)) (now (trigger .entry)) (now (sharing .entry)) (now (owner .entry))))) (used (inputsView (inputs n (now (controller2 .entry)) (now (input2 .entry)) (now (trigger2 .entry)) (now (sharing2 .entry)) (now (owner2 .entry))))) ⌝ }
 {
     let k = capped(m);
     if capped(n) < k {

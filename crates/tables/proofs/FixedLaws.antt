@@ -7,11 +7,11 @@ use lib.ListN.{length, getD}
 use lib.Seq.{ext-getD}
 use Rattle.definition.specs.Tables.{poolLimit, rowLimit, Kind, mmio, pio, input, host, device, event, lpi}
 use Rattle.definition.specs.Request.{automatic, fixed}
-use Rattle.tables.specs.Views.{pool, ranges, wires, spanOf, rangeOf, wireOf, poolAt, rangeAt, wireAt, poolView, rangesView, wiresView, poolOf, holdersView, stateView}
-use Rattle.tables.specs.Sized.{SizedPool, SizedRanges, SizedWires, SizedHolders, SizedState}
+use Rattle.tables.specs.Views.{pool, ranges, inputs, spanOf, rangeOf, inputOf, poolAt, rangeAt, inputAt, poolView, rangesView, inputsView, poolOf, holdersView, stateView}
+use Rattle.tables.specs.Sized.{SizedPool, SizedRanges, SizedInputs, SizedHolders, SizedState}
 use Rattle.tables.specs.declared.Pool.{Pool}
 use Rattle.tables.specs.declared.Ranges.{Ranges}
-use Rattle.tables.specs.declared.Wires.{Wires}
+use Rattle.tables.specs.declared.Inputs.{Inputs}
 use Rattle.tables.specs.declared.Pools.{Pools}
 use Rattle.tables.specs.declared.Holders.{Holders}
 use Rattle.tables.specs.declared.State.{State}
@@ -63,11 +63,11 @@ ranges-fixed a b x y e = λ i. ranges (ap (λ t. t .count) e i) (c i) (t i) (d i
     o : a .owner ≡ b .owner
     o = column rowLimit _ _ (x .owner) (y .owner) (λ k l. ap (λ r. r .owner) (row k l))
 
-pub wires-fixed : (a b : Wires) → SizedWires a → SizedWires b → wiresView a ≡ wiresView b → a ≡ b
-wires-fixed a b x y e = λ i. wires (ap (λ t. t .count) e i) (c i) (n i) (t i) (s i) (o i)
+pub inputs-fixed : (a b : Inputs) → SizedInputs a → SizedInputs b → inputsView a ≡ inputsView b → a ≡ b
+inputs-fixed a b x y e = λ i. inputs (ap (λ t. t .count) e i) (c i) (n i) (t i) (s i) (o i)
   where
-    row : (k : ℕ) → k < rowLimit → wireOf (wireAt a k) ≡ wireOf (wireAt b k)
-    row = listed-same (λ k. wireOf (wireAt a k)) (λ k. wireOf (wireAt b k)) rowLimit (ap (λ t. t .rows) e)
+    row : (k : ℕ) → k < rowLimit → inputOf (inputAt a k) ≡ inputOf (inputAt b k)
+    row = listed-same (λ k. inputOf (inputAt a k)) (λ k. inputOf (inputAt b k)) rowLimit (ap (λ t. t .rows) e)
 
     c : a .controller ≡ b .controller
     c = column rowLimit _ _ (x .controller) (y .controller) (λ k l. ap (λ r. r .dom .controller) (row k l))
@@ -93,7 +93,7 @@ holders-fixed a b x y e = λ i.
     record {
       mmio = ranges-fixed (a .mmio) (b .mmio) (x .mmio) (y .mmio) (e mmio) i;
       pio = ranges-fixed (a .pio) (b .pio) (x .pio) (y .pio) (e pio) i;
-      input = wires-fixed (a .input) (b .input) (x .input) (y .input) (e input) i;
+      input = inputs-fixed (a .input) (b .input) (x .input) (y .input) (e input) i;
       host = ranges-fixed (a .host) (b .host) (x .host) (y .host) (e host) i;
       device = ranges-fixed (a .device) (b .device) (x .device) (y .device) (e device) i;
       event = ranges-fixed (a .event) (b .event) (x .event) (y .event) (e event) i;

@@ -5,9 +5,9 @@ use lib.ListN.{length, getD, length-replicate, getD-replicate}
 use Rattle.definition.specs.Tables.{poolLimit, rowLimit, Kind, mmio, pio, input, host, device, event, lpi, blankSpan, blankRow}
 use Rattle.definition.specs.Request.{Use, automatic, fixed}
 use Rattle.definition.specs.Calls.{fresh, zeros}
-use Rattle.tables.specs.Views.{spanOf, rangeOf, wireOf, poolAt, rangeAt, wireAt, poolView, rangesView, wiresView, poolOf, poolsView, holdersView, stateView}
-use Rattle.tables.specs.Whole.{nils, freshPool, freshRanges, freshWires, freshPools, freshHolders, freshState}
-use Rattle.tables.specs.Sized.{SizedPool, SizedRanges, SizedWires, SizedHolders, SizedState}
+use Rattle.tables.specs.Views.{spanOf, rangeOf, inputOf, poolAt, rangeAt, inputAt, poolView, rangesView, inputsView, poolOf, poolsView, holdersView, stateView}
+use Rattle.tables.specs.Whole.{nils, freshPool, freshRanges, freshInputs, freshPools, freshHolders, freshState}
+use Rattle.tables.specs.Sized.{SizedPool, SizedRanges, SizedInputs, SizedHolders, SizedState}
 use Rattle.tables.proofs.ListedLaws.{listed-ext, listed-const}
 
 nil : (n k : ℕ) → k < n → getD (nils n) k 0 ≡ 0
@@ -23,10 +23,10 @@ fresh-ranges-view =
     ap (λ xs. record { count = 0; rows = xs })
     (listed-ext (λ k. rangeOf (rangeAt freshRanges k)) (λ k. blankRow mmio) rowLimit (λ k l. rw (nil rowLimit k l)) ∙ listed-const (blankRow mmio) rowLimit)
 
-pub fresh-wires-view : wiresView freshWires ≡ zeros rowLimit (blankRow input)
-fresh-wires-view =
+pub fresh-inputs-view : inputsView freshInputs ≡ zeros rowLimit (blankRow input)
+fresh-inputs-view =
     ap (λ xs. record { count = 0; rows = xs })
-    (listed-ext (λ k. wireOf (wireAt freshWires k)) (λ k. blankRow input) rowLimit (λ k l. rw (nil rowLimit k l)) ∙ listed-const (blankRow input) rowLimit)
+    (listed-ext (λ k. inputOf (inputAt freshInputs k)) (λ k. blankRow input) rowLimit (λ k l. rw (nil rowLimit k l)) ∙ listed-const (blankRow input) rowLimit)
 
 fresh-pools-view : (u : Use) (k : Kind) → poolsView freshPools freshPools u k ≡ zeros poolLimit blankSpan
 fresh-pools-view automatic mmio = fresh-pool-view
@@ -47,7 +47,7 @@ fresh-pools-view fixed lpi = fresh-pool-view
 fresh-holders-view : (k : Kind) → holdersView freshHolders k ≡ zeros rowLimit (blankRow k)
 fresh-holders-view mmio = fresh-ranges-view
 fresh-holders-view pio = fresh-ranges-view
-fresh-holders-view input = fresh-wires-view
+fresh-holders-view input = fresh-inputs-view
 fresh-holders-view host = fresh-ranges-view
 fresh-holders-view device = fresh-ranges-view
 fresh-holders-view event = fresh-ranges-view
@@ -86,8 +86,8 @@ fresh-sized = record { auto = λ k. pools k; fixed = λ k. pools k; held = holde
     range : SizedRanges freshRanges
     range = record { controller = all; its = all; device = all; start = all; end = all; owner = all }
 
-    wire : SizedWires freshWires
-    wire = record { controller = all; input = all; trigger = all; sharing = all; owner = all }
+    inputs : SizedInputs freshInputs
+    inputs = record { controller = all; input = all; trigger = all; sharing = all; owner = all }
 
     holders : SizedHolders freshHolders
-    holders = record { mmio = range; pio = range; input = wire; host = range; device = range; event = range; lpi = range }
+    holders = record { mmio = range; pio = range; input = inputs; host = range; device = range; event = range; lpi = range }

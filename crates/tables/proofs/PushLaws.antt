@@ -9,11 +9,11 @@ use lib.Seq.{getD-set-same, getD-set-other}
 use Rattle.definition.specs.Tables.{rowLimit, Dom, Row, rangeRow, wiredRow}
 use Rattle.definition.specs.Calls.{pushAll}
 use Rattle.tables.specs.Below.{listed}
-use Rattle.tables.specs.Views.{rangeOf, wireOf, rangeAt, wireAt, rangesView, wiresView}
-use Rattle.tables.specs.Whole.{pushedRange, pushedWire}
-use Rattle.tables.specs.Sized.{SizedRanges, SizedWires}
+use Rattle.tables.specs.Views.{rangeOf, inputOf, rangeAt, inputAt, rangesView, inputsView}
+use Rattle.tables.specs.Whole.{pushedRange, pushedInput}
+use Rattle.tables.specs.Sized.{SizedRanges, SizedInputs}
 use Rattle.tables.specs.declared.Ranges.{Ranges}
-use Rattle.tables.specs.declared.Wires.{Wires}
+use Rattle.tables.specs.declared.Inputs.{Inputs}
 use Rattle.tables.proofs.ListedLaws.{listed-set}
 
 pub push-range-view :
@@ -36,13 +36,13 @@ push-range-view t d s e o z l = λ i. record { count = add-one (t .n) i; rows = 
     rows = listed-set (λ k. rangeOf (rangeAt t k)) (λ k. rangeOf (rangeAt (pushedRange t (rangeRow d s e o)) k)) (t .n) rowLimit (rangeRow d s e o) l here
         (λ k h. simp getD-set-other)
 
-pub push-wire-view :
-    (t : Wires) (c x g h o : ℕ) → SizedWires t → t .n < rowLimit
-    → wiresView (pushedWire t (wiredRow c x g h o)) ≡ pushAll (wiresView t) (wiredRow c x g h o ∷ [])
+pub push-input-view :
+    (t : Inputs) (c x g h o : ℕ) → SizedInputs t → t .n < rowLimit
+    → inputsView (pushedInput t (wiredRow c x g h o)) ≡ pushAll (inputsView t) (wiredRow c x g h o ∷ [])
 unfolding pushAll
-push-wire-view t c x g h o z l = λ i. record { count = add-one (t .n) i; rows = rows i }
+push-input-view t c x g h o z l = λ i. record { count = add-one (t .n) i; rows = rows i }
   where
-    here : wireOf (wireAt (pushedWire t (wiredRow c x g h o)) (t .n)) ≡ wiredRow c x g h o
+    here : inputOf (inputAt (pushedInput t (wiredRow c x g h o)) (t .n)) ≡ wiredRow c x g h o
     here =
         let p₁ : t .n < length (t .controller) = omega (arith, z .controller) in
         let p₂ : t .n < length (t .input) = omega (arith, z .input) in
@@ -51,8 +51,8 @@ push-wire-view t c x g h o z l = λ i. record { count = add-one (t .n) i; rows =
         let p₅ : t .n < length (t .owner) = omega (arith, z .owner) in
         simp getD-set-same
 
-    rows : listed (λ k. wireOf (wireAt (pushedWire t (wiredRow c x g h o)) k)) rowLimit ≡ set (listed (λ k. wireOf (wireAt t k)) rowLimit) (t .n) (wiredRow c x g h o)
-    rows = listed-set (λ k. wireOf (wireAt t k)) (λ k. wireOf (wireAt (pushedWire t (wiredRow c x g h o)) k)) (t .n) rowLimit (wiredRow c x g h o) l here
+    rows : listed (λ k. inputOf (inputAt (pushedInput t (wiredRow c x g h o)) k)) rowLimit ≡ set (listed (λ k. inputOf (inputAt t k)) rowLimit) (t .n) (wiredRow c x g h o)
+    rows = listed-set (λ k. inputOf (inputAt t k)) (λ k. inputOf (inputAt (pushedInput t (wiredRow c x g h o)) k)) (t .n) rowLimit (wiredRow c x g h o) l here
         (λ k h. simp getD-set-other)
 
 -- .. and the columns keep their lengths
@@ -68,8 +68,8 @@ push-range-sized t r z =
       owner = length-set (t .owner) (t .n) (r .owner) ∙ z .owner;
     }
 
-pub push-wire-sized : (t : Wires) (r : Row) → SizedWires t → SizedWires (pushedWire t r)
-push-wire-sized t r z =
+pub push-input-sized : (t : Inputs) (r : Row) → SizedInputs t → SizedInputs (pushedInput t r)
+push-input-sized t r z =
     record {
       controller = length-set (t .controller) (t .n) (r .dom .controller) ∙ z .controller;
       input = length-set (t .input) (t .n) (r .start) ∙ z .input;

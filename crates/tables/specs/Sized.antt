@@ -5,7 +5,7 @@ use Rattle.definition.specs.Tables.{poolLimit, rowLimit, Kind}
 use Rattle.tables.specs.Views.{poolOf}
 use Rattle.tables.specs.declared.Pool.{Pool}
 use Rattle.tables.specs.declared.Ranges.{Ranges}
-use Rattle.tables.specs.declared.Wires.{Wires}
+use Rattle.tables.specs.declared.Inputs.{Inputs}
 use Rattle.tables.specs.declared.Holders.{Holders}
 use Rattle.tables.specs.declared.State.{State}
 
@@ -23,7 +23,7 @@ pub record SizedRanges (t : Ranges) : Type 0 where
   pub end : length (t .end) ≡ rowLimit
   pub owner : length (t .owner) ≡ rowLimit
 
-pub record SizedWires (t : Wires) : Type 0 where
+pub record SizedInputs (t : Inputs) : Type 0 where
   pub controller : length (t .controller) ≡ rowLimit
   pub input : length (t .input) ≡ rowLimit
   pub trigger : length (t .trigger) ≡ rowLimit
@@ -33,7 +33,7 @@ pub record SizedWires (t : Wires) : Type 0 where
 pub record SizedHolders (h : Holders) : Type 0 where
   pub mmio : SizedRanges (h .mmio)
   pub pio : SizedRanges (h .pio)
-  pub input : SizedWires (h .input)
+  pub input : SizedInputs (h .input)
   pub host : SizedRanges (h .host)
   pub device : SizedRanges (h .device)
   pub event : SizedRanges (h .event)

@@ -13,13 +13,13 @@ use Rattle.tables.specs.declared.Kind.{Kind}
 use Rattle.tables.specs.declared.Kind.the-variants as K
 use Rattle.tables.specs.declared.Pool.{Pool}
 use Rattle.tables.specs.declared.Ranges.{Ranges}
-use Rattle.tables.specs.declared.Wires.{Wires}
+use Rattle.tables.specs.declared.Inputs.{Inputs}
 use Rattle.tables.specs.declared.Pools.{Pools}
 use Rattle.tables.specs.declared.Holders.{Holders}
 use Rattle.tables.specs.declared.State.{State}
 use Rattle.tables.specs.declared.PoolRow.{PoolRow}
 use Rattle.tables.specs.declared.RangeRow.{RangeRow}
-use Rattle.tables.specs.declared.WireRow.{WireRow}
+use Rattle.tables.specs.declared.InputRow.{InputRow}
 
 -- ---- kinds
 
@@ -44,8 +44,8 @@ pool n c i s e = record { n = n; controller = c; its = i; start = s; end = e }
 abbrev pub ranges : ℕ → List ℕ → List ℕ → List ℕ → List ℕ → List ℕ → List ℕ → Ranges
 ranges n c i d s e o = record { n = n; controller = c; its = i; device = d; start = s; end = e; owner = o }
 
-abbrev pub wires : ℕ → List ℕ → List ℕ → List ℕ → List ℕ → List ℕ → Wires
-wires n c x t s o = record { n = n; controller = c; input = x; trigger = t; sharing = s; owner = o }
+abbrev pub inputs : ℕ → List ℕ → List ℕ → List ℕ → List ℕ → List ℕ → Inputs
+inputs n c x trigger sharing o = record { n = n; controller = c; input = x; trigger = trigger; sharing = sharing; owner = o }
 
 -- ---- one row
 
@@ -55,8 +55,8 @@ spanOf r = span (dom (r .controller) (r .its) 0) (r .start) (r .end)
 abbrev pub rangeOf : RangeRow → Row
 rangeOf r = rangeRow (dom (r .controller) (r .its) (r .device)) (r .start) (r .end) (r .owner)
 
-abbrev pub wireOf : WireRow → Row
-wireOf r = wiredRow (r .controller) (r .input) (r .trigger) (r .sharing) (r .owner)
+abbrev pub inputOf : InputRow → Row
+inputOf r = wiredRow (r .controller) (r .input) (r .trigger) (r .sharing) (r .owner)
 
 abbrev pub poolAt : Pool → ℕ → PoolRow
 poolAt t k =
@@ -73,8 +73,8 @@ rangeAt t k =
       owner = getD (t .owner) k 0;
     }
 
-abbrev pub wireAt : Wires → ℕ → WireRow
-wireAt t k =
+abbrev pub inputAt : Inputs → ℕ → InputRow
+inputAt t k =
     record {
       controller = getD (t .controller) k 0;
       input = getD (t .input) k 0;
@@ -91,8 +91,8 @@ poolView t = record { count = t .n; rows = listed (λ k. spanOf (poolAt t k)) po
 abbrev pub rangesView : Ranges → Table Row
 rangesView t = record { count = t .n; rows = listed (λ k. rangeOf (rangeAt t k)) rowLimit }
 
-abbrev pub wiresView : Wires → Table Row
-wiresView t = record { count = t .n; rows = listed (λ k. wireOf (wireAt t k)) rowLimit }
+abbrev pub inputsView : Inputs → Table Row
+inputsView t = record { count = t .n; rows = listed (λ k. inputOf (inputAt t k)) rowLimit }
 
 -- ---- all tables
 
@@ -112,7 +112,7 @@ poolsView a f fixed k = poolView (poolOf f k)
 abbrev pub holdersView : Holders → DKind → Table Row
 holdersView h mmio = rangesView (h .mmio)
 holdersView h pio = rangesView (h .pio)
-holdersView h input = wiresView (h .input)
+holdersView h input = inputsView (h .input)
 holdersView h host = rangesView (h .host)
 holdersView h device = rangesView (h .device)
 holdersView h event = rangesView (h .event)

@@ -2,8 +2,8 @@
 ghost use mathlib.Core.Path.{_≡_};
 ghost use Prim.Native.Nat.{_<_};
 ghost use Rattle.definition.specs.Tables.{poolLimit, rowLimit, nature};
-ghost use Rattle.tables.specs.Views.{kindOf, sameOf, pool, ranges, wires, poolAt, rangeAt, wireAt, rangeOf, wireOf};
-ghost use Rattle.tables.specs.Whole.{pushedRange, pushedWire, freshPool, freshRanges, freshWires, freshPools, freshHolders, freshState};
+ghost use Rattle.tables.specs.Views.{kindOf, sameOf, pool, ranges, inputs, poolAt, rangeAt, inputAt, rangeOf, inputOf};
+ghost use Rattle.tables.specs.Whole.{pushedRange, pushedInput, freshPool, freshRanges, freshInputs, freshPools, freshHolders, freshState};
 
 // The sizes, each stated here alone: rows of a reservation or owner table, rows of a pool table, requests of a plan, numbers of a record.
 pub const ROWS: usize = 128;
@@ -38,7 +38,7 @@ pub struct Ranges {
 
 // A reservation or owner table of inputs: one number a row, with its codes.
 #[repr(C)]
-pub struct Wires {
+pub struct Inputs {
     pub n: usize,
     pub controller: [u32; ROWS],
     pub input: [u64; ROWS],
@@ -64,7 +64,7 @@ pub struct Pools {
 pub struct Holders {
     pub mmio: Ranges,
     pub pio: Ranges,
-    pub input: Wires,
+    pub input: Inputs,
     pub host: Ranges,
     pub device: Ranges,
     pub event: Ranges,
@@ -142,7 +142,7 @@ pub struct RangeRow {
     pub owner: u32,
 }
 
-pub struct WireRow {
+pub struct InputRow {
     pub controller: u32,
     pub input: u64,
     pub trigger: u32,
@@ -184,10 +184,10 @@ pub fn fresh_ranges() -> Ranges
     }
 }
 
-pub fn fresh_wires() -> Wires
-    ensures { λ r. ⌜ r ≡ freshWires ⌝ }
+pub fn fresh_inputs() -> Inputs
+    ensures { λ r. ⌜ r ≡ freshInputs ⌝ }
 {
-    Wires {
+    Inputs {
         n: 0,
         controller: [0u32; ROWS],
         input: [0u64; ROWS],
@@ -216,7 +216,7 @@ pub fn fresh_holders() -> Holders
     ensures { λ r. ⌜ r ≡ freshHolders ⌝ }
 {
     let t = fresh_ranges();
-    let w = fresh_wires();
+    let w = fresh_inputs();
     Holders {
         mmio: t,
         pio: t,
@@ -264,9 +264,9 @@ pub fn push_range(t: Ranges, r: RangeRow) -> Ranges
     next
 }
 
-pub fn push_wire(t: Wires, r: WireRow) -> Wires
+pub fn push_input(t: Inputs, r: InputRow) -> Inputs
     requires { ⌜ t .n < rowLimit ⌝ }
-    ensures { λ s. ⌜ s ≡ pushedWire t (wireOf r) ⌝ }
+    ensures { λ s. ⌜ s ≡ pushedInput t (inputOf r) ⌝ }
 {
     let at = t.n;
     let mut next = t;
@@ -321,18 +321,18 @@ pub fn range_at<'a>(
     }
 }
 
-pub fn wire_at<'a>(
+pub fn input_at<'a>(
     k: usize,
     controller: &'a [u32; ROWS],
     input: &'a [u64; ROWS],
     trigger: &'a [u32; ROWS],
     sharing: &'a [u32; ROWS],
     owner: &'a [u32; ROWS],
-) -> WireRow
+) -> InputRow
     requires { ⌜ k < rowLimit ⌝ }
-    ensures { λ r. ⌜ r ≡ wireAt (wires 0 (now (controller .entry)) (now (input .entry)) (now (trigger .entry)) (now (sharing .entry)) (now (owner .entry))) k ⌝ }
+    ensures { λ r. ⌜ r ≡ inputAt (inputs 0 (now (controller .entry)) (now (input .entry)) (now (trigger .entry)) (now (sharing .entry)) (now (owner .entry))) k ⌝ }
 {
-    WireRow {
+    InputRow {
         controller: controller[k],
         input: input[k],
         trigger: trigger[k],

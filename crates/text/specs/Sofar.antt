@@ -7,7 +7,7 @@ use lib.Dec.{eqb, ltb}
 use lib.ListN.{take}
 use Rattle.definition.specs.Base.{Said, says}
 use Rattle.definition.specs.Tables.{planLimit, recordSize}
-use Rattle.definition.specs.Request.{Request, irq, auto}
+use Rattle.definition.specs.Request.{Request, hostWant, auto}
 use Rattle.definition.specs.Calls.{State, Call, pool, hold, start, want}
 use Rattle.lines.specs.Text as Text
 use Rattle.lines.specs.Text.{sofar}
@@ -46,7 +46,7 @@ asksOf n (some start) = false
 asksOf n (some (want r)) = ltb n planLimit
 
 abbrev pub nobodys : Request
-nobodys = record { requester = 0; slot = 0; want = irq auto }
+nobodys = record { requester = 0; slot = 0; want = hostWant auto }
 
 abbrev pub wantedBy : Option Call → Request
 wantedBy none = nobodys

@@ -1,20 +1,20 @@
 -- The columns and the count of a lent table, as a callee that takes them one by one is handed them. Offsets are computed from the layout. Assumes `Given`.
 --     offset           where a field begins
 --     array-part, struct-part     a field of a struct as a part of it: an array of a built-in type, and a struct
---     pool-columns     the arguments for a pool at (b, o), before the others: `into` says where among what is held the reference to it is.        ranges-columns, wires-columns     likewise
+--     pool-columns     the arguments for a pool at (b, o), before the others: `into` says where among what is held the reference to it is.        ranges-columns, inputs-columns     likewise
 use Rattle.walks.proofs.Prelude.{refl, ℕ, _+_, _∷_, List, map, none, URA, Ty, GName, Lft, Share, fieldOf, Heap, Atoms, Given, Item, RattleType, u32, u64, usize, Array, Struct, Declared, row, shape, halves, cStruct, Cut, look-at, cut-array, cut-record, Parts, part-cut, part-field}
 use mathlib.Core.Option.{some}
 use denote.Struct.Laws as LL
 use Rattle.definition.specs.Tables.{poolLimit, rowLimit}
 use Rattle.tables.specs.declared.Pool.{Pool}
 use Rattle.tables.specs.declared.Ranges.{Ranges}
-use Rattle.tables.specs.declared.Wires.{Wires}
+use Rattle.tables.specs.declared.Inputs.{Inputs}
 use Rattle.tables.proofs.Pool as P
 use Rattle.tables.proofs.Pool.Laws as P′
 use Rattle.tables.proofs.Ranges as R
 use Rattle.tables.proofs.Ranges.Laws as R′
-use Rattle.tables.proofs.Wires as I
-use Rattle.tables.proofs.Wires.Laws as I′
+use Rattle.tables.proofs.Inputs as I
+use Rattle.tables.proofs.Inputs.Laws as I′
 use Rattle.walks.proofs.Passing.{refTo, Lends, part-lent, Arg, lent}
 
 abbrev pub offset : Ty → ℕ → ℕ
@@ -71,23 +71,23 @@ module _ {M : Type 1} (𝓤 : URA M) (H : Heap 𝓤) (A : Atoms 𝓤) (W : Given
   pub ranges-owner : Parts 𝓤 H A R.the-row (Array u32 rowLimit) (λ o. o + offset R′.mir 6) (λ t. t .owner)
   ranges-owner = array-part 𝓤 H A W R.the-type R′.the-laws R′.the-copy (offset R′.mir 6) u32 rowLimit (λ t. t .owner) (λ s t b o. look-at 𝓤 H A W s R.the-type R′.the-laws 6 (offset R′.mir 6) refl refl (b, o) t (R.struct .as-values t) refl)
 
-  pub wires-n : Parts 𝓤 H A I.the-row usize (λ o. o + offset I′.mir 0) (λ t. t .n)
-  wires-n = part-field 𝓤 H A W I.the-type I′.the-laws I′.the-copy 0 (offset I′.mir 0) refl refl (I.struct .as-values) (λ x. refl)
+  pub inputs-n : Parts 𝓤 H A I.the-row usize (λ o. o + offset I′.mir 0) (λ t. t .n)
+  inputs-n = part-field 𝓤 H A W I.the-type I′.the-laws I′.the-copy 0 (offset I′.mir 0) refl refl (I.struct .as-values) (λ x. refl)
 
-  pub wires-controller : Parts 𝓤 H A I.the-row (Array u32 rowLimit) (λ o. o + offset I′.mir 1) (λ t. t .controller)
-  wires-controller = array-part 𝓤 H A W I.the-type I′.the-laws I′.the-copy (offset I′.mir 1) u32 rowLimit (λ t. t .controller) (λ s t b o. look-at 𝓤 H A W s I.the-type I′.the-laws 1 (offset I′.mir 1) refl refl (b, o) t (I.struct .as-values t) refl)
+  pub inputs-controller : Parts 𝓤 H A I.the-row (Array u32 rowLimit) (λ o. o + offset I′.mir 1) (λ t. t .controller)
+  inputs-controller = array-part 𝓤 H A W I.the-type I′.the-laws I′.the-copy (offset I′.mir 1) u32 rowLimit (λ t. t .controller) (λ s t b o. look-at 𝓤 H A W s I.the-type I′.the-laws 1 (offset I′.mir 1) refl refl (b, o) t (I.struct .as-values t) refl)
 
-  pub wires-input : Parts 𝓤 H A I.the-row (Array u64 rowLimit) (λ o. o + offset I′.mir 2) (λ t. t .input)
-  wires-input = array-part 𝓤 H A W I.the-type I′.the-laws I′.the-copy (offset I′.mir 2) u64 rowLimit (λ t. t .input) (λ s t b o. look-at 𝓤 H A W s I.the-type I′.the-laws 2 (offset I′.mir 2) refl refl (b, o) t (I.struct .as-values t) refl)
+  pub inputs-input : Parts 𝓤 H A I.the-row (Array u64 rowLimit) (λ o. o + offset I′.mir 2) (λ t. t .input)
+  inputs-input = array-part 𝓤 H A W I.the-type I′.the-laws I′.the-copy (offset I′.mir 2) u64 rowLimit (λ t. t .input) (λ s t b o. look-at 𝓤 H A W s I.the-type I′.the-laws 2 (offset I′.mir 2) refl refl (b, o) t (I.struct .as-values t) refl)
 
-  pub wires-trigger : Parts 𝓤 H A I.the-row (Array u32 rowLimit) (λ o. o + offset I′.mir 3) (λ t. t .trigger)
-  wires-trigger = array-part 𝓤 H A W I.the-type I′.the-laws I′.the-copy (offset I′.mir 3) u32 rowLimit (λ t. t .trigger) (λ s t b o. look-at 𝓤 H A W s I.the-type I′.the-laws 3 (offset I′.mir 3) refl refl (b, o) t (I.struct .as-values t) refl)
+  pub inputs-trigger : Parts 𝓤 H A I.the-row (Array u32 rowLimit) (λ o. o + offset I′.mir 3) (λ t. t .trigger)
+  inputs-trigger = array-part 𝓤 H A W I.the-type I′.the-laws I′.the-copy (offset I′.mir 3) u32 rowLimit (λ t. t .trigger) (λ s t b o. look-at 𝓤 H A W s I.the-type I′.the-laws 3 (offset I′.mir 3) refl refl (b, o) t (I.struct .as-values t) refl)
 
-  pub wires-sharing : Parts 𝓤 H A I.the-row (Array u32 rowLimit) (λ o. o + offset I′.mir 4) (λ t. t .sharing)
-  wires-sharing = array-part 𝓤 H A W I.the-type I′.the-laws I′.the-copy (offset I′.mir 4) u32 rowLimit (λ t. t .sharing) (λ s t b o. look-at 𝓤 H A W s I.the-type I′.the-laws 4 (offset I′.mir 4) refl refl (b, o) t (I.struct .as-values t) refl)
+  pub inputs-sharing : Parts 𝓤 H A I.the-row (Array u32 rowLimit) (λ o. o + offset I′.mir 4) (λ t. t .sharing)
+  inputs-sharing = array-part 𝓤 H A W I.the-type I′.the-laws I′.the-copy (offset I′.mir 4) u32 rowLimit (λ t. t .sharing) (λ s t b o. look-at 𝓤 H A W s I.the-type I′.the-laws 4 (offset I′.mir 4) refl refl (b, o) t (I.struct .as-values t) refl)
 
-  pub wires-owner : Parts 𝓤 H A I.the-row (Array u32 rowLimit) (λ o. o + offset I′.mir 5) (λ t. t .owner)
-  wires-owner = array-part 𝓤 H A W I.the-type I′.the-laws I′.the-copy (offset I′.mir 5) u32 rowLimit (λ t. t .owner) (λ s t b o. look-at 𝓤 H A W s I.the-type I′.the-laws 5 (offset I′.mir 5) refl refl (b, o) t (I.struct .as-values t) refl)
+  pub inputs-owner : Parts 𝓤 H A I.the-row (Array u32 rowLimit) (λ o. o + offset I′.mir 5) (λ t. t .owner)
+  inputs-owner = array-part 𝓤 H A W I.the-type I′.the-laws I′.the-copy (offset I′.mir 5) u32 rowLimit (λ t. t .owner) (λ s t b o. look-at 𝓤 H A W s I.the-type I′.the-laws 5 (offset I′.mir 5) refl refl (b, o) t (I.struct .as-values t) refl)
 
   module _ (κ : Lft) (q : Share) (r : Item 𝓤) (b o : ℕ) (γ : GName) where
     abbrev pub pool-columns : (t : Pool) → Into 𝓤 H A W κ q (refTo 𝓤 H A W κ q P.the-row t b o γ) r → List (Arg 𝓤 H A W κ q r) → List (Arg 𝓤 H A W κ q r)
@@ -108,11 +108,11 @@ module _ {M : Type 1} (𝓤 : URA M) (H : Heap 𝓤) (A : Atoms 𝓤) (W : Given
         lent (Array u32 rowLimit) (t .owner) b (o + offset R′.mir 6) (into (Array u32 rowLimit) (t .owner) b (o + offset R′.mir 6) (part-lent 𝓤 H A W κ q R.the-row (Array u32 rowLimit) (λ o. o + offset R′.mir 6) (λ t. t .owner) ranges-owner t b o γ)) ∷
         lent usize (t .n) b (o + offset R′.mir 0) (into usize (t .n) b (o + offset R′.mir 0) (part-lent 𝓤 H A W κ q R.the-row usize (λ o. o + offset R′.mir 0) (λ t. t .n) ranges-n t b o γ)) ∷ xs
 
-    abbrev pub wires-columns : (t : Wires) → Into 𝓤 H A W κ q (refTo 𝓤 H A W κ q I.the-row t b o γ) r → List (Arg 𝓤 H A W κ q r) → List (Arg 𝓤 H A W κ q r)
-    wires-columns t into xs =
-        lent (Array u32 rowLimit) (t .controller) b (o + offset I′.mir 1) (into (Array u32 rowLimit) (t .controller) b (o + offset I′.mir 1) (part-lent 𝓤 H A W κ q I.the-row (Array u32 rowLimit) (λ o. o + offset I′.mir 1) (λ t. t .controller) wires-controller t b o γ)) ∷
-        lent (Array u64 rowLimit) (t .input) b (o + offset I′.mir 2) (into (Array u64 rowLimit) (t .input) b (o + offset I′.mir 2) (part-lent 𝓤 H A W κ q I.the-row (Array u64 rowLimit) (λ o. o + offset I′.mir 2) (λ t. t .input) wires-input t b o γ)) ∷
-        lent (Array u32 rowLimit) (t .trigger) b (o + offset I′.mir 3) (into (Array u32 rowLimit) (t .trigger) b (o + offset I′.mir 3) (part-lent 𝓤 H A W κ q I.the-row (Array u32 rowLimit) (λ o. o + offset I′.mir 3) (λ t. t .trigger) wires-trigger t b o γ)) ∷
-        lent (Array u32 rowLimit) (t .sharing) b (o + offset I′.mir 4) (into (Array u32 rowLimit) (t .sharing) b (o + offset I′.mir 4) (part-lent 𝓤 H A W κ q I.the-row (Array u32 rowLimit) (λ o. o + offset I′.mir 4) (λ t. t .sharing) wires-sharing t b o γ)) ∷
-        lent (Array u32 rowLimit) (t .owner) b (o + offset I′.mir 5) (into (Array u32 rowLimit) (t .owner) b (o + offset I′.mir 5) (part-lent 𝓤 H A W κ q I.the-row (Array u32 rowLimit) (λ o. o + offset I′.mir 5) (λ t. t .owner) wires-owner t b o γ)) ∷
-        lent usize (t .n) b (o + offset I′.mir 0) (into usize (t .n) b (o + offset I′.mir 0) (part-lent 𝓤 H A W κ q I.the-row usize (λ o. o + offset I′.mir 0) (λ t. t .n) wires-n t b o γ)) ∷ xs
+    abbrev pub inputs-columns : (t : Inputs) → Into 𝓤 H A W κ q (refTo 𝓤 H A W κ q I.the-row t b o γ) r → List (Arg 𝓤 H A W κ q r) → List (Arg 𝓤 H A W κ q r)
+    inputs-columns t into xs =
+        lent (Array u32 rowLimit) (t .controller) b (o + offset I′.mir 1) (into (Array u32 rowLimit) (t .controller) b (o + offset I′.mir 1) (part-lent 𝓤 H A W κ q I.the-row (Array u32 rowLimit) (λ o. o + offset I′.mir 1) (λ t. t .controller) inputs-controller t b o γ)) ∷
+        lent (Array u64 rowLimit) (t .input) b (o + offset I′.mir 2) (into (Array u64 rowLimit) (t .input) b (o + offset I′.mir 2) (part-lent 𝓤 H A W κ q I.the-row (Array u64 rowLimit) (λ o. o + offset I′.mir 2) (λ t. t .input) inputs-input t b o γ)) ∷
+        lent (Array u32 rowLimit) (t .trigger) b (o + offset I′.mir 3) (into (Array u32 rowLimit) (t .trigger) b (o + offset I′.mir 3) (part-lent 𝓤 H A W κ q I.the-row (Array u32 rowLimit) (λ o. o + offset I′.mir 3) (λ t. t .trigger) inputs-trigger t b o γ)) ∷
+        lent (Array u32 rowLimit) (t .sharing) b (o + offset I′.mir 4) (into (Array u32 rowLimit) (t .sharing) b (o + offset I′.mir 4) (part-lent 𝓤 H A W κ q I.the-row (Array u32 rowLimit) (λ o. o + offset I′.mir 4) (λ t. t .sharing) inputs-sharing t b o γ)) ∷
+        lent (Array u32 rowLimit) (t .owner) b (o + offset I′.mir 5) (into (Array u32 rowLimit) (t .owner) b (o + offset I′.mir 5) (part-lent 𝓤 H A W κ q I.the-row (Array u32 rowLimit) (λ o. o + offset I′.mir 5) (λ t. t .owner) inputs-owner t b o γ)) ∷
+        lent usize (t .n) b (o + offset I′.mir 0) (into usize (t .n) b (o + offset I′.mir 0) (part-lent 𝓤 H A W κ q I.the-row usize (λ o. o + offset I′.mir 0) (λ t. t .n) inputs-n t b o γ)) ∷ xs

@@ -13,7 +13,7 @@ use Rattle.tables.proofs.Pool as Pool′
 use Rattle.tables.proofs.Pools as Pools′
 use Rattle.tables.proofs.Pools.Laws as Pools″
 use Rattle.tables.proofs.Ranges as Ranges′
-use Rattle.tables.proofs.Wires as Wires′
+use Rattle.tables.proofs.Inputs as Inputs′
 use Rattle.tables.proofs.Holders as Holders′
 use Rattle.tables.proofs.Holders.Laws as Holders″
 use Rattle.tables.proofs.State as State′
@@ -91,8 +91,8 @@ module _ {M : Type 1} (𝓤 : URA M) (H : Heap 𝓤) (A : Atoms 𝓤) (W : Given
   pub pio-holder : Parts 𝓤 H A Holders′.the-row Ranges′.the-row (λ o. o + holder-at pio) (λ x. x .pio)
   pio-holder = struct-part 𝓤 H A W Holders′.the-type Holders″.the-laws Holders″.the-copy (holder-at pio) Ranges′.the-type (λ x. x .pio) (λ s x b o. look-at 𝓤 H A W s Holders′.the-type Holders″.the-laws 1 (holder-at pio) refl refl (b, o) x (Holders′.struct .as-values x) refl)
 
-  pub input-holder : Parts 𝓤 H A Holders′.the-row Wires′.the-row (λ o. o + holder-at input) (λ x. x .input)
-  input-holder = struct-part 𝓤 H A W Holders′.the-type Holders″.the-laws Holders″.the-copy (holder-at input) Wires′.the-type (λ x. x .input) (λ s x b o. look-at 𝓤 H A W s Holders′.the-type Holders″.the-laws 2 (holder-at input) refl refl (b, o) x (Holders′.struct .as-values x) refl)
+  pub input-holder : Parts 𝓤 H A Holders′.the-row Inputs′.the-row (λ o. o + holder-at input) (λ x. x .input)
+  input-holder = struct-part 𝓤 H A W Holders′.the-type Holders″.the-laws Holders″.the-copy (holder-at input) Inputs′.the-type (λ x. x .input) (λ s x b o. look-at 𝓤 H A W s Holders′.the-type Holders″.the-laws 2 (holder-at input) refl refl (b, o) x (Holders′.struct .as-values x) refl)
 
   pub host-holder : Parts 𝓤 H A Holders′.the-row Ranges′.the-row (λ o. o + holder-at host) (λ x. x .host)
   host-holder = struct-part 𝓤 H A W Holders′.the-type Holders″.the-laws Holders″.the-copy (holder-at host) Ranges′.the-type (λ x. x .host) (λ s x b o. look-at 𝓤 H A W s Holders′.the-type Holders″.the-laws 3 (holder-at host) refl refl (b, o) x (Holders′.struct .as-values x) refl)

@@ -11,8 +11,8 @@ see-range-requires c κs = rw (c .mmio .ensures, c .before .queried .ensures) (a
 see-range-requires-2 : tie.Need-see-range-requires-2
 see-range-requires-2 c κs = rw (c .pio .ensures, c .before .before .before .queried .ensures) (asks (c .before .before .before .before .args .s) (c .before .before .before .before .args .r) (c .before .before .before .before .pre) .pio)
 
-see-wire-requires : tie.Need-see-wire-requires
-see-wire-requires c κs = rw (c .input .ensures, c .before .before .before .before .before .queried .ensures) (asks (c .before .before .before .before .before .before .args .s) (c .before .before .before .before .before .before .args .r) (c .before .before .before .before .before .before .pre) .input)
+see-input-requires : tie.Need-see-input-requires
+see-input-requires c κs = rw (c .input .ensures, c .before .before .before .before .before .queried .ensures) (asks (c .before .before .before .before .before .before .args .s) (c .before .before .before .before .before .before .args .r) (c .before .before .before .before .before .before .pre) .input)
 
 see-range-requires-3 : tie.Need-see-range-requires-3
 see-range-requires-3 c κs = rw (c .host .ensures, c .before .before .before .before .before .before .before .queried .ensures) (asks (c .before .before .before .before .before .before .before .before .args .s) (c .before .before .before .before .before .before .before .before .args .r) (c .before .before .before .before .before .before .before .before .pre) .host)
@@ -30,7 +30,7 @@ returns : tie.Need-returns
 returns c = rw (c .verdict .ensures, c .before .before .before .before .before .before .before .before .before .before .before .before .before .before .before .queried .ensures) (finds (c .before .before .before .before .before .before .before .before .before .before .before .before .before .before .before .before .args .s) (c .before .before .before .before .before .before .before .before .before .before .before .before .before .before .before .before .args .r) _ _ _ _ _ _ _ (c .before .before .before .before .before .before .before .before .before .before .before .before .before .before .before .before .pre) (record {
   mmio = rw (c .before .before .before .before .before .before .before .before .before .before .before .before .before .before .mmio .ensures, c .before .before .before .before .before .before .before .before .before .before .before .before .before .before .before .queried .ensures) at (c .before .before .before .before .before .before .before .before .before .before .before .before .before .see-range .ensures);
   pio = rw (c .before .before .before .before .before .before .before .before .before .before .before .before .pio .ensures, c .before .before .before .before .before .before .before .before .before .before .before .before .before .before .before .queried .ensures) at (c .before .before .before .before .before .before .before .before .before .before .before .see-range2 .ensures);
-  input = rw (c .before .before .before .before .before .before .before .before .before .before .input .ensures, c .before .before .before .before .before .before .before .before .before .before .before .before .before .before .before .queried .ensures) at (c .before .before .before .before .before .before .before .before .before .see-wire .ensures);
+  input = rw (c .before .before .before .before .before .before .before .before .before .before .input .ensures, c .before .before .before .before .before .before .before .before .before .before .before .before .before .before .before .queried .ensures) at (c .before .before .before .before .before .before .before .before .before .see-input .ensures);
   host = rw (c .before .before .before .before .before .before .before .before .host .ensures, c .before .before .before .before .before .before .before .before .before .before .before .before .before .before .before .queried .ensures) at (c .before .before .before .before .before .before .before .see-range3 .ensures);
   device = rw (c .before .before .before .before .before .before .device .ensures, c .before .before .before .before .before .before .before .before .before .before .before .before .before .before .before .queried .ensures) at (c .before .before .before .before .before .see-range4 .ensures);
   event = rw (c .before .before .before .before .event .ensures, c .before .before .before .before .before .before .before .before .before .before .before .before .before .before .before .queried .ensures) at (c .before .before .before .see-range5 .ensures);
@@ -39,6 +39,6 @@ returns c = rw (c .verdict .ensures, c .before .before .before .before .before .
 
 pub find-spec : {M : Type 1} → statement M
 find-spec =
-    tie.close (tie.spec (λ c κs. search needs) (λ c κs. search needs) see-range-requires (λ c κs. search needs) see-range-requires-2 (λ c κs. search needs) see-wire-requires (λ c κs. search needs)
+    tie.close (tie.spec (λ c κs. search needs) (λ c κs. search needs) see-range-requires (λ c κs. search needs) see-range-requires-2 (λ c κs. search needs) see-input-requires (λ c κs. search needs)
     see-range-requires-3 (λ c κs. search needs) see-range-requires-4 (λ c κs. search needs) see-range-requires-5 (λ c κs. search needs) see-range-requires-6 (λ c κs. search needs)
     returns)

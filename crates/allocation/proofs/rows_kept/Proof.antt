@@ -1,7 +1,7 @@
 -- Each table with its own row, or as it was. Assumes nothing.
 use mathlib.Core.Path.{_∙_, ap}
 use Rattle.tables.specs.Whole.{holders}
-use Rattle.lent_table.specs.Store.{putRange, putWire}
+use Rattle.lent_table.specs.Store.{putRange, putInput}
 use borrow.Author.Needs.{needs}
 use Rattle.allocation.proofs.rows_kept.Statement.{statement}
 use Rattle.allocation.proofs.rows_kept.Tie as tie
@@ -12,8 +12,8 @@ put-range-requires c κs = rw (c .mmio .ensures) (c .before .pre .mmio)
 put-range-requires-2 : tie.Need-put-range-requires-2
 put-range-requires-2 c κs = rw (c .pio .ensures) (c .before .before .before .pre .pio)
 
-put-wire-requires : tie.Need-put-wire-requires
-put-wire-requires c κs = rw (c .input .ensures) (c .before .before .before .before .before .pre .input)
+put-input-requires : tie.Need-put-input-requires
+put-input-requires c κs = rw (c .input .ensures) (c .before .before .before .before .before .pre .input)
 
 put-range-requires-3 : tie.Need-put-range-requires-3
 put-range-requires-3 c κs = rw (c .host .ensures) (c .before .before .before .before .before .before .before .pre .host)
@@ -29,10 +29,10 @@ put-range-requires-6 c κs = rw (c .lpi .ensures) (c .before .before .before .be
 
 returns : tie.Need-returns
 returns c = let h = c .before .before .before .before .before .before .before .before .before .before .before .before .before .before .args .h in λ i.
-    holders ((c .before .before .before .before .before .before .before .before .before .before .before .before .put-range .ensures ∙ ap (putRange (h .mmio)) (c .before .before .before .before .before .before .before .before .before .before .before .before .before .mmio .ensures)) i) ((c .before .before .before .before .before .before .before .before .before .before .put-range2 .ensures ∙ ap (putRange (h .pio)) (c .before .before .before .before .before .before .before .before .before .before .before .pio .ensures)) i) ((c .before .before .before .before .before .before .before .before .put-wire .ensures ∙ ap (putWire (h .input)) (c .before .before .before .before .before .before .before .before .before .input .ensures)) i) ((c .before .before .before .before .before .before .put-range3 .ensures ∙ ap (putRange (h .host)) (c .before .before .before .before .before .before .before .host .ensures)) i)
+    holders ((c .before .before .before .before .before .before .before .before .before .before .before .before .put-range .ensures ∙ ap (putRange (h .mmio)) (c .before .before .before .before .before .before .before .before .before .before .before .before .before .mmio .ensures)) i) ((c .before .before .before .before .before .before .before .before .before .before .put-range2 .ensures ∙ ap (putRange (h .pio)) (c .before .before .before .before .before .before .before .before .before .before .before .pio .ensures)) i) ((c .before .before .before .before .before .before .before .before .put-input .ensures ∙ ap (putInput (h .input)) (c .before .before .before .before .before .before .before .before .before .input .ensures)) i) ((c .before .before .before .before .before .before .put-range3 .ensures ∙ ap (putRange (h .host)) (c .before .before .before .before .before .before .before .host .ensures)) i)
     ((c .before .before .before .before .put-range4 .ensures ∙ ap (putRange (h .device)) (c .before .before .before .before .before .device .ensures)) i) ((c .before .before .put-range5 .ensures ∙ ap (putRange (h .event)) (c .before .before .before .event .ensures)) i) ((c .put-range6 .ensures ∙ ap (putRange (h .lpi)) (c .before .lpi .ensures)) i)
 
 pub rows-kept-spec : {M : Type 1} → statement M
 rows-kept-spec =
-    tie.close (tie.spec (λ c κs. search needs) put-range-requires (λ c κs. search needs) put-range-requires-2 (λ c κs. search needs) put-wire-requires (λ c κs. search needs)
+    tie.close (tie.spec (λ c κs. search needs) put-range-requires (λ c κs. search needs) put-range-requires-2 (λ c κs. search needs) put-input-requires (λ c κs. search needs)
     put-range-requires-3 (λ c κs. search needs) put-range-requires-4 (λ c κs. search needs) put-range-requires-5 (λ c κs. search needs) put-range-requires-6 returns)

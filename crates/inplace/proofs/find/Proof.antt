@@ -15,26 +15,26 @@ use Rattle.tables.specs.declared.State.{State}
 use Rattle.tables.proofs.Pool as Po
 use Rattle.tables.proofs.Pools as Ps
 use Rattle.tables.proofs.Ranges as Ra
-use Rattle.tables.proofs.Wires as Wi
+use Rattle.tables.proofs.Inputs as Wi
 use Rattle.tables.proofs.Holders as Ho
 use Rattle.tables.proofs.State as T
 use Rattle.request.proofs.Request as R
 use Rattle.request.proofs.Request.Laws as R′
-use Rattle.lent_table.specs.Look.{Asks, Sees, WireAsks, SeesWire}
+use Rattle.lent_table.specs.Look.{Asks, Sees, InputAsks, SeesInput}
 use Rattle.decide.specs.Query.{queryOf, asked}
 use Rattle.decide.specs.Granted.{verdictOf}
 use Rattle.lent_table.specs.declared.look.Ask.{Ask}
-use Rattle.lent_table.specs.declared.look.WireAsk.{WireAsk}
+use Rattle.lent_table.specs.declared.look.InputAsk.{InputAsk}
 use Rattle.lent_table.specs.declared.look.Seen.{Seen}
 use Rattle.decide.specs.declared.Query.{Query}
 use Rattle.lent_table.proofs.look.Ask as K
 use Rattle.lent_table.proofs.look.Ask.Laws as K′
-use Rattle.lent_table.proofs.look.WireAsk as X
-use Rattle.lent_table.proofs.look.WireAsk.Laws as X′
+use Rattle.lent_table.proofs.look.InputAsk as X
+use Rattle.lent_table.proofs.look.InputAsk.Laws as X′
 use Rattle.lent_table.proofs.look.Seen as S
 use Rattle.lent_table.proofs.look.Seen.Laws as S′
 use Rattle.lent_table.proofs.look.range as range
-use Rattle.lent_table.proofs.look.wire as wire
+use Rattle.lent_table.proofs.look.input as inputs
 use Rattle.decide.proofs.Query as Q
 use Rattle.decide.proofs.Query.Laws as Q′
 use Rattle.decide.proofs.Granted as F
@@ -81,7 +81,7 @@ record Known {M : Type 1} (𝓤 : URA M) (H : Heap 𝓤) (A : Atoms 𝓤) (at-me
   k-ask-event : Triple 𝓤 (C ask-event.Symbol.name) (tripleOf 𝓤 H A ask-event.signature (ask-event.spec 𝓤 H A at-mem run))
   k-ask-lpi : Triple 𝓤 (C ask-lpi.Symbol.name) (tripleOf 𝓤 H A ask-lpi.signature (ask-lpi.spec 𝓤 H A at-mem run))
   k-range : Triple 𝓤 (C range.Symbol.name) (tripleOf 𝓤 H A range.signature (range.spec 𝓤 H A at-mem run))
-  k-wire : Triple 𝓤 (C wire.Symbol.name) (tripleOf 𝓤 H A wire.signature (wire.spec 𝓤 H A at-mem run))
+  k-input : Triple 𝓤 (C inputs.Symbol.name) (tripleOf 𝓤 H A inputs.signature (inputs.spec 𝓤 H A at-mem run))
   k-one : Triple 𝓤 (C one.Symbol.name) (tripleOf 𝓤 H A one.signature (one.spec 𝓤 H A at-mem run))
   k-verdict : Triple 𝓤 (C verdict.Symbol.name) (tripleOf 𝓤 H A verdict.signature (verdict.spec 𝓤 H A at-mem run))
 
@@ -226,14 +226,14 @@ module _ {M : Type 1} (𝓤 : URA M) (H : Heap 𝓤) (A : Atoms 𝓤) (W : Given
       range-seen : Asks (pl (h .auto)) (pl (h .fixed)) (own (h .owners)) x → Gives 𝓤 H A W (𝓣 .C) hold range.Symbol.name (flat (typesAt (slots 𝓤 H A W κ q r looked) (κ, tt)) (valsOf 𝓤 H A W κ q r looked)) (valueAs Se) (Sees (pl (h .auto)) (pl (h .fixed)) (own (h .owners)) x)
       range-seen asked = passing 𝓤 H A W κ q r (𝓣 .C) (fmOf 𝓤 H (W .laws) 𝓣) range.Symbol.name Se (Sees (pl (h .auto)) (pl (h .fixed)) (own (h .owners)) x) looked (range.ended .kept) (range.clauses 𝓤 H A at-mem run) (known .k-range) (λ γs. tt) (λ γs. factI 𝓤 _ (emp 𝓤) asked) (λ γs d e. id⊢ 𝓤 _)
 
-    module _ (x : WireAsk) (x-is : Is X.the-row x (Xs .val x ∷ [])) where
+    module _ (x : InputAsk) (x-is : Is X.the-row x (Xs .val x ∷ [])) where
       abbrev wired : List (Arg 𝓤 H A W κ q r)
       wired =
           auto-table 𝓤 H A W κ q r b o γ h into input (λ p. p .input) (input-pool 𝓤 H A W) ∷ fixed-table 𝓤 H A W κ q r b o γ h into input (λ p. p .input) (input-pool 𝓤 H A W) ∷
           owners-table 𝓤 H A W κ q r b o γ h into Wi.the-row input (λ p. p .input) (input-holder 𝓤 H A W) ∷ plainly X.the-row x (Xs .val x) (LL.makes X.the-type X′.the-plain 𝓤 H A x _ x-is) ∷ []
 
-      wire-seen : WireAsks (h .auto .input) (h .fixed .input) (h .owners .input) x → Gives 𝓤 H A W (𝓣 .C) hold wire.Symbol.name (flat (typesAt (slots 𝓤 H A W κ q r wired) (κ, tt)) (valsOf 𝓤 H A W κ q r wired)) (valueAs Se) (SeesWire (h .auto .input) (h .fixed .input) (h .owners .input) x)
-      wire-seen asked = passing 𝓤 H A W κ q r (𝓣 .C) (fmOf 𝓤 H (W .laws) 𝓣) wire.Symbol.name Se (SeesWire (h .auto .input) (h .fixed .input) (h .owners .input) x) wired (wire.ended .kept) (wire.clauses 𝓤 H A at-mem run) (known .k-wire) (λ γs. tt) (λ γs. factI 𝓤 _ (emp 𝓤) asked) (λ γs d e. id⊢ 𝓤 _)
+      inputs-seen : InputAsks (h .auto .input) (h .fixed .input) (h .owners .input) x → Gives 𝓤 H A W (𝓣 .C) hold inputs.Symbol.name (flat (typesAt (slots 𝓤 H A W κ q r wired) (κ, tt)) (valsOf 𝓤 H A W κ q r wired)) (valueAs Se) (SeesInput (h .auto .input) (h .fixed .input) (h .owners .input) x)
+      inputs-seen asked = passing 𝓤 H A W κ q r (𝓣 .C) (fmOf 𝓤 H (W .laws) 𝓣) inputs.Symbol.name Se (SeesInput (h .auto .input) (h .fixed .input) (h .owners .input) x) wired (inputs.ended .kept) (inputs.clauses 𝓤 H A at-mem run) (known .k-input) (λ γs. tt) (λ γs. factI 𝓤 _ (emp 𝓤) asked) (λ γs d e. id⊢ 𝓤 _)
 
     abbrev Ends : Body → Store → Type 1
     Ends c σ = Runs W (𝓣 .C) hold (f.Code.function .locals) (After 𝓤 H A W (f.signature .params) (f.ended .kept) Fo (f.clauses 𝓤 H A at-mem run) κ q bounds a vss tt) σ c
@@ -256,7 +256,7 @@ module _ {M : Type 1} (𝓤 : URA M) (H : Heap 𝓤) (A : Atoms 𝓤) (W : Given
         make (valueAs Fo) (verdictOf y z z z z z z z) (arg refl tt (arg refl tt nil)) (one-made y-is z z-is) tt refl (λ v-is. returned z z z z z z z v-is (pio-seen h z y yes z-seen) refl))))))) (λ no-pio.
         make (valueAs Bo) (asked y .input .go) (arg refl tt nil) (for-input-made y-is) tt refl (λ b-is. leave (asked y .input .go) refl tt (λ yes.
         point {b = b} {o = o} {a = (o + auto-at) + pool-at input} refl refl tt tt (tt, tt) (point {b = b} {o = o} {a = (o + fixed-at) + pool-at input} refl refl tt tt (tt, tt) (point {b = b} {o = o} {a = (o + owners-at) + holder-at input} refl refl tt tt (tt, tt) (make (valueAs Xs) (asked y .input) (arg refl tt nil) (input-made y-is) tt refl (λ x-is.
-        get (valueAs Se) (SeesWire (h .auto .input) (h .fixed .input) (h .owners .input) (asked y .input)) (arg refl tt (arg refl tt (arg refl tt (arg refl tt nil)))) (wire-seen (asked y .input) x-is (may .input)) tt refl (λ z z-is z-seen.
+        get (valueAs Se) (SeesInput (h .auto .input) (h .fixed .input) (h .owners .input) (asked y .input)) (arg refl tt (arg refl tt (arg refl tt (arg refl tt nil)))) (inputs-seen (asked y .input) x-is (may .input)) tt refl (λ z z-is z-seen.
         make (valueAs Fo) (verdictOf y z z z z z z z) (arg refl tt (arg refl tt nil)) (one-made y-is z z-is) tt refl (λ v-is. returned z z z z z z z v-is (input-seen h z y yes z-seen) refl))))))) (λ no-input.
         make (valueAs Bo) (asked y .host .go) (arg refl tt nil) (for-host-made y-is) tt refl (λ b-is. leave (asked y .host .go) refl tt (λ yes.
         point {b = b} {o = o} {a = (o + auto-at) + pool-at host} refl refl tt tt (tt, tt) (point {b = b} {o = o} {a = (o + fixed-at) + pool-at host} refl refl tt tt (tt, tt) (point {b = b} {o = o} {a = (o + owners-at) + holder-at host} refl refl tt tt (tt, tt) (make (valueAs As) (asked y .host) (arg refl tt nil) (host-made y-is) tt refl (λ x-is.
@@ -296,7 +296,7 @@ find-spec 𝓤 H 𝓜 𝓖 𝓡 =
       k-ask-event = cited 𝓤 H (tripleOf 𝓤 H (𝓖 .A) ask-event.signature (ask-event.spec 𝓤 H (𝓖 .A) (𝓜 .mem) (𝓡 .run))) 𝓜 𝓡 f.Code.env ask-event.Symbol.name ask-event.Symbol.routine f.Code.calls-decide·ask·event (ask-event.Met.met 𝓤 H 𝓜 𝓖 𝓡);
       k-ask-lpi = cited 𝓤 H (tripleOf 𝓤 H (𝓖 .A) ask-lpi.signature (ask-lpi.spec 𝓤 H (𝓖 .A) (𝓜 .mem) (𝓡 .run))) 𝓜 𝓡 f.Code.env ask-lpi.Symbol.name ask-lpi.Symbol.routine f.Code.calls-decide·ask·lpi (ask-lpi.Met.met 𝓤 H 𝓜 𝓖 𝓡);
       k-range = cited 𝓤 H (tripleOf 𝓤 H (𝓖 .A) range.signature (range.spec 𝓤 H (𝓖 .A) (𝓜 .mem) (𝓡 .run))) 𝓜 𝓡 f.Code.env range.Symbol.name range.Symbol.routine f.Code.calls-lent-table·look·range (range.Met.met 𝓤 H 𝓜 𝓖 𝓡);
-      k-wire = cited 𝓤 H (tripleOf 𝓤 H (𝓖 .A) wire.signature (wire.spec 𝓤 H (𝓖 .A) (𝓜 .mem) (𝓡 .run))) 𝓜 𝓡 f.Code.env wire.Symbol.name wire.Symbol.routine f.Code.calls-lent-table·look·wire (wire.Met.met 𝓤 H 𝓜 𝓖 𝓡);
+      k-input = cited 𝓤 H (tripleOf 𝓤 H (𝓖 .A) inputs.signature (inputs.spec 𝓤 H (𝓖 .A) (𝓜 .mem) (𝓡 .run))) 𝓜 𝓡 f.Code.env inputs.Symbol.name inputs.Symbol.routine f.Code.calls-lent-table·look·input (inputs.Met.met 𝓤 H 𝓜 𝓖 𝓡);
       k-one = cited 𝓤 H (tripleOf 𝓤 H (𝓖 .A) one.signature (one.spec 𝓤 H (𝓖 .A) (𝓜 .mem) (𝓡 .run))) 𝓜 𝓡 f.Code.env one.Symbol.name one.Symbol.routine f.Code.calls-decide·one (one.Met.met 𝓤 H 𝓜 𝓖 𝓡);
       k-verdict = cited 𝓤 H (tripleOf 𝓤 H (𝓖 .A) verdict.signature (verdict.spec 𝓤 H (𝓖 .A) (𝓜 .mem) (𝓡 .run))) 𝓜 𝓡 f.Code.env verdict.Symbol.name verdict.Symbol.routine f.Code.calls-decide·verdict (verdict.Met.met 𝓤 H 𝓜 𝓖 𝓡);
     }))

@@ -12,18 +12,18 @@ use Rattle.tables.proofs.Holders as Ho
 use Rattle.tables.proofs.Holders.Laws as Ho′
 use Rattle.tables.proofs.Ranges as Ra
 use Rattle.tables.proofs.Ranges.Laws as Ra′
-use Rattle.tables.proofs.Wires as Wi
-use Rattle.tables.proofs.Wires.Laws as Wi′
+use Rattle.tables.proofs.Inputs as Wi
+use Rattle.tables.proofs.Inputs.Laws as Wi′
 -- the callees
-use Rattle.lent_table.specs.Store.{Free, putRange, putWire}
+use Rattle.lent_table.specs.Store.{Free, putRange, putInput}
 use Rattle.lent_table.specs.declared.store.Put.{Put}
-use Rattle.lent_table.specs.declared.store.WirePut.{WirePut}
+use Rattle.lent_table.specs.declared.store.InputPut.{InputPut}
 use Rattle.lent_table.proofs.store.Put as Pu
 use Rattle.lent_table.proofs.store.Put.Laws as Pu′
-use Rattle.lent_table.proofs.store.WirePut as Wp
-use Rattle.lent_table.proofs.store.WirePut.Laws as Wp′
+use Rattle.lent_table.proofs.store.InputPut as Wp
+use Rattle.lent_table.proofs.store.InputPut.Laws as Wp′
 use Rattle.lent_table.proofs.store.range as range
-use Rattle.lent_table.proofs.store.wire as wire
+use Rattle.lent_table.proofs.store.input as inputs
 use Rattle.decide.specs.Granted.{puts}
 use Rattle.decide.specs.declared.Granted.{Granted}
 use Rattle.decide.proofs.Granted as Gr
@@ -44,7 +44,7 @@ use Rattle.inplace.proofs.KeepWalk.{keepCode, Way, Stage, Number, Says,
 use Rattle.inplace.proofs.keep as f
 
 -- the function's code is the walk's
-same-code : keepCode put-mmio.Symbol.name put-pio.Symbol.name put-input.Symbol.name put-host.Symbol.name put-device.Symbol.name put-event.Symbol.name put-lpi.Symbol.name range.Symbol.name wire.Symbol.name (T.the-row .written .ty) (Ra.the-row .written .ty) (Wi.the-row .written .ty) T′.mir Gr′.mir Pu′.mir Wp′.mir ≡ f.Code.function
+same-code : keepCode put-mmio.Symbol.name put-pio.Symbol.name put-input.Symbol.name put-host.Symbol.name put-device.Symbol.name put-event.Symbol.name put-lpi.Symbol.name range.Symbol.name inputs.Symbol.name (T.the-row .written .ty) (Ra.the-row .written .ty) (Wi.the-row .written .ty) T′.mir Gr′.mir Pu′.mir Wp′.mir ≡ f.Code.function
 same-code = refl
 
 abbrev valG : Granted → Val
@@ -53,7 +53,7 @@ valG d = LL.tuple-val Gr.the-type Gr′.the-laws (Gr.the-type .to d)
 abbrev valP : Put → Val
 valP d = LL.tuple-val Pu.the-type Pu′.the-laws (Pu.the-type .to d)
 
-abbrev valW : WirePut → Val
+abbrev valW : InputPut → Val
 valW d = LL.tuple-val Wp.the-type Wp′.the-laws (Wp.the-type .to d)
 
 -- a state with these owner tables and these numbers
@@ -89,8 +89,8 @@ module _ {M : Type 1} (𝓤 : URA M) (H : Heap 𝓤) (A : Atoms 𝓤) (W : Given
   abbrev Range : Contract 𝓤
   Range = tripleOf 𝓤 H A range.signature (range.spec 𝓤 H A at-mem run)
 
-  abbrev Wire : Contract 𝓤
-  Wire = tripleOf 𝓤 H A wire.signature (wire.spec 𝓤 H A at-mem run)
+  abbrev Inputs : Contract 𝓤
+  Inputs = tripleOf 𝓤 H A inputs.signature (inputs.spec 𝓤 H A at-mem run)
 
   -- what is known of the callees
   record Known (C : Calls 𝓤 H) : Type 1 where
@@ -102,7 +102,7 @@ module _ {M : Type 1} (𝓤 : URA M) (H : Heap 𝓤) (A : Atoms 𝓤) (W : Given
     put-event : Triple 𝓤 (C put-event.Symbol.name) Put-event
     put-lpi : Triple 𝓤 (C put-lpi.Symbol.name) Put-lpi
     range : Triple 𝓤 (C range.Symbol.name) Range
-    wire : Triple 𝓤 (C wire.Symbol.name) Wire
+    inputs : Triple 𝓤 (C inputs.Symbol.name) Inputs
 
   module _ (κ : Lft) (bounds : AllOutlive 1 (f.signature .outlives) (κ, tt)) (q : Share) (b o : ℕ) (γ : GName) (s : State) (d : Granted) (d-is : Is Gr.the-row d (valG d ∷ [])) (free : AllFree d (s .owners)) where
     abbrev x : RefT State × (Granted × Unit {0})
@@ -148,7 +148,7 @@ module _ {M : Type 1} (𝓤 : URA M) (H : Heap 𝓤) (A : Atoms 𝓤) (W : Given
     h₂ = holders (h₁ .mmio) (putRange (h₀ .pio) (puts (d .rows) .pio)) (h₁ .input) (h₁ .host) (h₁ .device) (h₁ .event) (h₁ .lpi)
 
     abbrev h₃ : Holders
-    h₃ = holders (h₂ .mmio) (h₂ .pio) (putWire (h₀ .input) (puts (d .rows) .input)) (h₂ .host) (h₂ .device) (h₂ .event) (h₂ .lpi)
+    h₃ = holders (h₂ .mmio) (h₂ .pio) (putInput (h₀ .input) (puts (d .rows) .input)) (h₂ .host) (h₂ .device) (h₂ .event) (h₂ .lpi)
 
     abbrev h₄ : Holders
     h₄ = holders (h₃ .mmio) (h₃ .pio) (h₃ .input) (putRange (h₀ .host) (puts (d .rows) .host)) (h₃ .device) (h₃ .event) (h₃ .lpi)
@@ -221,10 +221,10 @@ module _ {M : Type 1} (𝓤 : URA M) (H : Heap 𝓤) (A : Atoms 𝓤) (W : Given
           (made 𝓤 H A W C fm put-pio.Symbol.name (put-pio.signature .params) (put-pio.ended .kept) Pu.the-row valP (LL.tells Pu.the-type Pu′.the-laws) (put-pio.clauses 𝓤 H A at-mem run) (known .put-pio) (d, tt) (valG d ∷ [], tt) tt (puts (d .rows) .pio) granted-owned (id⊢ 𝓤 _) (λ e z. id⊢ 𝓤 _))
           (put-at 𝓤 H A W fullShare Ho.the-type Ho′.the-laws 1 (offset Ho′.mir 1) refl refl (b, oH) h₁ h₂ (Ho.struct .as-values h₁) (putRange (h₀ .pio) (puts (d .rows) .pio)) refl refl)
 
-      s₂ : StageAt Wi.the-row Wp′.mir wire.Symbol.name put-input.Symbol.name (valG d ∷ []) 2 (at-owners h₂) (at-owners h₃)
+      s₂ : StageAt Wi.the-row Wp′.mir inputs.Symbol.name put-input.Symbol.name (valG d ∷ []) 2 (at-owners h₂) (at-owners h₃)
       s₂ = record {
         was = h₀ .input;
-        is = putWire (h₀ .input) (puts (d .rows) .input);
+        is = putInput (h₀ .input) (puts (d .rows) .input);
         row = valW (puts (d .rows) .input);
         spot = oH + offset Ho′.mir 2;
         type = Wi′.mir;
@@ -233,9 +233,9 @@ module _ {M : Type 1} (𝓤 : URA M) (H : Heap 𝓤) (A : Atoms 𝓤) (W : Given
         typed = λ good. LL.lawful Wp.the-type Wp′.the-laws 𝓤 H A W .typed (puts (d .rows) .input) _ good .0;
         makes = made 𝓤 H A W C fm put-input.Symbol.name (put-input.signature .params) (put-input.ended .kept) Wp.the-row valW (LL.tells Wp.the-type Wp′.the-laws) (put-input.clauses 𝓤 H A at-mem run) (known .put-input) (d, tt) (valG d ∷ [], tt) tt (puts (d .rows) .input) granted-owned (id⊢ 𝓤 _) (λ e z. id⊢ 𝓤 _);
         leaves = λ good.
-            left 𝓤 H A W C fm wire.Symbol.name Wi.the-row Wp.the-row tt (wire.clauses 𝓤 H A at-mem run) (known .wire) b (oH + offset Ho′.mir 2) (h₀ .input) (putWire (h₀ .input) (puts (d .rows) .input)) (puts (d .rows) .input) (valW (puts (d .rows) .input)) (λ ν γ₁. tt) (LL.makes Wp.the-type Wp′.the-plain 𝓤 H A (puts (d .rows) .input) _ good)
+            left 𝓤 H A W C fm inputs.Symbol.name Wi.the-row Wp.the-row tt (inputs.clauses 𝓤 H A at-mem run) (known .inputs) b (oH + offset Ho′.mir 2) (h₀ .input) (putInput (h₀ .input) (puts (d .rows) .input)) (puts (d .rows) .input) (valW (puts (d .rows) .input)) (λ ν γ₁. tt) (LL.makes Wp.the-type Wp′.the-plain 𝓤 H A (puts (d .rows) .input) _ good)
             (λ ν γ₁. factI 𝓤 (Free (h₀ .input .n) (puts (d .rows) .input .go)) (emp 𝓤) (free .input)) (λ ν γ₁ ws. id⊢ 𝓤 _);
-        piece = cut-record 𝓤 H A fullShare Ho.the-row Wi.the-type (offset Ho′.mir 2) h₂ h₃ (h₀ .input) (putWire (h₀ .input) (puts (d .rows) .input)) (b, oH) (put-at 𝓤 H A W fullShare Ho.the-type Ho′.the-laws 2 (offset Ho′.mir 2) refl refl (b, oH) h₂ h₃ (Ho.struct .as-values h₂) (putWire (h₀ .input) (puts (d .rows) .input)) refl refl);
+        piece = cut-record 𝓤 H A fullShare Ho.the-row Wi.the-type (offset Ho′.mir 2) h₂ h₃ (h₀ .input) (putInput (h₀ .input) (puts (d .rows) .input)) (b, oH) (put-at 𝓤 H A W fullShare Ho.the-type Ho′.the-laws 2 (offset Ho′.mir 2) refl refl (b, oH) h₂ h₃ (Ho.struct .as-values h₂) (putInput (h₀ .input) (puts (d .rows) .input)) refl refl);
       }
 
       s₃ : StageAt Ra.the-row Pu′.mir range.Symbol.name put-host.Symbol.name (valG d ∷ []) 3 (at-owners h₃) (at-owners h₄)
@@ -296,9 +296,9 @@ module _ {M : Type 1} (𝓤 : URA M) (H : Heap 𝓤) (A : Atoms 𝓤) (W : Given
       a₃ : SaysAt 3 (d .said .detail)
       a₃ = record { spot = offset Gr′.mir 2 + offset Sa′.mir 3; fits = d-wt .1 .1 .1 .0 .1 .1 .1 .0 .fits; way = λ E l Δ. fld ! refl (fld ! refl (stop !)); reads = λ l i Δ. look-in ! 1 (sub ! 3 refl (sub ! 2 refl (whole !))) }
 
-      inside : ent 𝓤 (⋆ 𝓤 H A (Left s)) (WpFn 𝓤 H C Λ (keepCode put-mmio.Symbol.name put-pio.Symbol.name put-input.Symbol.name put-host.Symbol.name put-device.Symbol.name put-event.Symbol.name put-lpi.Symbol.name range.Symbol.name wire.Symbol.name (T.the-row .written .ty) (Ra.the-row .written .ty) (Wi.the-row .written .ty) T′.mir Gr′.mir Pu′.mir Wp′.mir) (vptr b o ∷ valG d ∷ []) Post)
+      inside : ent 𝓤 (⋆ 𝓤 H A (Left s)) (WpFn 𝓤 H C Λ (keepCode put-mmio.Symbol.name put-pio.Symbol.name put-input.Symbol.name put-host.Symbol.name put-device.Symbol.name put-event.Symbol.name put-lpi.Symbol.name range.Symbol.name inputs.Symbol.name (T.the-row .written .ty) (Ra.the-row .written .ty) (Wi.the-row .written .ty) T′.mir Gr′.mir Pu′.mir Wp′.mir) (vptr b o ∷ valG d ∷ []) Post)
       inside =
-          keep-walk 𝓤 H A W C T′.mir Gr′.mir b o (valG d) Λ fm T.the-row κ q γ s (kept d s) d-wt put-mmio.Symbol.name put-pio.Symbol.name put-input.Symbol.name put-host.Symbol.name put-device.Symbol.name put-event.Symbol.name put-lpi.Symbol.name range.Symbol.name wire.Symbol.name (T.the-row .written .ty) (Ra.the-row .written .ty) (Wi.the-row .written .ty) Pu′.mir Wp′.mir Ra.the-row Wi.the-row
+          keep-walk 𝓤 H A W C T′.mir Gr′.mir b o (valG d) Λ fm T.the-row κ q γ s (kept d s) d-wt put-mmio.Symbol.name put-pio.Symbol.name put-input.Symbol.name put-host.Symbol.name put-device.Symbol.name put-event.Symbol.name put-lpi.Symbol.name range.Symbol.name inputs.Symbol.name (T.the-row .written .ty) (Ra.the-row .written .ty) (Wi.the-row .written .ty) Pu′.mir Wp′.mir Ra.the-row Wi.the-row
           (at-owners h₀) (at-owners h₁) (at-owners h₂) (at-owners h₃) (at-owners h₄) (at-owners h₅) (at-owners h₆) (at-owners h₇) (at-state u₀) (at-state u₁) (at-state u₂) (at-state u₃) (at-state u₄) (d .said .number) (d .said .namespace) (d .said .owner) (d .said .detail)
           s₀ s₁ s₂ s₃ s₄ s₅ s₆ inner m₀ m₁ m₂ m₃ m₄ a₀ a₁ a₂ a₃ Post exits
 
@@ -332,5 +332,5 @@ keep-spec 𝓤 H 𝓜 𝓖 𝓡 =
       put-event = cited 𝓤 H (Put-event 𝓤 H (𝓖 .A) (givenOf 𝓤 H 𝓜 𝓖) (𝓜 .mem) (𝓡 .run)) 𝓜 𝓡 f.Code.env put-event.Symbol.name put-event.Symbol.routine f.Code.calls-decide·put·event (put-event.Met.met 𝓤 H 𝓜 𝓖 𝓡);
       put-lpi = cited 𝓤 H (Put-lpi 𝓤 H (𝓖 .A) (givenOf 𝓤 H 𝓜 𝓖) (𝓜 .mem) (𝓡 .run)) 𝓜 𝓡 f.Code.env put-lpi.Symbol.name put-lpi.Symbol.routine f.Code.calls-decide·put·lpi (put-lpi.Met.met 𝓤 H 𝓜 𝓖 𝓡);
       range = cited 𝓤 H (Range 𝓤 H (𝓖 .A) (givenOf 𝓤 H 𝓜 𝓖) (𝓜 .mem) (𝓡 .run)) 𝓜 𝓡 f.Code.env range.Symbol.name range.Symbol.routine f.Code.calls-lent-table·store·range (range.Met.met 𝓤 H 𝓜 𝓖 𝓡);
-      wire = cited 𝓤 H (Wire 𝓤 H (𝓖 .A) (givenOf 𝓤 H 𝓜 𝓖) (𝓜 .mem) (𝓡 .run)) 𝓜 𝓡 f.Code.env wire.Symbol.name wire.Symbol.routine f.Code.calls-lent-table·store·wire (wire.Met.met 𝓤 H 𝓜 𝓖 𝓡);
+      inputs = cited 𝓤 H (Inputs 𝓤 H (𝓖 .A) (givenOf 𝓤 H 𝓜 𝓖) (𝓜 .mem) (𝓡 .run)) 𝓜 𝓡 f.Code.env inputs.Symbol.name inputs.Symbol.routine f.Code.calls-lent-table·store·input (inputs.Met.met 𝓤 H 𝓜 𝓖 𝓡);
     })

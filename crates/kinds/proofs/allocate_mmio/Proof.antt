@@ -2,13 +2,13 @@
 use mathlib.Core.Path.{refl, sym, _∙_}
 use Rattle.definition.specs.Request.{claims}
 use Rattle.kinds.proofs.SetLaws.{range-serves}
-use Rattle.request.proofs.GoodLaws.{request-says, memory-says}
+use Rattle.request.proofs.GoodLaws.{request-says, mmio-says}
 use borrow.Author.Needs.{needs}
 use Rattle.kinds.proofs.allocate_mmio.Statement.{statement}
 use Rattle.kinds.proofs.allocate_mmio.Tie as tie
 
 range-answer-requires : tie.Need-range-answer-requires
-range-answer-requires c κs = (c .mmio-limits .ensures, (refl, λ h. let g = memory-says _ _ _ (request-says _ (sym (c .before .good-request .ensures) ∙ h)) in record { size = g .size; align = g .align }))
+range-answer-requires c κs = (c .mmio-limits .ensures, (refl, λ h. let g = mmio-says _ _ _ (request-says _ (sym (c .before .good-request .ensures) ∙ h)) in record { size = g .size; alignment = g .alignment }))
 
 returns : tie.Need-returns
 unfolding claims

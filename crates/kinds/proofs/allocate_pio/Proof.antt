@@ -2,13 +2,13 @@
 use mathlib.Core.Path.{refl, sym, _∙_}
 use Rattle.definition.specs.Request.{claims}
 use Rattle.kinds.proofs.SetLaws.{range-serves}
-use Rattle.request.proofs.GoodLaws.{request-says, ports-says}
+use Rattle.request.proofs.GoodLaws.{request-says, pio-says}
 use borrow.Author.Needs.{needs}
 use Rattle.kinds.proofs.allocate_pio.Statement.{statement}
 use Rattle.kinds.proofs.allocate_pio.Tie as tie
 
 range-answer-requires : tie.Need-range-answer-requires
-range-answer-requires c κs = (c .pio-limits .ensures, (refl, λ h. let g = ports-says _ _ _ (request-says _ (sym (c .before .good-request .ensures) ∙ h)) in record { size = g .size; align = g .align }))
+range-answer-requires c κs = (c .pio-limits .ensures, (refl, λ h. let g = pio-says _ _ _ (request-says _ (sym (c .before .good-request .ensures) ∙ h)) in record { size = g .size; alignment = g .alignment }))
 
 returns : tie.Need-returns
 unfolding claims

@@ -11,7 +11,7 @@ grant-range-requires : tie.Need-grant-range-requires
 grant-range-requires c κs =
     let p = ranges-passed (c .before .before .before .before .before .before .args .need .kind) (c .before .before .before .before .before .before .pre .1 .0) _ _ _ _ (rw (c .before .before .before .before .before .before .pre .0) at (sym (c .before .before .ranges-set .ensures) ∙ c .before .if1 .taken)) in
     let k = c .before .before .before .before .before .before .pre .1 .1 (c .if2 .taken) in
-    (p .order, p .fixed-count, p .rows, k .size, k .align)
+    (p .order, p .fixed-count, p .rows, k .size, k .alignment)
 
 returns : tie.Need-returns
 returns c = let g = c .before .grant-range .ensures in record { answer = served-stands _ _ _ _ (rw (c .before .before .before .before .before .before .before .before .pre .0) at (sym (c .before .before .before .before .ranges-set .ensures) ∙ c .before .before .before .if1 .taken)) (c .before .before .if2 .taken) (g .answer); auto = refl; fixed = refl; held = refl; owners = g .table }

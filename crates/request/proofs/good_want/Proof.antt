@@ -1,19 +1,19 @@
 -- The test of the kind. Assumes nothing.
 use mathlib.Core.Path.{_∙_}
 use Rattle.definition.specs.Request.{goodWant}
-use Rattle.request.proofs.GoodLaws.{memory-good, ports-good}
+use Rattle.request.proofs.GoodLaws.{mmio-good, pio-good}
 use borrow.Author.Needs.{needs}
 use Rattle.request.proofs.good_want.Statement.{statement}
 use Rattle.request.proofs.good_want.Tie as tie
 
 returns : tie.Need-returns
-returns c = rw (c .before .before .want .given .1) (c .good-span .ensures ∙ memory-good _ _ _)
+returns c = rw (c .before .before .want .given .1) (c .good-span .ensures ∙ mmio-good _ _ _)
 
 returns-2 : tie.Need-returns-2
-returns-2 c = rw (c .before .before .want2 .given .1) (c .good-span2 .ensures ∙ ports-good _ _ _ (search needs))
+returns-2 c = rw (c .before .before .want2 .given .1) (c .good-span2 .ensures ∙ pio-good _ _ _ (search needs))
 
 returns-3 : tie.Need-returns-3
-returns-3 c = rw (c .before .before .want3 .given .1) (c .good-wire .ensures)
+returns-3 c = rw (c .before .before .want3 .given .1) (c .good-input .ensures)
 
 returns-4 : tie.Need-returns-4
 unfolding goodWant

@@ -16,7 +16,7 @@ pio-passed : (c : tie.Else2) → setOf (c .before .before .before .before .befor
 pio-passed c = sym (rw (c .before .before .pio-limits .ensures) at (c .before .ranges-set2 .ensures)) ∙ not-false (c .before .ranges-set2 .result) (c .if2 .left)
 
 input-passed : (c : tie.Else3) → setOf (c .before .before .before .before .before .before .before .before .args .s) input ≡ true
-input-passed c = sym (c .before .wires-set .ensures) ∙ not-false (c .before .wires-set .result) (c .if3 .left)
+input-passed c = sym (c .before .inputs-set .ensures) ∙ not-false (c .before .inputs-set .result) (c .if3 .left)
 
 host-passed : (c : tie.Else4) → setOf (c .before .before .before .before .before .before .before .before .before .before .before .args .s) host ≡ true
 host-passed c = sym (rw (c .before .before .host-limits .ensures) at (c .before .ranges-set3 .ensures)) ∙ not-false (c .before .ranges-set3 .result) (c .if4 .left)
@@ -34,7 +34,7 @@ returns-2 : tie.Need-returns-2
 returns-2 c = sym (sound-is (c .before .before .before .before .before .before .args .s) ∙ rw (mmio-passed (c .before .before .before), sym (rw (c .before .before .pio-limits .ensures) at (c .before .ranges-set2 .ensures)) ∙ not-true (c .before .ranges-set2 .result) (c .if2 .taken)))
 
 returns-3 : tie.Need-returns-3
-returns-3 c = sym (sound-is (c .before .before .before .before .before .before .before .before .args .s) ∙ rw (mmio-passed (c .before .before .before .before .before), pio-passed (c .before .before), sym (c .before .wires-set .ensures) ∙ not-true (c .before .wires-set .result) (c .if3 .taken)))
+returns-3 c = sym (sound-is (c .before .before .before .before .before .before .before .before .args .s) ∙ rw (mmio-passed (c .before .before .before .before .before), pio-passed (c .before .before), sym (c .before .inputs-set .ensures) ∙ not-true (c .before .inputs-set .result) (c .if3 .taken)))
 
 returns-4 : tie.Need-returns-4
 returns-4 c = sym (sound-is (c .before .before .before .before .before .before .before .before .before .before .before .args .s) ∙ rw (mmio-passed (c .before .before .before .before .before .before .before .before), pio-passed (c .before .before .before .before .before), input-passed (c .before .before .before), sym (rw (c .before .before .host-limits .ensures) at (c .before .ranges-set3 .ensures)) ∙ not-true (c .before .ranges-set3 .result) (c .if4 .taken)))

@@ -98,7 +98,7 @@ fn nobodys() -> Request
     Request {
         requester: 0,
         slot: 0,
-        want: Want::HostIrq {
+        want: Want::Host {
             choice: Choice::Auto,
         },
     }

@@ -7,7 +7,7 @@ use Rattle.adding.proofs.holds.of_events.Statement.{statement}
 use Rattle.adding.proofs.holds.of_events.Tie as tie
 
 returns : tie.Need-returns
-returns c = record { is = rw (c .rows .ensures, c .before .wire .ensures, c .before .before .row .ensures .is, c .before .before .before .before .wide .ensures .0, c .before .before .before .wide2 .ensures .0); fit = ((λ e. range-fits event _ _ (c .before .before .row .ensures .controller) (c .before .before .row .ensures .its) _ _ (c .before .before .before .before .wide .ensures .1) (c .before .before .before .wide2 .ensures .1) refl _ (c .before .before .row .ensures .device) _ (c .before .before .row .ensures .owner)), tt) }
+returns c = record { is = rw (c .rows .ensures, c .before .input-row .ensures, c .before .before .row .ensures .is, c .before .before .before .before .wide .ensures .0, c .before .before .before .wide2 .ensures .0); fit = ((λ e. range-fits event _ _ (c .before .before .row .ensures .controller) (c .before .before .row .ensures .its) _ _ (c .before .before .before .before .wide .ensures .1) (c .before .before .before .wide2 .ensures .1) refl _ (c .before .before .row .ensures .device) _ (c .before .before .row .ensures .owner)), tt) }
 
 pub of-events-spec : {M : Type 1} → statement M
 of-events-spec =

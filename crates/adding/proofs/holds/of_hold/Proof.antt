@@ -9,16 +9,16 @@ use Rattle.adding.proofs.holds.of_hold.Statement.{statement}
 use Rattle.adding.proofs.holds.of_hold.Tie as tie
 
 returns : tie.Need-returns
-returns c = rw (c .before .before .before .before .h .given .1) (record { is = rw (c .rows .ensures, c .before .wire .ensures, c .before .before .row .ensures .is); fit = ((λ e. range-fits mmio 0 0 (omega arith) (omega arith) _ _ (c .before .before .row .ensures .start) (c .before .before .row .ensures .end) refl 0 (omega arith) _ (c .before .before .row .ensures .owner)), tt) })
+returns c = rw (c .before .before .before .before .h .given .1) (record { is = rw (c .rows .ensures, c .before .input-row .ensures, c .before .before .row .ensures .is); fit = ((λ e. range-fits mmio 0 0 (omega arith) (omega arith) _ _ (c .before .before .row .ensures .start) (c .before .before .row .ensures .end) refl 0 (omega arith) _ (c .before .before .row .ensures .owner)), tt) })
 
 returns-2 : tie.Need-returns-2
-returns-2 c = rw (c .before .before .before .before .before .before .h2 .given .1) (record { is = rw (c .rows2 .ensures, c .before .wire2 .ensures, c .before .before .row2 .ensures .is, c .before .before .before .wide162 .ensures .0, c .before .before .before .before .wide16 .ensures .0); fit = ((λ e. range-fits pio 0 0 (omega arith) (omega arith) _ _ (c .before .before .before .before .wide16 .ensures .1) (c .before .before .before .wide162 .ensures .1) refl 0 (omega arith) _ (c .before .before .row2 .ensures .owner)), tt) })
+returns-2 c = rw (c .before .before .before .before .before .before .h2 .given .1) (record { is = rw (c .rows2 .ensures, c .before .input-row2 .ensures, c .before .before .row2 .ensures .is, c .before .before .before .wide162 .ensures .0, c .before .before .before .before .wide16 .ensures .0); fit = ((λ e. range-fits pio 0 0 (omega arith) (omega arith) _ _ (c .before .before .before .before .wide16 .ensures .1) (c .before .before .before .wide162 .ensures .1) refl 0 (omega arith) _ (c .before .before .row2 .ensures .owner)), tt) })
 
 returns-3 : tie.Need-returns-3
-returns-3 c = rw (c .before .before .before .before .h3 .given .1) (record { is = rw (c .rows3 .ensures, c .before .wire3 .ensures, c .before .before .row3 .ensures .is); fit = ((λ e. range-fits host 0 0 (omega arith) (omega arith) _ _ (c .before .before .row3 .ensures .start) (c .before .before .row3 .ensures .end) refl 0 (omega arith) _ (c .before .before .row3 .ensures .owner)), tt) })
+returns-3 c = rw (c .before .before .before .before .h3 .given .1) (record { is = rw (c .rows3 .ensures, c .before .input-row3 .ensures, c .before .before .row3 .ensures .is); fit = ((λ e. range-fits host 0 0 (omega arith) (omega arith) _ _ (c .before .before .row3 .ensures .start) (c .before .before .row3 .ensures .end) refl 0 (omega arith) _ (c .before .before .row3 .ensures .owner)), tt) })
 
 returns-4 : tie.Need-returns-4
-returns-4 c = rw (c .before .before .before .before .h4 .given .1) (record { is = rw (c .rows4 .ensures, c .before .wire4 .ensures, c .before .before .no-row .ensures); fit = ((λ e. absurd (true≢false e)), tt) })
+returns-4 c = rw (c .before .before .before .before .h4 .given .1) (record { is = rw (c .rows4 .ensures, c .before .input-row4 .ensures, c .before .before .no-row .ensures); fit = ((λ e. absurd (true≢false e)), tt) })
 
 returns-5 : tie.Need-returns-5
 returns-5 c = rw (c .before .before .h5 .given .1) (c .of-devices .ensures)

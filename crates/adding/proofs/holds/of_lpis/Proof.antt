@@ -8,7 +8,7 @@ use Rattle.adding.proofs.holds.of_lpis.Statement.{statement}
 use Rattle.adding.proofs.holds.of_lpis.Tie as tie
 
 returns : tie.Need-returns
-returns c = record { is = rw (c .rows .ensures, c .before .wire .ensures, c .before .before .row .ensures .is, c .before .before .before .before .wide .ensures .0, c .before .before .before .wide2 .ensures .0); fit = ((λ e. range-fits lpi _ _ (c .before .before .row .ensures .controller) (omega arith) _ _ (c .before .before .before .before .wide .ensures .1) (c .before .before .before .wide2 .ensures .1) refl 0 (omega arith) _ (c .before .before .row .ensures .owner)), tt) }
+returns c = record { is = rw (c .rows .ensures, c .before .input-row .ensures, c .before .before .row .ensures .is, c .before .before .before .before .wide .ensures .0, c .before .before .before .wide2 .ensures .0); fit = ((λ e. range-fits lpi _ _ (c .before .before .row .ensures .controller) (omega arith) _ _ (c .before .before .before .before .wide .ensures .1) (c .before .before .before .wide2 .ensures .1) refl 0 (omega arith) _ (c .before .before .row .ensures .owner)), tt) }
 
 pub of-lpis-spec : {M : Type 1} → statement M
 of-lpis-spec =

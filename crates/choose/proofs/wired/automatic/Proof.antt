@@ -2,7 +2,7 @@
 use native.Mathlib.Omega.{arith}
 use mathlib.Core.Path.{refl, _∙_}
 use Rattle.definition.specs.Request.{rowAt}
-use Rattle.search.proofs.InputLaws.{wire-lowest}
+use Rattle.search.proofs.InputLaws.{bare-lowest}
 use Rattle.choose.proofs.PlaceLaws.{auto-none, auto-some}
 use borrow.Author.Needs.{needs}
 use Rattle.choose.proofs.wired.automatic.Statement.{statement}
@@ -14,11 +14,11 @@ add-e c =
     omega arith
 
 returns : tie.Need-returns
-returns c = λ fs t s o. auto-none _ fs _ _ 3 refl (rw (c .enum-told .given .1) at (c .before .before .find-input .ensures .is t s o) ∙ wire-lowest _ _ _ _ _ _)
+returns c = λ fs t s o. auto-none _ fs _ _ 3 refl (rw (c .enum-told .given .1) at (c .before .before .find-input .ensures .is t s o) ∙ bare-lowest _ _ _ _ _ _)
 
 returns-2 : tie.Need-returns-2
 unfolding rowAt
-returns-2 c = λ fs t s o. auto-some _ fs _ _ _ (rw (c .before .found .given .1) at (c .before .before .before .find-input .ensures .is t s o) ∙ wire-lowest _ _ _ _ _ _)
+returns-2 c = λ fs t s o. auto-some _ fs _ _ _ (rw (c .before .found .given .1) at (c .before .before .before .find-input .ensures .is t s o) ∙ bare-lowest _ _ _ _ _ _)
 
 pub automatic-spec : {M : Type 1} → statement M
 automatic-spec =

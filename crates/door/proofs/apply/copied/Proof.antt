@@ -5,8 +5,8 @@ use Rattle.tables.specs.Whole.{holders}
 use Rattle.tables.specs.declared.State.{State}
 use Rattle.tables.proofs.Ranges as Ra
 use Rattle.tables.proofs.Ranges.Laws as Ra′
-use Rattle.tables.proofs.Wires as Wi
-use Rattle.tables.proofs.Wires.Laws as Wi′
+use Rattle.tables.proofs.Inputs as Wi
+use Rattle.tables.proofs.Inputs.Laws as Wi′
 use Rattle.tables.proofs.Holders.Laws as Ho′
 use Rattle.tables.proofs.State as T
 use Rattle.tables.proofs.State.Laws as T′

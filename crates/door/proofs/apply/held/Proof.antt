@@ -11,21 +11,21 @@ use Rattle.tables.proofs.State as T
 use Rattle.tables.proofs.State.Laws as T′
 use Rattle.tables.proofs.Ranges as Ra
 use Rattle.tables.proofs.Ranges.Laws as Ra′
-use Rattle.tables.proofs.Wires as Wi
+use Rattle.tables.proofs.Inputs as Wi
 use Rattle.tables.proofs.Holders.Laws as Ho′
 use Rattle.walks.proofs.Columns.{offset}
-use Rattle.lent_table.specs.Store.{Free, putRange, putWire}
+use Rattle.lent_table.specs.Store.{Free, putRange, putInput}
 use Rattle.lent_table.specs.declared.store.Put.{Put}
-use Rattle.lent_table.specs.declared.store.WirePut.{WirePut}
+use Rattle.lent_table.specs.declared.store.InputPut.{InputPut}
 use Rattle.lent_table.proofs.store.Put as Pu
 use Rattle.lent_table.proofs.store.Put.Laws as Pu′
-use Rattle.lent_table.proofs.store.WirePut as Wp
-use Rattle.lent_table.proofs.store.WirePut.Laws as Wp′
+use Rattle.lent_table.proofs.store.InputPut as Wp
+use Rattle.lent_table.proofs.store.InputPut.Laws as Wp′
 use Rattle.lent_table.proofs.store.range as r
-use Rattle.lent_table.proofs.store.wire as w
+use Rattle.lent_table.proofs.store.input as w
 use Rattle.inplace.proofs.LendPart.{Makes}
 use Rattle.inplace.proofs.Callees.{made}
-use Rattle.adding.specs.Judged.{heldPutOf, wirePutOf}
+use Rattle.adding.specs.Judged.{heldPutOf, inputPutOf}
 use Rattle.adding.specs.declared.Verdict.{Verdict}
 use Rattle.adding.proofs.Verdict as Ve
 use Rattle.adding.proofs.Verdict.Laws as Ve′
@@ -63,7 +63,7 @@ valV x = LL.val Ve.the-type Ve′.the-laws x
 abbrev valP : Put → Val
 valP d = LL.val Pu.the-type Pu′.the-laws d
 
-abbrev valW : WirePut → Val
+abbrev valW : InputPut → Val
 valW d = LL.val Wp.the-type Wp′.the-laws d
 
 module _ {M : Type 1} (𝓤 : URA M) (H : Heap 𝓤) (A : Atoms 𝓤) (at-mem : Memory → SProp 𝓤) (run : Routine → Fun 𝓤) (W : Given 𝓤 H A) (𝓣 : Tables 𝓤 H) (known₀ : Triple 𝓤 (𝓣 .C p₀.Symbol.name) (tripleOf 𝓤 H A p₀.signature (p₀.spec 𝓤 H A at-mem run))) (known₁ : Triple 𝓤 (𝓣 .C p₁.Symbol.name) (tripleOf 𝓤 H A p₁.signature (p₁.spec 𝓤 H A at-mem run))) (known₂ : Triple 𝓤 (𝓣 .C p₂.Symbol.name) (tripleOf 𝓤 H A p₂.signature (p₂.spec 𝓤 H A at-mem run))) (known₃ : Triple 𝓤 (𝓣 .C p₃.Symbol.name) (tripleOf 𝓤 H A p₃.signature (p₃.spec 𝓤 H A at-mem run))) (known₄ : Triple 𝓤 (𝓣 .C p₄.Symbol.name) (tripleOf 𝓤 H A p₄.signature (p₄.spec 𝓤 H A at-mem run))) (known₅ : Triple 𝓤 (𝓣 .C p₅.Symbol.name) (tripleOf 𝓤 H A p₅.signature (p₅.spec 𝓤 H A at-mem run))) (known-x : Triple 𝓤 (𝓣 .C x.Symbol.name) (tripleOf 𝓤 H A x.signature (x.spec 𝓤 H A at-mem run))) (known-r : Triple 𝓤 (𝓣 .C r.Symbol.name) (tripleOf 𝓤 H A r.signature (r.spec 𝓤 H A at-mem run))) (known-w : Triple 𝓤 (𝓣 .C w.Symbol.name) (tripleOf 𝓤 H A w.signature (w.spec 𝓤 H A at-mem run))) where
@@ -78,19 +78,19 @@ module _ {M : Type 1} (𝓤 : URA M) (H : Heap 𝓤) (A : Atoms 𝓤) (at-mem : 
     h₂ = withHeld (holders (putRange (h .held .mmio) (heldPutOf v K.Mmio)) (putRange (h .held .pio) (heldPutOf v K.Pio)) (h .held .input) (h .held .host) (h .held .device) (h .held .event) (h .held .lpi)) h
 
     abbrev h₃ : State
-    h₃ = withHeld (holders (putRange (h .held .mmio) (heldPutOf v K.Mmio)) (putRange (h .held .pio) (heldPutOf v K.Pio)) (putWire (h .held .input) (wirePutOf v)) (h .held .host) (h .held .device) (h .held .event) (h .held .lpi)) h
+    h₃ = withHeld (holders (putRange (h .held .mmio) (heldPutOf v K.Mmio)) (putRange (h .held .pio) (heldPutOf v K.Pio)) (putInput (h .held .input) (inputPutOf v)) (h .held .host) (h .held .device) (h .held .event) (h .held .lpi)) h
 
     abbrev h₄ : State
-    h₄ = withHeld (holders (putRange (h .held .mmio) (heldPutOf v K.Mmio)) (putRange (h .held .pio) (heldPutOf v K.Pio)) (putWire (h .held .input) (wirePutOf v)) (putRange (h .held .host) (heldPutOf v K.Host)) (h .held .device) (h .held .event) (h .held .lpi)) h
+    h₄ = withHeld (holders (putRange (h .held .mmio) (heldPutOf v K.Mmio)) (putRange (h .held .pio) (heldPutOf v K.Pio)) (putInput (h .held .input) (inputPutOf v)) (putRange (h .held .host) (heldPutOf v K.Host)) (h .held .device) (h .held .event) (h .held .lpi)) h
 
     abbrev h₅ : State
-    h₅ = withHeld (holders (putRange (h .held .mmio) (heldPutOf v K.Mmio)) (putRange (h .held .pio) (heldPutOf v K.Pio)) (putWire (h .held .input) (wirePutOf v)) (putRange (h .held .host) (heldPutOf v K.Host)) (putRange (h .held .device) (heldPutOf v K.Device)) (h .held .event) (h .held .lpi)) h
+    h₅ = withHeld (holders (putRange (h .held .mmio) (heldPutOf v K.Mmio)) (putRange (h .held .pio) (heldPutOf v K.Pio)) (putInput (h .held .input) (inputPutOf v)) (putRange (h .held .host) (heldPutOf v K.Host)) (putRange (h .held .device) (heldPutOf v K.Device)) (h .held .event) (h .held .lpi)) h
 
     abbrev h₆ : State
-    h₆ = withHeld (holders (putRange (h .held .mmio) (heldPutOf v K.Mmio)) (putRange (h .held .pio) (heldPutOf v K.Pio)) (putWire (h .held .input) (wirePutOf v)) (putRange (h .held .host) (heldPutOf v K.Host)) (putRange (h .held .device) (heldPutOf v K.Device)) (putRange (h .held .event) (heldPutOf v K.Event)) (h .held .lpi)) h
+    h₆ = withHeld (holders (putRange (h .held .mmio) (heldPutOf v K.Mmio)) (putRange (h .held .pio) (heldPutOf v K.Pio)) (putInput (h .held .input) (inputPutOf v)) (putRange (h .held .host) (heldPutOf v K.Host)) (putRange (h .held .device) (heldPutOf v K.Device)) (putRange (h .held .event) (heldPutOf v K.Event)) (h .held .lpi)) h
 
     abbrev h₇ : State
-    h₇ = withHeld (holders (putRange (h .held .mmio) (heldPutOf v K.Mmio)) (putRange (h .held .pio) (heldPutOf v K.Pio)) (putWire (h .held .input) (wirePutOf v)) (putRange (h .held .host) (heldPutOf v K.Host)) (putRange (h .held .device) (heldPutOf v K.Device)) (putRange (h .held .event) (heldPutOf v K.Event)) (putRange (h .held .lpi) (heldPutOf v K.Lpi))) h
+    h₇ = withHeld (holders (putRange (h .held .mmio) (heldPutOf v K.Mmio)) (putRange (h .held .pio) (heldPutOf v K.Pio)) (putInput (h .held .input) (inputPutOf v)) (putRange (h .held .host) (heldPutOf v K.Host)) (putRange (h .held .device) (heldPutOf v K.Device)) (putRange (h .held .event) (heldPutOf v K.Event)) (putRange (h .held .lpi) (heldPutOf v K.Lpi))) h
 
     abbrev Good : Put → Type 0
     Good y = Is Pu.the-row y (valP y ∷ [])
@@ -125,9 +125,9 @@ module _ {M : Type 1} (𝓤 : URA M) (H : Heap 𝓤) (A : Atoms 𝓤) (at-mem : 
         made 𝓤 H A W (𝓣 .C) (fmOf 𝓤 H (W .laws) 𝓣) p₅.Symbol.name (p₅.signature .params) (p₅.ended .kept) Pu.the-row valP (LL.tells Pu.the-type Pu′.the-laws) (p₅.clauses 𝓤 H A at-mem run) known₅ (v, tt) (valV v ∷ [], tt) tt (heldPutOf v K.Lpi)
         (qed W [] ∵ nothing ! $ owned ! Ve.the-row (Is Ve.the-row) (LL.makes Ve.the-type Ve′.the-plain 𝓤 H A) v _ v-is $ fjoin ! $ done !) (id⊢ 𝓤 _) (λ z y. id⊢ 𝓤 _)
 
-    makes-wire : Makes 𝓤 H A W (𝓣 .C) x.Symbol.name (valV v ∷ []) (valW (wirePutOf v)) (Is Wp.the-row (wirePutOf v) (valW (wirePutOf v) ∷ []))
-    makes-wire =
-        made 𝓤 H A W (𝓣 .C) (fmOf 𝓤 H (W .laws) 𝓣) x.Symbol.name (x.signature .params) (x.ended .kept) Wp.the-row valW (LL.tells Wp.the-type Wp′.the-laws) (x.clauses 𝓤 H A at-mem run) known-x (v, tt) (valV v ∷ [], tt) tt (wirePutOf v)
+    makes-input : Makes 𝓤 H A W (𝓣 .C) x.Symbol.name (valV v ∷ []) (valW (inputPutOf v)) (Is Wp.the-row (inputPutOf v) (valW (inputPutOf v) ∷ []))
+    makes-input =
+        made 𝓤 H A W (𝓣 .C) (fmOf 𝓤 H (W .laws) 𝓣) x.Symbol.name (x.signature .params) (x.ended .kept) Wp.the-row valW (LL.tells Wp.the-type Wp′.the-laws) (x.clauses 𝓤 H A at-mem run) known-x (v, tt) (valV v ∷ [], tt) tt (inputPutOf v)
         (qed W [] ∵ nothing ! $ owned ! Ve.the-row (Is Ve.the-row) (LL.makes Ve.the-type Ve′.the-plain 𝓤 H A) v _ v-is $ fjoin ! $ done !) (id⊢ 𝓤 _) (λ z y. id⊢ 𝓤 _)
 
     abbrev spot : ℕ → ℕ
@@ -169,17 +169,17 @@ module _ {M : Type 1} (𝓤 : URA M) (H : Heap 𝓤) (A : Atoms 𝓤) (at-mem : 
     s₂ : Stage 𝓤 H A W (𝓣 .C) (fmOf 𝓤 H (W .laws) 𝓣) T.the-row T′.mir κ q b o γ (valV v) Wi.the-row Wp′.mir w.Symbol.name x.Symbol.name (valV v ∷ []) 2 h₂ h₃
     s₂ = record {
       was = h .held .input;
-      is = putWire (h .held .input) (wirePutOf v);
-      row = valW (wirePutOf v);
+      is = putInput (h .held .input) (inputPutOf v);
+      row = valW (inputPutOf v);
       spot = spot 2;
       lies = refl;
-      good = Is Wp.the-row (wirePutOf v) (valW (wirePutOf v) ∷ []);
-      typed = λ good. LL.lawful Wp.the-type Wp′.the-laws 𝓤 H A W .typed (wirePutOf v) _ good .0;
-      makes = makes-wire;
+      good = Is Wp.the-row (inputPutOf v) (valW (inputPutOf v) ∷ []);
+      typed = λ good. LL.lawful Wp.the-type Wp′.the-laws 𝓤 H A W .typed (inputPutOf v) _ good .0;
+      makes = makes-input;
       leaves = λ good.
-          leaves-by 𝓤 H A W (𝓣 .C) (fmOf 𝓤 H (W .laws) 𝓣) w.Symbol.name Wi.the-row (plain (λ _. Wp.the-row) ∷ []) (yes, tt) (w.clauses 𝓤 H A at-mem run) known-w b (spot 2) (h .held .input) (valW (wirePutOf v) ∷ []) (λ ν. (wirePutOf v, tt)) (λ ν. (valW (wirePutOf v) ∷ [], tt)) (λ ν. refl)
-          (λ ν. qed W [] ∵ nothing ! $ owned ! Wp.the-row (Is Wp.the-row) (LL.makes Wp.the-type Wp′.the-plain 𝓤 H A) (wirePutOf v) _ good $ fjoin ! $ done !) (λ ν δ. tt) (λ ν δ. factI 𝓤 (Free (h .held .input .n) (wirePutOf v .go)) (emp 𝓤) (free .input)) (λ d. d ≡ putWire (h .held .input) (wirePutOf v)) (λ ν δ ws. id⊢ 𝓤 _);
-      piece = set-held-input 𝓤 H A W b o h₂ (putWire (h .held .input) (wirePutOf v));
+          leaves-by 𝓤 H A W (𝓣 .C) (fmOf 𝓤 H (W .laws) 𝓣) w.Symbol.name Wi.the-row (plain (λ _. Wp.the-row) ∷ []) (yes, tt) (w.clauses 𝓤 H A at-mem run) known-w b (spot 2) (h .held .input) (valW (inputPutOf v) ∷ []) (λ ν. (inputPutOf v, tt)) (λ ν. (valW (inputPutOf v) ∷ [], tt)) (λ ν. refl)
+          (λ ν. qed W [] ∵ nothing ! $ owned ! Wp.the-row (Is Wp.the-row) (LL.makes Wp.the-type Wp′.the-plain 𝓤 H A) (inputPutOf v) _ good $ fjoin ! $ done !) (λ ν δ. tt) (λ ν δ. factI 𝓤 (Free (h .held .input .n) (inputPutOf v .go)) (emp 𝓤) (free .input)) (λ d. d ≡ putInput (h .held .input) (inputPutOf v)) (λ ν δ ws. id⊢ 𝓤 _);
+      piece = set-held-input 𝓤 H A W b o h₂ (putInput (h .held .input) (inputPutOf v));
     }
 
     s₃ : Stage 𝓤 H A W (𝓣 .C) (fmOf 𝓤 H (W .laws) 𝓣) T.the-row T′.mir κ q b o γ (valV v) Ra.the-row Pu′.mir r.Symbol.name p₂.Symbol.name (valV v ∷ []) 3 h₃ h₄
@@ -262,4 +262,4 @@ held-spec 𝓤 H 𝓜 𝓖 𝓡 =
     (cited 𝓤 H (tripleOf 𝓤 H (𝓖 .A) p₅.signature (p₅.spec 𝓤 H (𝓖 .A) (𝓜 .mem) (𝓡 .run))) 𝓜 𝓡 f.Code.env p₅.Symbol.name p₅.Symbol.routine f.Code.calls-adding·put·lpi (p₅.Met.met 𝓤 H 𝓜 𝓖 𝓡))
     (cited 𝓤 H (tripleOf 𝓤 H (𝓖 .A) x.signature (x.spec 𝓤 H (𝓖 .A) (𝓜 .mem) (𝓡 .run))) 𝓜 𝓡 f.Code.env x.Symbol.name x.Symbol.routine f.Code.calls-adding·put·input (x.Met.met 𝓤 H 𝓜 𝓖 𝓡))
     (cited 𝓤 H (tripleOf 𝓤 H (𝓖 .A) r.signature (r.spec 𝓤 H (𝓖 .A) (𝓜 .mem) (𝓡 .run))) 𝓜 𝓡 f.Code.env r.Symbol.name r.Symbol.routine f.Code.calls-lent-table·store·range (r.Met.met 𝓤 H 𝓜 𝓖 𝓡))
-    (cited 𝓤 H (tripleOf 𝓤 H (𝓖 .A) w.signature (w.spec 𝓤 H (𝓖 .A) (𝓜 .mem) (𝓡 .run))) 𝓜 𝓡 f.Code.env w.Symbol.name w.Symbol.routine f.Code.calls-lent-table·store·wire (w.Met.met 𝓤 H 𝓜 𝓖 𝓡)))
+    (cited 𝓤 H (tripleOf 𝓤 H (𝓖 .A) w.signature (w.spec 𝓤 H (𝓖 .A) (𝓜 .mem) (𝓡 .run))) 𝓜 𝓡 f.Code.env w.Symbol.name w.Symbol.routine f.Code.calls-lent-table·store·input (w.Met.met 𝓤 H 𝓜 𝓖 𝓡)))

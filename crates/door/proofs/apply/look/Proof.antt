@@ -13,7 +13,7 @@ use Rattle.tables.specs.declared.State.{State}
 use Rattle.tables.proofs.Pool as Po
 use Rattle.tables.proofs.Pools as Ps
 use Rattle.tables.proofs.Ranges as Ra
-use Rattle.tables.proofs.Wires as Wi
+use Rattle.tables.proofs.Inputs as Wi
 use Rattle.tables.proofs.Holders as Ho
 use Rattle.tables.proofs.State as T
 use Rattle.request.specs.declared.call.Call.{Call}
@@ -23,18 +23,18 @@ use Rattle.insert.specs.declared.Reply.{Reply}
 use Rattle.insert.proofs.Reply as S
 use Rattle.insert.proofs.Reply.Laws as S′
 use Rattle.tables.specs.declared.Kind.the-variants as Kd
-use Rattle.adding.specs.Adds.{askOf, wireAskOf, Asked}
+use Rattle.adding.specs.Adds.{askOf, inputAskOf, Asked}
 use Rattle.adding.specs.Judged.{verdictOf}
-use Rattle.adding.specs.Looks.{Fit, Sees, SeesWire}
+use Rattle.adding.specs.Looks.{Fit, Sees, SeesInput}
 use Rattle.adding.specs.declared.Adds.{Adds}
 use Rattle.adding.specs.declared.Ask.{Ask}
-use Rattle.adding.specs.declared.WireAsk.{WireAsk}
+use Rattle.adding.specs.declared.InputAsk.{InputAsk}
 use Rattle.adding.proofs.Adds as Q
 use Rattle.adding.proofs.Adds.Laws as Q′
 use Rattle.adding.proofs.Ask as K
 use Rattle.adding.proofs.Ask.Laws as K′
-use Rattle.adding.proofs.WireAsk as X
-use Rattle.adding.proofs.WireAsk.Laws as X′
+use Rattle.adding.proofs.InputAsk as X
+use Rattle.adding.proofs.InputAsk.Laws as X′
 use Rattle.adding.proofs.Verdict as F
 use Rattle.adding.proofs.Verdict.Laws as F′
 use Rattle.adding.proofs.asked as asked
@@ -44,9 +44,9 @@ use Rattle.adding.proofs.asking.host as q₂
 use Rattle.adding.proofs.asking.device as q₃
 use Rattle.adding.proofs.asking.event as q₄
 use Rattle.adding.proofs.asking.lpi as q₅
-use Rattle.adding.proofs.asking.input as ask-wire
+use Rattle.adding.proofs.asking.input as ask-input
 use Rattle.adding.proofs.answer.range as range
-use Rattle.adding.proofs.answer.wire as wire
+use Rattle.adding.proofs.answer.input as inputs
 use Rattle.adding.proofs.judge as judge
 use Rattle.walks.proofs.Straight.{first, others, given, Gives, Runs, back, point, ask as get, make, nil, arg, num}
 use Rattle.walks.proofs.Passing.{Plain, declaredAs, valueAs, Arg, plainly, slots, valsOf, covered, passing, refTo, among}
@@ -69,9 +69,9 @@ record Known {M : Type 1} (𝓤 : URA M) (H : Heap 𝓤) (A : Atoms 𝓤) (at-me
   k₃ : Triple 𝓤 (C q₃.Symbol.name) (tripleOf 𝓤 H A q₃.signature (q₃.spec 𝓤 H A at-mem run))
   k₄ : Triple 𝓤 (C q₄.Symbol.name) (tripleOf 𝓤 H A q₄.signature (q₄.spec 𝓤 H A at-mem run))
   k₅ : Triple 𝓤 (C q₅.Symbol.name) (tripleOf 𝓤 H A q₅.signature (q₅.spec 𝓤 H A at-mem run))
-  k-ask-wire : Triple 𝓤 (C ask-wire.Symbol.name) (tripleOf 𝓤 H A ask-wire.signature (ask-wire.spec 𝓤 H A at-mem run))
+  k-ask-input : Triple 𝓤 (C ask-input.Symbol.name) (tripleOf 𝓤 H A ask-input.signature (ask-input.spec 𝓤 H A at-mem run))
   k-range : Triple 𝓤 (C range.Symbol.name) (tripleOf 𝓤 H A range.signature (range.spec 𝓤 H A at-mem run))
-  k-wire : Triple 𝓤 (C wire.Symbol.name) (tripleOf 𝓤 H A wire.signature (wire.spec 𝓤 H A at-mem run))
+  k-input : Triple 𝓤 (C inputs.Symbol.name) (tripleOf 𝓤 H A inputs.signature (inputs.spec 𝓤 H A at-mem run))
   k-judge : Triple 𝓤 (C judge.Symbol.name) (tripleOf 𝓤 H A judge.signature (judge.spec 𝓤 H A at-mem run))
 
 module _ {M : Type 1} (𝓤 : URA M) (H : Heap 𝓤) (A : Atoms 𝓤) (W : Given 𝓤 H A) (at-mem : Memory → SProp 𝓤) (run : Routine → Fun 𝓤) (𝓣 : Tables 𝓤 H) (known : Known 𝓤 H A at-mem run (𝓣 .C)) where
@@ -162,9 +162,9 @@ module _ {M : Type 1} (𝓤 : URA M) (H : Heap 𝓤) (A : Atoms 𝓤) (W : Given
           covered 𝓤 H A W (𝓣 .C) (fmOf 𝓤 H (W .laws) 𝓣) hold q₅.Symbol.name As (λ d. d ≡ askOf y Kd.Lpi) (q₅.signature .params) (q₅.ended .kept) (q₅.clauses 𝓤 H A at-mem run) (known .k₅) (y, tt) (Qu .val y ∷ [], tt) tt
           (make-query, tt) (y-is, tt) (id⊢ 𝓤 (emp 𝓤)) (λ d e. id⊢ 𝓤 _)
 
-      wire-made : Gives 𝓤 H A W (𝓣 .C) hold ask-wire.Symbol.name (Qu .val y ∷ []) (valueAs Xs) (λ d. d ≡ wireAskOf y)
-      wire-made =
-          covered 𝓤 H A W (𝓣 .C) (fmOf 𝓤 H (W .laws) 𝓣) hold ask-wire.Symbol.name Xs (λ d. d ≡ wireAskOf y) (ask-wire.signature .params) (ask-wire.ended .kept) (ask-wire.clauses 𝓤 H A at-mem run) (known .k-ask-wire) (y, tt) (Qu .val y ∷ [], tt) tt
+      input-made : Gives 𝓤 H A W (𝓣 .C) hold ask-input.Symbol.name (Qu .val y ∷ []) (valueAs Xs) (λ d. d ≡ inputAskOf y)
+      input-made =
+          covered 𝓤 H A W (𝓣 .C) (fmOf 𝓤 H (W .laws) 𝓣) hold ask-input.Symbol.name Xs (λ d. d ≡ inputAskOf y) (ask-input.signature .params) (ask-input.ended .kept) (ask-input.clauses 𝓤 H A at-mem run) (known .k-ask-input) (y, tt) (Qu .val y ∷ [], tt) tt
           (make-query, tt) (y-is, tt) (id⊢ 𝓤 (emp 𝓤)) (λ d e. id⊢ 𝓤 _)
 
       verdict-made : (m p w j d e l : Reply) → Is S.the-row m (Se .val m ∷ []) → Is S.the-row p (Se .val p ∷ []) → Is S.the-row w (Se .val w ∷ []) → Is S.the-row j (Se .val j ∷ []) → Is S.the-row d (Se .val d ∷ []) → Is S.the-row e (Se .val e ∷ []) → Is S.the-row l (Se .val l ∷ [])
@@ -184,14 +184,14 @@ module _ {M : Type 1} (𝓤 : URA M) (H : Heap 𝓤) (A : Atoms 𝓤) (W : Given
       range-seen : Fit (pl (h .auto)) (pl (h .fixed)) (own (h .held) .n) → Gives 𝓤 H A W (𝓣 .C) hold range.Symbol.name (flat (typesAt (slots 𝓤 H A W κ q r looked) (κ, tt)) (valsOf 𝓤 H A W κ q r looked)) (valueAs Se) (Sees (pl (h .auto)) (pl (h .fixed)) (own (h .held)) x)
       range-seen fit = passing 𝓤 H A W κ q r (𝓣 .C) (fmOf 𝓤 H (W .laws) 𝓣) range.Symbol.name Se (Sees (pl (h .auto)) (pl (h .fixed)) (own (h .held)) x) looked (range.ended .kept) (range.clauses 𝓤 H A at-mem run) (known .k-range) (λ γs. tt) (λ γs. factI 𝓤 _ (emp 𝓤) fit) (λ γs d e. id⊢ 𝓤 _)
 
-    module _ (x : WireAsk) (x-is : Is X.the-row x (Xs .val x ∷ [])) where
+    module _ (x : InputAsk) (x-is : Is X.the-row x (Xs .val x ∷ [])) where
       abbrev wired : List (Arg 𝓤 H A W κ q r)
       wired =
           auto-table 𝓤 H A W κ q r b o γ h into input (λ p. p .input) (input-pool 𝓤 H A W) ∷ fixed-table 𝓤 H A W κ q r b o γ h into input (λ p. p .input) (input-pool 𝓤 H A W) ∷
           held-table 𝓤 H A W κ q r b o γ h into Wi.the-row input (λ p. p .input) (input-holder 𝓤 H A W) ∷ plainly X.the-row x (Xs .val x) (LL.makes X.the-type X′.the-plain 𝓤 H A x _ x-is) ∷ []
 
-      wire-seen : Fit (h .auto .input) (h .fixed .input) (h .held .input .n) → Gives 𝓤 H A W (𝓣 .C) hold wire.Symbol.name (flat (typesAt (slots 𝓤 H A W κ q r wired) (κ, tt)) (valsOf 𝓤 H A W κ q r wired)) (valueAs Se) (SeesWire (h .auto .input) (h .fixed .input) (h .held .input) x)
-      wire-seen fit = passing 𝓤 H A W κ q r (𝓣 .C) (fmOf 𝓤 H (W .laws) 𝓣) wire.Symbol.name Se (SeesWire (h .auto .input) (h .fixed .input) (h .held .input) x) wired (wire.ended .kept) (wire.clauses 𝓤 H A at-mem run) (known .k-wire) (λ γs. tt) (λ γs. factI 𝓤 _ (emp 𝓤) fit) (λ γs d e. id⊢ 𝓤 _)
+      input-seen : Fit (h .auto .input) (h .fixed .input) (h .held .input .n) → Gives 𝓤 H A W (𝓣 .C) hold inputs.Symbol.name (flat (typesAt (slots 𝓤 H A W κ q r wired) (κ, tt)) (valsOf 𝓤 H A W κ q r wired)) (valueAs Se) (SeesInput (h .auto .input) (h .fixed .input) (h .held .input) x)
+      input-seen fit = passing 𝓤 H A W κ q r (𝓣 .C) (fmOf 𝓤 H (W .laws) 𝓣) inputs.Symbol.name Se (SeesInput (h .auto .input) (h .fixed .input) (h .held .input) x) wired (inputs.ended .kept) (inputs.clauses 𝓤 H A at-mem run) (known .k-input) (λ γs. tt) (λ γs. factI 𝓤 _ (emp 𝓤) fit) (λ γs d e. id⊢ 𝓤 _)
 
     walk : Runs W (𝓣 .C) hold (f.Code.function .locals) (After 𝓤 H A W (f.signature .params) (f.ended .kept) Fo (f.clauses 𝓤 H A at-mem run) κ q bounds a vss tt) (none ∷ given W (flat (typesAt (f.signature .params) (κ, tt)) vss)) (f.Code.function .body)
     walk =
@@ -200,8 +200,8 @@ module _ {M : Type 1} (𝓤 : URA M) (H : Heap 𝓤) (A : Atoms 𝓤) (W : Given
         get (valueAs Se) (Sees (h .auto .mmio) (h .fixed .mmio) (h .held .mmio) (askOf y Kd.Mmio)) (arg refl tt (arg refl tt (arg refl tt (arg refl tt nil)))) (range-seen mmio (λ p. p .mmio) (λ p. p .mmio) (mmio-pool 𝓤 H A W) (mmio-holder 𝓤 H A W) (askOf y Kd.Mmio) x-is (fit-mmio h ok)) tt refl (λ m m-is m-seen.
         point {b = b} {o = o} {a = (o + auto-at) + pool-at pio} refl refl tt tt (tt, tt) (point {b = b} {o = o} {a = (o + fixed-at) + pool-at pio} refl refl tt tt (tt, tt) (point {b = b} {o = o} {a = (o + held-at) + holder-at pio} refl refl tt tt (tt, tt) (make (valueAs As) (askOf y Kd.Pio) (arg refl tt nil) (pio-made y y-is) tt refl (λ x-is.
         get (valueAs Se) (Sees (h .auto .pio) (h .fixed .pio) (h .held .pio) (askOf y Kd.Pio)) (arg refl tt (arg refl tt (arg refl tt (arg refl tt nil)))) (range-seen pio (λ p. p .pio) (λ p. p .pio) (pio-pool 𝓤 H A W) (pio-holder 𝓤 H A W) (askOf y Kd.Pio) x-is (fit-pio h ok)) tt refl (λ p p-is p-seen.
-        point {b = b} {o = o} {a = (o + auto-at) + pool-at input} refl refl tt tt (tt, tt) (point {b = b} {o = o} {a = (o + fixed-at) + pool-at input} refl refl tt tt (tt, tt) (point {b = b} {o = o} {a = (o + held-at) + holder-at input} refl refl tt tt (tt, tt) (make (valueAs Xs) (wireAskOf y) (arg refl tt nil) (wire-made y y-is) tt refl (λ x-is.
-        get (valueAs Se) (SeesWire (h .auto .input) (h .fixed .input) (h .held .input) (wireAskOf y)) (arg refl tt (arg refl tt (arg refl tt (arg refl tt nil)))) (wire-seen (wireAskOf y) x-is (fit-input h ok)) tt refl (λ w w-is w-seen.
+        point {b = b} {o = o} {a = (o + auto-at) + pool-at input} refl refl tt tt (tt, tt) (point {b = b} {o = o} {a = (o + fixed-at) + pool-at input} refl refl tt tt (tt, tt) (point {b = b} {o = o} {a = (o + held-at) + holder-at input} refl refl tt tt (tt, tt) (make (valueAs Xs) (inputAskOf y) (arg refl tt nil) (input-made y y-is) tt refl (λ x-is.
+        get (valueAs Se) (SeesInput (h .auto .input) (h .fixed .input) (h .held .input) (inputAskOf y)) (arg refl tt (arg refl tt (arg refl tt (arg refl tt nil)))) (input-seen (inputAskOf y) x-is (fit-input h ok)) tt refl (λ w w-is w-seen.
         point {b = b} {o = o} {a = (o + auto-at) + pool-at host} refl refl tt tt (tt, tt) (point {b = b} {o = o} {a = (o + fixed-at) + pool-at host} refl refl tt tt (tt, tt) (point {b = b} {o = o} {a = (o + held-at) + holder-at host} refl refl tt tt (tt, tt) (make (valueAs As) (askOf y Kd.Host) (arg refl tt nil) (host-made y y-is) tt refl (λ x-is.
         get (valueAs Se) (Sees (h .auto .host) (h .fixed .host) (h .held .host) (askOf y Kd.Host)) (arg refl tt (arg refl tt (arg refl tt (arg refl tt nil)))) (range-seen host (λ p. p .host) (λ p. p .host) (host-pool 𝓤 H A W) (host-holder 𝓤 H A W) (askOf y Kd.Host) x-is (fit-host h ok)) tt refl (λ j j-is j-seen.
         point {b = b} {o = o} {a = (o + auto-at) + pool-at device} refl refl tt tt (tt, tt) (point {b = b} {o = o} {a = (o + fixed-at) + pool-at device} refl refl tt tt (tt, tt) (point {b = b} {o = o} {a = (o + held-at) + holder-at device} refl refl tt tt (tt, tt) (make (valueAs As) (askOf y Kd.Device) (arg refl tt nil) (device-made y y-is) tt refl (λ x-is.
@@ -233,8 +233,8 @@ look-spec 𝓤 H 𝓜 𝓖 𝓡 =
       k₃ = cited 𝓤 H (tripleOf 𝓤 H (𝓖 .A) q₃.signature (q₃.spec 𝓤 H (𝓖 .A) (𝓜 .mem) (𝓡 .run))) 𝓜 𝓡 f.Code.env q₃.Symbol.name q₃.Symbol.routine f.Code.calls-adding·asking·device (q₃.Met.met 𝓤 H 𝓜 𝓖 𝓡);
       k₄ = cited 𝓤 H (tripleOf 𝓤 H (𝓖 .A) q₄.signature (q₄.spec 𝓤 H (𝓖 .A) (𝓜 .mem) (𝓡 .run))) 𝓜 𝓡 f.Code.env q₄.Symbol.name q₄.Symbol.routine f.Code.calls-adding·asking·event (q₄.Met.met 𝓤 H 𝓜 𝓖 𝓡);
       k₅ = cited 𝓤 H (tripleOf 𝓤 H (𝓖 .A) q₅.signature (q₅.spec 𝓤 H (𝓖 .A) (𝓜 .mem) (𝓡 .run))) 𝓜 𝓡 f.Code.env q₅.Symbol.name q₅.Symbol.routine f.Code.calls-adding·asking·lpi (q₅.Met.met 𝓤 H 𝓜 𝓖 𝓡);
-      k-ask-wire = cited 𝓤 H (tripleOf 𝓤 H (𝓖 .A) ask-wire.signature (ask-wire.spec 𝓤 H (𝓖 .A) (𝓜 .mem) (𝓡 .run))) 𝓜 𝓡 f.Code.env ask-wire.Symbol.name ask-wire.Symbol.routine f.Code.calls-adding·asking·input (ask-wire.Met.met 𝓤 H 𝓜 𝓖 𝓡);
+      k-ask-input = cited 𝓤 H (tripleOf 𝓤 H (𝓖 .A) ask-input.signature (ask-input.spec 𝓤 H (𝓖 .A) (𝓜 .mem) (𝓡 .run))) 𝓜 𝓡 f.Code.env ask-input.Symbol.name ask-input.Symbol.routine f.Code.calls-adding·asking·input (ask-input.Met.met 𝓤 H 𝓜 𝓖 𝓡);
       k-range = cited 𝓤 H (tripleOf 𝓤 H (𝓖 .A) range.signature (range.spec 𝓤 H (𝓖 .A) (𝓜 .mem) (𝓡 .run))) 𝓜 𝓡 f.Code.env range.Symbol.name range.Symbol.routine f.Code.calls-adding·answer·range (range.Met.met 𝓤 H 𝓜 𝓖 𝓡);
-      k-wire = cited 𝓤 H (tripleOf 𝓤 H (𝓖 .A) wire.signature (wire.spec 𝓤 H (𝓖 .A) (𝓜 .mem) (𝓡 .run))) 𝓜 𝓡 f.Code.env wire.Symbol.name wire.Symbol.routine f.Code.calls-adding·answer·wire (wire.Met.met 𝓤 H 𝓜 𝓖 𝓡);
+      k-input = cited 𝓤 H (tripleOf 𝓤 H (𝓖 .A) inputs.signature (inputs.spec 𝓤 H (𝓖 .A) (𝓜 .mem) (𝓡 .run))) 𝓜 𝓡 f.Code.env inputs.Symbol.name inputs.Symbol.routine f.Code.calls-adding·answer·input (inputs.Met.met 𝓤 H 𝓜 𝓖 𝓡);
       k-judge = cited 𝓤 H (tripleOf 𝓤 H (𝓖 .A) judge.signature (judge.spec 𝓤 H (𝓖 .A) (𝓜 .mem) (𝓡 .run))) 𝓜 𝓡 f.Code.env judge.Symbol.name judge.Symbol.routine f.Code.calls-adding·judge (judge.Met.met 𝓤 H 𝓜 𝓖 𝓡);
     }))

@@ -9,8 +9,8 @@ use Rattle.tables.proofs.Holders as Ho
 use Rattle.tables.proofs.Holders.Laws as Ho′
 use Rattle.tables.proofs.Ranges as Ra
 use Rattle.tables.proofs.Ranges.Laws as Ra′
-use Rattle.tables.proofs.Wires as Wi
-use Rattle.tables.proofs.Wires.Laws as Wi′
+use Rattle.tables.proofs.Inputs as Wi
+use Rattle.tables.proofs.Inputs.Laws as Wi′
 use Rattle.inplace.specs.Marks.{marksOf}
 use Rattle.inplace.specs.declared.marks.Marks.{Marks}
 use Rattle.inplace.proofs.marks.Marks as Ma

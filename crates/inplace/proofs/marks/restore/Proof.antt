@@ -13,11 +13,11 @@ use Rattle.tables.proofs.Holders as Ho
 use Rattle.tables.proofs.Holders.Laws as Ho′
 use Rattle.tables.proofs.Ranges as Ra
 use Rattle.tables.proofs.Ranges.Laws as Ra′
-use Rattle.tables.proofs.Wires as Wi
-use Rattle.tables.proofs.Wires.Laws as Wi′
+use Rattle.tables.proofs.Inputs as Wi
+use Rattle.tables.proofs.Inputs.Laws as Wi′
 use Rattle.inplace.proofs.LendPart.{Piece, Makes}
 use Rattle.inplace.proofs.Callees.{made}
-use Rattle.inplace.specs.Cut.{cutRanges, cutWires}
+use Rattle.inplace.specs.Cut.{cutRanges, cutInputs}
 use Rattle.inplace.specs.Marks.{restored}
 use Rattle.inplace.specs.declared.marks.Marks.{Marks}
 use Rattle.inplace.proofs.marks.Marks as Ma
@@ -25,7 +25,7 @@ use Rattle.inplace.proofs.marks.Marks.Laws as Ma′
 use Rattle.inplace.proofs.Plain.{Plain, plainOf, Good}
 use Rattle.inplace.proofs.RestoreWalk.{restoreCode, Stage, restore-walk}
 use Rattle.inplace.proofs.marks.ranges_to as g
-use Rattle.inplace.proofs.marks.wires_to as w
+use Rattle.inplace.proofs.marks.inputs_to as w
 use Rattle.inplace.proofs.marks.restore as f
 
 -- the function's code is the walk's
@@ -96,7 +96,7 @@ module _ {M : Type 1} (𝓤 : URA M) (H : Heap 𝓤) (A : Atoms 𝓤) (W : Given
     h₂ = holders (h₁ .mmio) (cutRanges (m .pio) (h₀ .pio)) (h₁ .input) (h₁ .host) (h₁ .device) (h₁ .event) (h₁ .lpi)
 
     abbrev h₃ : Holders
-    h₃ = holders (h₂ .mmio) (h₂ .pio) (cutWires (m .input) (h₀ .input)) (h₂ .host) (h₂ .device) (h₂ .event) (h₂ .lpi)
+    h₃ = holders (h₂ .mmio) (h₂ .pio) (cutInputs (m .input) (h₀ .input)) (h₂ .host) (h₂ .device) (h₂ .event) (h₂ .lpi)
 
     abbrev h₄ : Holders
     h₄ = holders (h₃ .mmio) (h₃ .pio) (h₃ .input) (cutRanges (m .host) (h₀ .host)) (h₃ .device) (h₃ .event) (h₃ .lpi)
@@ -153,7 +153,7 @@ module _ {M : Type 1} (𝓤 : URA M) (H : Heap 𝓤) (A : Atoms 𝓤) (W : Given
       s₂ : StageAt wired w.Symbol.name 2 (at-owners h₂) (at-owners h₃)
       s₂ = record {
         was = h₀ .input;
-        is = cutWires (m .input) (h₀ .input);
+        is = cutInputs (m .input) (h₀ .input);
         spot = oH + offset Ho′.mir 2;
         way = λ E Δ. fld ! refl (fld ! refl (stop !));
         count = m .input;
@@ -161,9 +161,9 @@ module _ {M : Type 1} (𝓤 : URA M) (H : Heap 𝓤) (A : Atoms 𝓤) (W : Given
         to = λ E l Δ. fld ! refl (stop !);
         reads = λ l i k Δ. look-in ! 2 (sub ! 2 refl (whole !));
         answers = λ t-is.
-            made 𝓤 H A W C fm w.Symbol.name (w.signature .params) (w.ended .kept) Wi.the-row (wired .val) (LL.tells Wi.the-type Wi′.the-laws) (w.clauses 𝓤 H A at-mem run) known-w (h₀ .input, (m .input, tt)) (wired .val (h₀ .input) ∷ [], (vint w64 (m .input) ∷ [], tt)) tt (cutWires (m .input) (h₀ .input))
+            made 𝓤 H A W C fm w.Symbol.name (w.signature .params) (w.ended .kept) Wi.the-row (wired .val) (LL.tells Wi.the-type Wi′.the-laws) (w.clauses 𝓤 H A at-mem run) known-w (h₀ .input, (m .input, tt)) (wired .val (h₀ .input) ∷ [], (vint w64 (m .input) ∷ [], tt)) tt (cutInputs (m .input) (h₀ .input))
             (qed W [] ∵ nothing ! $ owned ! usize (Is usize) (uint-makes 𝓤 H A W w64) (m .input) (vint w64 (m .input) ∷ []) (refl, m-wt .1 .1 .1 .0 .fits) $ fjoin ! $ owned ! Wi.the-row (Is Wi.the-row) (LL.makes Wi.the-type Wi′.the-plain 𝓤 H A) (h₀ .input) _ t-is $ fjoin ! $ done !) (id⊢ 𝓤 _) (λ e z. id⊢ 𝓤 _);
-        piece = cut-record 𝓤 H A fullShare Ho.the-row Wi.the-type (offset Ho′.mir 2) h₂ h₃ (h₀ .input) (cutWires (m .input) (h₀ .input)) (b, oH) (put-at 𝓤 H A W fullShare Ho.the-type Ho′.the-laws 2 (offset Ho′.mir 2) refl refl (b, oH) h₂ h₃ (Ho.struct .as-values h₂) (cutWires (m .input) (h₀ .input)) refl refl);
+        piece = cut-record 𝓤 H A fullShare Ho.the-row Wi.the-type (offset Ho′.mir 2) h₂ h₃ (h₀ .input) (cutInputs (m .input) (h₀ .input)) (b, oH) (put-at 𝓤 H A W fullShare Ho.the-type Ho′.the-laws 2 (offset Ho′.mir 2) refl refl (b, oH) h₂ h₃ (Ho.struct .as-values h₂) (cutInputs (m .input) (h₀ .input)) refl refl);
       }
 
       s₃ : StageAt ranged g.Symbol.name 3 (at-owners h₃) (at-owners h₄)
@@ -214,4 +214,4 @@ restore-spec 𝓤 H 𝓜 𝓖 𝓡 =
     (tables 𝓤 H 𝓜 𝓡 f.Code.env .C) (tables 𝓤 H 𝓜 𝓡 f.Code.env .Λ) f.Key.name f.Code.function (f.Code.unfolded 𝓤 H 𝓜 𝓡)
     (f-meets 𝓤 H (𝓖 .A) (givenOf 𝓤 H 𝓜 𝓖) (𝓜 .mem) (𝓡 .run) (tablesOf 𝓤 H 𝓜 (tables 𝓤 H 𝓜 𝓡 f.Code.env))
     (cited 𝓤 H (G 𝓤 H (𝓖 .A) (givenOf 𝓤 H 𝓜 𝓖) (𝓜 .mem) (𝓡 .run)) 𝓜 𝓡 f.Code.env g.Symbol.name g.Symbol.routine f.Code.calls-inplace·marks·ranges-to (g.Met.met 𝓤 H 𝓜 𝓖 𝓡))
-    (cited 𝓤 H (Ww 𝓤 H (𝓖 .A) (givenOf 𝓤 H 𝓜 𝓖) (𝓜 .mem) (𝓡 .run)) 𝓜 𝓡 f.Code.env w.Symbol.name w.Symbol.routine f.Code.calls-inplace·marks·wires-to (w.Met.met 𝓤 H 𝓜 𝓖 𝓡)))
+    (cited 𝓤 H (Ww 𝓤 H (𝓖 .A) (givenOf 𝓤 H 𝓜 𝓖) (𝓜 .mem) (𝓡 .run)) 𝓜 𝓡 f.Code.env w.Symbol.name w.Symbol.routine f.Code.calls-inplace·marks·inputs-to (w.Met.met 𝓤 H 𝓜 𝓖 𝓡)))

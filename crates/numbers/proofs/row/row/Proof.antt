@@ -3,17 +3,17 @@ use Rattle.walks.proofs.Prelude.{_≡_, refl, ap, _∙_, ℕ, _+_, _<_, _^_, Bo
 use denote.Struct.Laws as LL
 use Rattle.definition.specs.Tables as kind
 use Rattle.definition.specs.Tables.{poolLimit, rowLimit}
-use Rattle.tables.specs.Views.{poolView, rangesView, wiresView, stateView}
+use Rattle.tables.specs.Views.{poolView, rangesView, inputsView, stateView}
 use Rattle.tables.specs.declared.Pool.{Pool}
 use Rattle.tables.specs.declared.Pools.{Pools}
 use Rattle.tables.specs.declared.Ranges.{Ranges}
-use Rattle.tables.specs.declared.Wires.{Wires}
+use Rattle.tables.specs.declared.Inputs.{Inputs}
 use Rattle.tables.specs.declared.Holders.{Holders}
 use Rattle.tables.specs.declared.State.{State}
 use Rattle.tables.proofs.Pool as Po
 use Rattle.tables.proofs.Pools as Ps
 use Rattle.tables.proofs.Ranges as Ra
-use Rattle.tables.proofs.Wires as Wi
+use Rattle.tables.proofs.Inputs as Wi
 use Rattle.tables.proofs.Holders as Ho
 use Rattle.tables.proofs.State as T
 use Rattle.walks.proofs.Straight.{first, others, given, Gives, Runs, back, point, ask, nil, arg, num}
@@ -34,7 +34,7 @@ use Rattle.numbers.proofs.RowArgs.{Fo, besides, fact-map}
 use Rattle.numbers.proofs.row.nothing as nothing
 use Rattle.numbers.proofs.row.pool_row as pool
 use Rattle.numbers.proofs.row.range_row as range
-use Rattle.numbers.proofs.row.wire_row as wire
+use Rattle.numbers.proofs.row.input_row as inputs
 use Rattle.numbers.proofs.row.row as f
 
 -- the callees keep their contracts
@@ -42,7 +42,7 @@ record Known {M : Type 1} (𝓤 : URA M) (H : Heap 𝓤) (A : Atoms 𝓤) (at-me
   k-nothing : Triple 𝓤 (C nothing.Symbol.name) (tripleOf 𝓤 H A nothing.signature (nothing.spec 𝓤 H A at-mem run))
   k-pool : Triple 𝓤 (C pool.Symbol.name) (tripleOf 𝓤 H A pool.signature (pool.spec 𝓤 H A at-mem run))
   k-range : Triple 𝓤 (C range.Symbol.name) (tripleOf 𝓤 H A range.signature (range.spec 𝓤 H A at-mem run))
-  k-wire : Triple 𝓤 (C wire.Symbol.name) (tripleOf 𝓤 H A wire.signature (wire.spec 𝓤 H A at-mem run))
+  k-input : Triple 𝓤 (C inputs.Symbol.name) (tripleOf 𝓤 H A inputs.signature (inputs.spec 𝓤 H A at-mem run))
 
 module _ {M : Type 1} (𝓤 : URA M) (H : Heap 𝓤) (A : Atoms 𝓤) (W : Given 𝓤 H A) (at-mem : Memory → SProp 𝓤) (run : Routine → Fun 𝓤) (𝓣 : Tables 𝓤 H) (known : Known 𝓤 H A at-mem run (𝓣 .C)) where
   -- the parameters a, and their machine values vss
@@ -111,11 +111,11 @@ module _ {M : Type 1} (𝓤 : URA M) (H : Heap 𝓤) (A : Atoms 𝓤) (W : Given
           passing 𝓤 H A W κ q r (𝓣 .C) (fmOf 𝓤 H (W .laws) 𝓣) range.Symbol.name (Fo 𝓤 H A W) _ (args Ra.the-row t at l part p j n) (range.ended .kept) (range.clauses 𝓤 H A at-mem run) (known .k-range) (λ γs. tt) (λ γs. id⊢ 𝓤 (emp 𝓤))
           (λ γs d z. fact-map 𝓤 H A W (PickedRange (asked k part j rowLimit) (rangesView t) (k .row) (foundOf x) (foundOf d)) _ (λ g. then-found (asked k part j rowLimit) (holderRow m (rangesView t) (k .row)) d (g m w)))
 
-      wire-told : (t : Wires) (at : ℕ) (l : Lends 𝓤 H A W κ q r Wi.the-row t b at) (part : ℕ) (p : part < 2 ^ 64) (j : ℕ) (n : j < 2 ^ 64)
-          → Gives 𝓤 H A W (𝓣 .C) hold wire.Symbol.name (flat (typesAt (slots 𝓤 H A W κ q r (args Wi.the-row t at l part p j n)) (κ, tt)) (valsOf 𝓤 H A W κ q r (args Wi.the-row t at l part p j n))) (valueAs (Fo 𝓤 H A W)) (λ d. foundOf d ≡ pick (asked k part j rowLimit) (inputRow (wiresView t) (k .row)) v)
-      wire-told t at l part p j n =
-          passing 𝓤 H A W κ q r (𝓣 .C) (fmOf 𝓤 H (W .laws) 𝓣) wire.Symbol.name (Fo 𝓤 H A W) _ (args Wi.the-row t at l part p j n) (wire.ended .kept) (wire.clauses 𝓤 H A at-mem run) (known .k-wire) (λ γs. tt) (λ γs. id⊢ 𝓤 (emp 𝓤))
-          (λ γs d z. fact-map 𝓤 H A W _ _ (then-found (asked k part j rowLimit) (inputRow (wiresView t) (k .row)) d))
+      input-told : (t : Inputs) (at : ℕ) (l : Lends 𝓤 H A W κ q r Wi.the-row t b at) (part : ℕ) (p : part < 2 ^ 64) (j : ℕ) (n : j < 2 ^ 64)
+          → Gives 𝓤 H A W (𝓣 .C) hold inputs.Symbol.name (flat (typesAt (slots 𝓤 H A W κ q r (args Wi.the-row t at l part p j n)) (κ, tt)) (valsOf 𝓤 H A W κ q r (args Wi.the-row t at l part p j n))) (valueAs (Fo 𝓤 H A W)) (λ d. foundOf d ≡ pick (asked k part j rowLimit) (inputRow (inputsView t) (k .row)) v)
+      input-told t at l part p j n =
+          passing 𝓤 H A W κ q r (𝓣 .C) (fmOf 𝓤 H (W .laws) 𝓣) inputs.Symbol.name (Fo 𝓤 H A W) _ (args Wi.the-row t at l part p j n) (inputs.ended .kept) (inputs.clauses 𝓤 H A at-mem run) (known .k-input) (λ γs. tt) (λ γs. id⊢ 𝓤 (emp 𝓤))
+          (λ γs d z. fact-map 𝓤 H A W _ _ (then-found (asked k part j rowLimit) (inputRow (inputsView t) (k .row)) d))
 
     -- ---- one after another
     abbrev Told : ℕ → Option (List ℕ) → ℕ → Found → Type 0
@@ -149,14 +149,14 @@ module _ {M : Type 1} (𝓤 : URA M) (H : Heap 𝓤) (A : Atoms 𝓤) (W : Given
         point {b = b} {o = o} {a = (o + fixed-at) + pool-at lpi} refl refl tt tt (tt, tt) (ask (valueAs (Fo 𝓤 H A W)) (Told 2 v₁ 7) (arg refl tt (arg refl tt (num tt (num tt (arg refl tt nil))))) (pool-told x x-is _ e (s .fixed .lpi) ((o + fixed-at) + pool-at lpi) (fixed-lent lpi (λ x. x .lpi) (lpi-pool 𝓤 H A W)) 2 (lit< tt) 7 (lit< tt)) tt refl (λ x x-is e.
         point {b = b} {o = o} {a = (o + held-at) + holder-at mmio} refl refl tt tt (tt, tt) (ask (valueAs (Fo 𝓤 H A W)) (Told 3 v₂ 1) (arg refl tt (arg refl tt (num tt (num tt (arg refl tt nil))))) (range-told x x-is _ e (s .held .mmio) ((o + held-at) + holder-at mmio) (held-lent Ra.the-row mmio (λ x. x .mmio) (mmio-holder 𝓤 H A W)) 3 (lit< tt) 1 (lit< tt) kind.mmio refl) tt refl (λ x x-is e.
         point {b = b} {o = o} {a = (o + held-at) + holder-at pio} refl refl tt tt (tt, tt) (ask (valueAs (Fo 𝓤 H A W)) (Told 3 v₂ 2) (arg refl tt (arg refl tt (num tt (num tt (arg refl tt nil))))) (range-told x x-is _ e (s .held .pio) ((o + held-at) + holder-at pio) (held-lent Ra.the-row pio (λ x. x .pio) (pio-holder 𝓤 H A W)) 3 (lit< tt) 2 (lit< tt) kind.pio refl) tt refl (λ x x-is e.
-        point {b = b} {o = o} {a = (o + held-at) + holder-at input} refl refl tt tt (tt, tt) (ask (valueAs (Fo 𝓤 H A W)) (Told 3 v₂ 3) (arg refl tt (arg refl tt (num tt (num tt (arg refl tt nil))))) (wire-told x x-is _ e (s .held .input) ((o + held-at) + holder-at input) (held-lent Wi.the-row input (λ x. x .input) (input-holder 𝓤 H A W)) 3 (lit< tt) 3 (lit< tt)) tt refl (λ x x-is e.
+        point {b = b} {o = o} {a = (o + held-at) + holder-at input} refl refl tt tt (tt, tt) (ask (valueAs (Fo 𝓤 H A W)) (Told 3 v₂ 3) (arg refl tt (arg refl tt (num tt (num tt (arg refl tt nil))))) (input-told x x-is _ e (s .held .input) ((o + held-at) + holder-at input) (held-lent Wi.the-row input (λ x. x .input) (input-holder 𝓤 H A W)) 3 (lit< tt) 3 (lit< tt)) tt refl (λ x x-is e.
         point {b = b} {o = o} {a = (o + held-at) + holder-at host} refl refl tt tt (tt, tt) (ask (valueAs (Fo 𝓤 H A W)) (Told 3 v₂ 4) (arg refl tt (arg refl tt (num tt (num tt (arg refl tt nil))))) (range-told x x-is _ e (s .held .host) ((o + held-at) + holder-at host) (held-lent Ra.the-row host (λ x. x .host) (host-holder 𝓤 H A W)) 3 (lit< tt) 4 (lit< tt) kind.host refl) tt refl (λ x x-is e.
         point {b = b} {o = o} {a = (o + held-at) + holder-at device} refl refl tt tt (tt, tt) (ask (valueAs (Fo 𝓤 H A W)) (Told 3 v₂ 5) (arg refl tt (arg refl tt (num tt (num tt (arg refl tt nil))))) (range-told x x-is _ e (s .held .device) ((o + held-at) + holder-at device) (held-lent Ra.the-row device (λ x. x .device) (device-holder 𝓤 H A W)) 3 (lit< tt) 5 (lit< tt) kind.device refl) tt refl (λ x x-is e.
         point {b = b} {o = o} {a = (o + held-at) + holder-at event} refl refl tt tt (tt, tt) (ask (valueAs (Fo 𝓤 H A W)) (Told 3 v₂ 6) (arg refl tt (arg refl tt (num tt (num tt (arg refl tt nil))))) (range-told x x-is _ e (s .held .event) ((o + held-at) + holder-at event) (held-lent Ra.the-row event (λ x. x .event) (event-holder 𝓤 H A W)) 3 (lit< tt) 6 (lit< tt) kind.event refl) tt refl (λ x x-is e.
         point {b = b} {o = o} {a = (o + held-at) + holder-at lpi} refl refl tt tt (tt, tt) (ask (valueAs (Fo 𝓤 H A W)) (Told 3 v₂ 7) (arg refl tt (arg refl tt (num tt (num tt (arg refl tt nil))))) (range-told x x-is _ e (s .held .lpi) ((o + held-at) + holder-at lpi) (held-lent Ra.the-row lpi (λ x. x .lpi) (lpi-holder 𝓤 H A W)) 3 (lit< tt) 7 (lit< tt) kind.lpi refl) tt refl (λ x x-is e.
         point {b = b} {o = o} {a = (o + owners-at) + holder-at mmio} refl refl tt tt (tt, tt) (ask (valueAs (Fo 𝓤 H A W)) (Told 4 v₃ 1) (arg refl tt (arg refl tt (num tt (num tt (arg refl tt nil))))) (range-told x x-is _ e (s .owners .mmio) ((o + owners-at) + holder-at mmio) (owners-lent Ra.the-row mmio (λ x. x .mmio) (mmio-holder 𝓤 H A W)) 4 (lit< tt) 1 (lit< tt) kind.mmio refl) tt refl (λ x x-is e.
         point {b = b} {o = o} {a = (o + owners-at) + holder-at pio} refl refl tt tt (tt, tt) (ask (valueAs (Fo 𝓤 H A W)) (Told 4 v₃ 2) (arg refl tt (arg refl tt (num tt (num tt (arg refl tt nil))))) (range-told x x-is _ e (s .owners .pio) ((o + owners-at) + holder-at pio) (owners-lent Ra.the-row pio (λ x. x .pio) (pio-holder 𝓤 H A W)) 4 (lit< tt) 2 (lit< tt) kind.pio refl) tt refl (λ x x-is e.
-        point {b = b} {o = o} {a = (o + owners-at) + holder-at input} refl refl tt tt (tt, tt) (ask (valueAs (Fo 𝓤 H A W)) (Told 4 v₃ 3) (arg refl tt (arg refl tt (num tt (num tt (arg refl tt nil))))) (wire-told x x-is _ e (s .owners .input) ((o + owners-at) + holder-at input) (owners-lent Wi.the-row input (λ x. x .input) (input-holder 𝓤 H A W)) 4 (lit< tt) 3 (lit< tt)) tt refl (λ x x-is e.
+        point {b = b} {o = o} {a = (o + owners-at) + holder-at input} refl refl tt tt (tt, tt) (ask (valueAs (Fo 𝓤 H A W)) (Told 4 v₃ 3) (arg refl tt (arg refl tt (num tt (num tt (arg refl tt nil))))) (input-told x x-is _ e (s .owners .input) ((o + owners-at) + holder-at input) (owners-lent Wi.the-row input (λ x. x .input) (input-holder 𝓤 H A W)) 4 (lit< tt) 3 (lit< tt)) tt refl (λ x x-is e.
         point {b = b} {o = o} {a = (o + owners-at) + holder-at host} refl refl tt tt (tt, tt) (ask (valueAs (Fo 𝓤 H A W)) (Told 4 v₃ 4) (arg refl tt (arg refl tt (num tt (num tt (arg refl tt nil))))) (range-told x x-is _ e (s .owners .host) ((o + owners-at) + holder-at host) (owners-lent Ra.the-row host (λ x. x .host) (host-holder 𝓤 H A W)) 4 (lit< tt) 4 (lit< tt) kind.host refl) tt refl (λ x x-is e.
         point {b = b} {o = o} {a = (o + owners-at) + holder-at device} refl refl tt tt (tt, tt) (ask (valueAs (Fo 𝓤 H A W)) (Told 4 v₃ 5) (arg refl tt (arg refl tt (num tt (num tt (arg refl tt nil))))) (range-told x x-is _ e (s .owners .device) ((o + owners-at) + holder-at device) (owners-lent Ra.the-row device (λ x. x .device) (device-holder 𝓤 H A W)) 4 (lit< tt) 5 (lit< tt) kind.device refl) tt refl (λ x x-is e.
         point {b = b} {o = o} {a = (o + owners-at) + holder-at event} refl refl tt tt (tt, tt) (ask (valueAs (Fo 𝓤 H A W)) (Told 4 v₃ 6) (arg refl tt (arg refl tt (num tt (num tt (arg refl tt nil))))) (range-told x x-is _ e (s .owners .event) ((o + owners-at) + holder-at event) (owners-lent Ra.the-row event (λ x. x .event) (event-holder 𝓤 H A W)) 4 (lit< tt) 6 (lit< tt) kind.event refl) tt refl (λ x x-is e.
@@ -179,5 +179,5 @@ row-spec 𝓤 H 𝓜 𝓖 𝓡 =
       k-nothing = cited 𝓤 H (tripleOf 𝓤 H (𝓖 .A) nothing.signature (nothing.spec 𝓤 H (𝓖 .A) (𝓜 .mem) (𝓡 .run))) 𝓜 𝓡 f.Code.env nothing.Symbol.name nothing.Symbol.routine f.Code.calls-numbers·row·nothing (nothing.Met.met 𝓤 H 𝓜 𝓖 𝓡);
       k-pool = cited 𝓤 H (tripleOf 𝓤 H (𝓖 .A) pool.signature (pool.spec 𝓤 H (𝓖 .A) (𝓜 .mem) (𝓡 .run))) 𝓜 𝓡 f.Code.env pool.Symbol.name pool.Symbol.routine f.Code.calls-numbers·row·pool-row (pool.Met.met 𝓤 H 𝓜 𝓖 𝓡);
       k-range = cited 𝓤 H (tripleOf 𝓤 H (𝓖 .A) range.signature (range.spec 𝓤 H (𝓖 .A) (𝓜 .mem) (𝓡 .run))) 𝓜 𝓡 f.Code.env range.Symbol.name range.Symbol.routine f.Code.calls-numbers·row·range-row (range.Met.met 𝓤 H 𝓜 𝓖 𝓡);
-      k-wire = cited 𝓤 H (tripleOf 𝓤 H (𝓖 .A) wire.signature (wire.spec 𝓤 H (𝓖 .A) (𝓜 .mem) (𝓡 .run))) 𝓜 𝓡 f.Code.env wire.Symbol.name wire.Symbol.routine f.Code.calls-numbers·row·wire-row (wire.Met.met 𝓤 H 𝓜 𝓖 𝓡);
+      k-input = cited 𝓤 H (tripleOf 𝓤 H (𝓖 .A) inputs.signature (inputs.spec 𝓤 H (𝓖 .A) (𝓜 .mem) (𝓡 .run))) 𝓜 𝓡 f.Code.env inputs.Symbol.name inputs.Symbol.routine f.Code.calls-numbers·row·input-row (inputs.Met.met 𝓤 H 𝓜 𝓖 𝓡);
     }))

@@ -7,25 +7,25 @@ use mathlib.Core.List.{[]}
 use borrow.Author.Count.{below-more}
 use lib.ListN.{getD}
 use Rattle.definition.specs.Tables.{meets}
-use Rattle.tables.specs.Views.{pool, wires, wireOf, wireAt}
-use Rattle.search.specs.Asks.{needOf, inputNeed, bareWire}
+use Rattle.tables.specs.Views.{pool, inputs, inputOf, inputAt}
+use Rattle.search.specs.Asks.{needOf, oneInput, bareInput}
 use Rattle.search.specs.Steps.{Tried}
 use Rattle.search.proofs.CoreLaws.{Barren, tried-none, tried-more, barren-tried, lowest-here, lowest-none}
 use Rattle.search.proofs.InputLaws.{input-lowest}
 use Rattle.search.proofs.PoolRowLaws.{bases-hold, bases-fit}
-use Rattle.search.proofs.FoundLaws.{spanAt, wireIn, order-used, found-wires}
+use Rattle.search.proofs.FoundLaws.{spanAt, inputIn, order-used, found-inputs}
 use native.Mathlib.Nat.{mod-one}
 use Rattle.search.proofs.input.find_input.Statement.{statement}
 use Rattle.search.proofs.input.find_input.Tie as tie
 
 abbrev Inv-inputs : tie.InvT-inputs
-Inv-inputs pc pi ps pe pn oc ox on controller need i stop c₀ c = (getD ps i 0 ≤ c) × Tried (λ k. wireOf (wireAt (wires on oc ox [] [] []) k)) on (needOf (inputNeed controller)) (getD ps i 0) c
+Inv-inputs pc pi ps pe pn oc ox on controller need i stop c₀ c = (getD ps i 0 ≤ c) × Tried (λ k. inputOf (inputAt (inputs on oc ox [] [] []) k)) on (needOf (oneInput controller)) (getD ps i 0) c
 
 abbrev μ-inputs : tie.MeasureT-inputs
 μ-inputs pc pi ps pe pn oc ox on controller need i stop c₀ c = stop - c
 
 abbrev Inv-pools : tie.InvT-pools
-Inv-pools pc pi ps pe pn oc ox on controller need i₀ i = (i ≤ pn) × ((k : ℕ) → k < i → Barren (spanAt (pool pn pc pi ps pe)) (λ k. wireOf (wireAt (wires on oc ox [] [] []) k)) on (needOf (inputNeed controller)) k)
+Inv-pools pc pi ps pe pn oc ox on controller need i₀ i = (i ≤ pn) × ((k : ℕ) → k < i → Barren (spanAt (pool pn pc pi ps pe)) (λ k. inputOf (inputAt (inputs on oc ox [] [] []) k)) on (needOf (oneInput controller)) k)
 
 abbrev μ-pools : tie.MeasureT-pools
 μ-pools pc pi ps pe pn oc ox on controller need i₀ i = pn - i
@@ -73,8 +73,8 @@ returns c =
     let a = c .before .before .before .args in
     let p = c .before .before .before .pre in
     record {
-      is = λ t s o. found-wires (pool (a .pn) (a .pc .now) (a .pi .now) (a .ps .now) (a .pe .now)) (wires (a .on) (a .oc .now) (a .ox .now) t s o) (bareWire (a .controller)) _ (p .0) (p .1) (sym (input-lowest (a .controller) _ _ 0 0 0)
-          ∙ lowest-none (spanAt (pool (a .pn) (a .pc .now) (a .pi .now) (a .ps .now) (a .pe .now))) (wireIn (wires (a .on) (a .oc .now) (a .ox .now) t s o)) (a .on) (needOf (inputNeed (a .controller))) (a .pn) (omega arith) (λ k l. c .before .pools .inv .1 k (omega arith)));
+      is = λ t s o. found-inputs (pool (a .pn) (a .pc .now) (a .pi .now) (a .ps .now) (a .pe .now)) (inputs (a .on) (a .oc .now) (a .ox .now) t s o) (bareInput (a .controller)) _ (p .0) (p .1) (sym (input-lowest (a .controller) _ _ 0 0 0)
+          ∙ lowest-none (spanAt (pool (a .pn) (a .pc .now) (a .pi .now) (a .ps .now) (a .pe .now))) (inputIn (inputs (a .on) (a .oc .now) (a .ox .now) t s o)) (a .on) (needOf (oneInput (a .controller))) (a .pn) (omega arith) (λ k l. c .before .pools .inv .1 k (omega arith)));
       ends = tt;
     }
 
@@ -88,8 +88,8 @@ returns-2 c =
     let v = c .before .before .before .before .inputs .inv in
     let u = rw (c .before .before .before .before .before .before .before .before .before .one-input .ensures) at (c .before .before .before .before .before .before .bases-of .ensures) in
     record {
-      is = λ g s o. found-wires (pool (a .pn) (a .pc .now) (a .pi .now) (a .ps .now) (a .pe .now)) (wires (a .on) (a .oc .now) (a .ox .now) g s o) (bareWire (a .controller)) _ (p .0) (p .1) (sym (input-lowest (a .controller) _ _ 0 0 0)
-          ∙ lowest-here (spanAt (pool (a .pn) (a .pc .now) (a .pi .now) (a .ps .now) (a .pe .now))) (wireIn (wires (a .on) (a .oc .now) (a .ox .now) g s o)) (a .on) (needOf (inputNeed (a .controller))) (a .pn) (omega arith) _ _ (order-used (pool (a .pn) (a .pc .now) (a .pi .now) (a .ps .now) (a .pe .now)) (p .0)) (omega arith)
+      is = λ g s o. found-inputs (pool (a .pn) (a .pc .now) (a .pi .now) (a .ps .now) (a .pe .now)) (inputs (a .on) (a .oc .now) (a .ox .now) g s o) (bareInput (a .controller)) _ (p .0) (p .1) (sym (input-lowest (a .controller) _ _ 0 0 0)
+          ∙ lowest-here (spanAt (pool (a .pn) (a .pc .now) (a .pi .now) (a .ps .now) (a .pe .now))) (inputIn (inputs (a .on) (a .oc .now) (a .ox .now) g s o)) (a .on) (needOf (oneInput (a .controller))) (a .pn) (omega arith) _ _ (order-used (pool (a .pn) (a .pc .now) (a .pi .now) (a .ps .now) (a .pe .now)) (p .0)) (omega arith)
           (c .before .before .before .before .before .before .before .before .pools .inv .1) (v .1) (bases-hold _ _ _ _ u (v .0) t) (mod-one (c .before .before .before .before .inputs .c)) f);
       ends = u .fits (c .before .before .before .before .inputs .c) t;
     }

@@ -5,7 +5,7 @@ use mathlib.Core.Path.{_≡_, sym}
 use mathlib.Core.List.{[]}
 use Rattle.definition.specs.Tables.{wiredRow, meets}
 use Rattle.tables.specs.Below.{first}
-use Rattle.tables.specs.Views.{wires, wireOf, wireAt}
+use Rattle.tables.specs.Views.{inputs, inputOf, inputAt}
 use Rattle.tables.specs.declared.Hit.the-variants.{Clear}
 use Rattle.tables.proofs.BelowLaws.{first-start, first-more, first-found}
 use Rattle.search.proofs.MeetLaws.{on-one, off-number, off-controller}
@@ -13,7 +13,7 @@ use Rattle.search.proofs.input.first_on.Statement.{statement}
 use Rattle.search.proofs.input.first_on.Tie as tie
 
 abbrev Inv-loop : tie.InvT-loop
-Inv-loop controller input n c x i₀ i = (i ≤ n) × (first (λ k. meets (wiredRow c x 0 0 0) (wireOf (wireAt (wires n controller input [] [] []) k))) i ≡ Clear)
+Inv-loop controller input n c x i₀ i = (i ≤ n) × (first (λ k. meets (wiredRow c x 0 0 0) (inputOf (inputAt (inputs n controller input [] [] []) k))) i ≡ Clear)
 
 abbrev μ-loop : tie.MeasureT-loop
 μ-loop controller input n c x i₀ i = n - i

@@ -4,14 +4,14 @@ use native.Mathlib.Omega.{arith}
 use Prim.Native.Nat.{_-_, _≤_}
 use mathlib.Core.Path.{_≡_}
 use mathlib.Core.List.{[]}
-use Rattle.tables.specs.Views.{wires, wireOf, wireAt}
-use Rattle.search.specs.Asks.{needOf, inputNeed}
+use Rattle.tables.specs.Views.{inputs, inputOf, inputAt}
+use Rattle.search.specs.Asks.{needOf, oneInput}
 use Rattle.search.proofs.PassLaws.{Passing, pass-start, pass-on, pass-stop, pass-stay, pass-to}
 use Rattle.search.proofs.input.next_input.Statement.{statement}
 use Rattle.search.proofs.input.next_input.Tie as tie
 
 abbrev Inv-loop : tie.InvT-loop
-Inv-loop controller input n c x stop b₀ i₀ b i = (i ≤ n) × Passing (λ k. wireOf (wireAt (wires n controller input [] [] []) k)) n (needOf (inputNeed c)) x stop i b
+Inv-loop controller input n c x stop b₀ i₀ b i = (i ≤ n) × Passing (λ k. inputOf (inputAt (inputs n controller input [] [] []) k)) n (needOf (oneInput c)) x stop i b
 
 abbrev μ-loop : tie.MeasureT-loop
 μ-loop controller input n c x stop b₀ i₀ b i = n - i

@@ -5,17 +5,17 @@ use borrow.Author.Tests.{not-false, not-true}
 use mathlib.Core.Bool.{true}
 use mathlib.Core.Path.{_∙_, _≡_, sym}
 use native.Mathlib.Omega.{arith}
-use Rattle.sound.specs.Tests.{wireOk}
+use Rattle.sound.specs.Tests.{inputOk}
 use Rattle.table_tests.proofs.HighLaws.{high-more, high-start}
 use Rattle.table_tests.specs.Tests.{NoneAbove}
 use Rattle.tables.proofs.BelowLaws.{all-more, all-start, all-stop}
 use Rattle.tables.specs.Below.{allBelow}
-use Rattle.tables.specs.Views.{wires}
+use Rattle.tables.specs.Views.{inputs}
 use Rattle.sound.proofs.wired.rows_ok.Statement.{statement}
 use Rattle.sound.proofs.wired.rows_ok.Tie as tie
 
 abbrev Inv-loop : tie.InvT-loop
-Inv-loop n single controller input trigger sharing owner high₀ k₀ high k = (k ≤ n) × ((allBelow (wireOk single (wires 0 controller input trigger sharing owner)) k ≡ true) × NoneAbove high input k)
+Inv-loop n single controller input trigger sharing owner high₀ k₀ high k = (k ≤ n) × ((allBelow (inputOk single (inputs 0 controller input trigger sharing owner)) k ≡ true) × NoneAbove high input k)
 
 abbrev μ-loop : tie.MeasureT-loop
 μ-loop n single controller input trigger sharing owner high₀ k₀ high k = n - k

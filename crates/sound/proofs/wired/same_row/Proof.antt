@@ -1,7 +1,7 @@
 -- Two rows are the same where each number is: the code's test is the definition's. Assumes nothing.
 use lib.Dec.{eqb}
 use Rattle.definition.specs.Tables.{sameDom, sameRow}
-use Rattle.sound.proofs.WireLaws.{once}
+use Rattle.sound.proofs.InputLaws.{once}
 use Rattle.sound.proofs.wired.same_row.Statement.{statement}
 use Rattle.sound.proofs.wired.same_row.Tie as tie
 

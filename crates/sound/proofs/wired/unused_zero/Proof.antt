@@ -5,15 +5,15 @@ use mathlib.Core.Bool.{_&&_}
 use mathlib.Core.Path.{_∙_, _≡_, sym, ap₂}
 use native.Mathlib.Omega.{arith}
 use Rattle.definition.specs.Tables.{rowLimit, sameRow}
-use Rattle.sound.specs.Tests.{blankWire}
+use Rattle.sound.specs.Tests.{blankInput}
 use Rattle.tables.proofs.BelowLaws.{from-next, from-start}
 use Rattle.tables.specs.Below.{allFrom}
-use Rattle.tables.specs.Views.{wireAt, wireOf, wires}
+use Rattle.tables.specs.Views.{inputAt, inputOf, inputs}
 use Rattle.sound.proofs.wired.unused_zero.Statement.{statement}
 use Rattle.sound.proofs.wired.unused_zero.Tie as tie
 
 abbrev Inv-loop : tie.InvT-loop
-Inv-loop n controller input trigger sharing owner zero zeros₀ k₀ zeros k = (n ≤ k) × ((k ≤ rowLimit) × (zeros ≡ allFrom (λ j. sameRow blankWire (wireOf (wireAt (wires n controller input trigger sharing owner) j))) n k))
+Inv-loop n controller input trigger sharing owner zero zeros₀ k₀ zeros k = (n ≤ k) × ((k ≤ rowLimit) × (zeros ≡ allFrom (λ j. sameRow blankInput (inputOf (inputAt (inputs n controller input trigger sharing owner) j))) n k))
 
 abbrev μ-loop : tie.MeasureT-loop
 μ-loop n controller input trigger sharing owner zero zeros₀ k₀ zeros k = rowLimit - k
@@ -26,7 +26,7 @@ loop-again c = (
   omega arith,
   (
     omega arith,
-    ap₂ (λ x y. x && y) (c .before .before .before .loop .inv .1 .1) (rw (c .before .wire-at .ensures) at (c .same-row .ensures))
+    ap₂ (λ x y. x && y) (c .before .before .before .loop .inv .1 .1) (rw (c .before .input-at .ensures) at (c .same-row .ensures))
         ∙ sym (from-next _ _ _ (c .before .before .before .loop .inv .0)),
   ),
 )
