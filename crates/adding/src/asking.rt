@@ -7,11 +7,10 @@ use super::goes;
 use super::range_for;
 use tables::Kind;
 ghost use mathlib.Core.Path.{_≡_};
-ghost use Rattle.tables.specs.declared.Kind.the-variants as K;
 ghost use Rattle.adding.specs.Adds.{askOf, inputAskOf};
 
 // The tables of a kind of ranges.
-fn range(q: Adds, k: Kind) -> Ask
+pub fn range(q: Adds, k: Kind) -> Ask
     ensures { λ a. ⌜ a ≡ askOf q k ⌝ }
 {
     let range = range_for(q, k);
@@ -44,40 +43,4 @@ pub fn input(q: Adds) -> InputAsk
         range,
         row,
     }
-}
-
-pub fn mmio(q: Adds) -> Ask
-    ensures { λ a. ⌜ a ≡ askOf q K.Mmio ⌝ }
-{
-    range(q, Kind::Mmio)
-}
-
-pub fn pio(q: Adds) -> Ask
-    ensures { λ a. ⌜ a ≡ askOf q K.Pio ⌝ }
-{
-    range(q, Kind::Pio)
-}
-
-pub fn host(q: Adds) -> Ask
-    ensures { λ a. ⌜ a ≡ askOf q K.Host ⌝ }
-{
-    range(q, Kind::Host)
-}
-
-pub fn device(q: Adds) -> Ask
-    ensures { λ a. ⌜ a ≡ askOf q K.Device ⌝ }
-{
-    range(q, Kind::Device)
-}
-
-pub fn event(q: Adds) -> Ask
-    ensures { λ a. ⌜ a ≡ askOf q K.Event ⌝ }
-{
-    range(q, Kind::Event)
-}
-
-pub fn lpi(q: Adds) -> Ask
-    ensures { λ a. ⌜ a ≡ askOf q K.Lpi ⌝ }
-{
-    range(q, Kind::Lpi)
 }

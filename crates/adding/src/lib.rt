@@ -21,9 +21,7 @@ ghost use Rattle.adding.specs.Judged.{oneOf, wholly, inTurn, verdictOf, 
 
 pub mod answer;
 pub mod asking;
-pub mod auto;
 pub mod enter;
-pub mod fixed;
 pub mod holds;
 pub mod pools;
 pub mod put;

@@ -6,11 +6,10 @@ use lent_table::store::InputPut;
 use lent_table::store::Put;
 use tables::Kind;
 ghost use mathlib.Core.Path.{_≡_};
-ghost use Rattle.tables.specs.declared.Kind.the-variants as K;
 ghost use Rattle.adding.specs.Judged.{heldPutOf, inputPutOf};
 
 // The row for a reservation table of ranges.
-fn range(v: Verdict, k: Kind) -> Put
+pub fn range(v: Verdict, k: Kind) -> Put
     ensures { λ p. ⌜ p ≡ heldPutOf v k ⌝ }
 {
     let go = stays(v, To::Held, k);
@@ -27,40 +26,4 @@ pub fn input(v: Verdict) -> InputPut
     let q = v.adds;
     let row = q.input;
     InputPut { go, row }
-}
-
-pub fn mmio(v: Verdict) -> Put
-    ensures { λ p. ⌜ p ≡ heldPutOf v K.Mmio ⌝ }
-{
-    range(v, Kind::Mmio)
-}
-
-pub fn pio(v: Verdict) -> Put
-    ensures { λ p. ⌜ p ≡ heldPutOf v K.Pio ⌝ }
-{
-    range(v, Kind::Pio)
-}
-
-pub fn host(v: Verdict) -> Put
-    ensures { λ p. ⌜ p ≡ heldPutOf v K.Host ⌝ }
-{
-    range(v, Kind::Host)
-}
-
-pub fn device(v: Verdict) -> Put
-    ensures { λ p. ⌜ p ≡ heldPutOf v K.Device ⌝ }
-{
-    range(v, Kind::Device)
-}
-
-pub fn event(v: Verdict) -> Put
-    ensures { λ p. ⌜ p ≡ heldPutOf v K.Event ⌝ }
-{
-    range(v, Kind::Event)
-}
-
-pub fn lpi(v: Verdict) -> Put
-    ensures { λ p. ⌜ p ≡ heldPutOf v K.Lpi ⌝ }
-{
-    range(v, Kind::Lpi)
 }

@@ -8,6 +8,7 @@ use decide::value;
 use request::Request;
 use request::Want;
 use tables::Holders;
+use tables::Kind;
 use tables::RECORD;
 use tables::State;
 ghost use mathlib.Core.Path.{_≡_};
@@ -63,13 +64,13 @@ pub fn find(s: State, r: Request) -> Granted
     ensures { λ g. ⌜ Finds s (requestOf r) g ⌝ }
 {
     let q = decide::queried(r);
-    let a = ask::mmio(q);
+    let a = ask::range(q, Kind::Mmio);
     let mmio = value::see_range(s.auto.mmio, s.fixed.mmio, s.owners.mmio, a);
-    let a = ask::pio(q);
+    let a = ask::range(q, Kind::Pio);
     let pio = value::see_range(s.auto.pio, s.fixed.pio, s.owners.pio, a);
     let a = ask::input(q);
     let input = value::see_input(s.auto.input, s.fixed.input, s.owners.input, a);
-    let a = ask::host(q);
+    let a = ask::range(q, Kind::Host);
     let host = value::see_range(s.auto.host, s.fixed.host, s.owners.host, a);
     let a = ask::device(q);
     let device = value::see_range(s.auto.device, s.fixed.device, s.owners.device, a);
@@ -85,19 +86,19 @@ pub fn rows_kept(h: Holders, g: Granted) -> Holders
     requires { ⌜ AllFree g h ⌝ }
     ensures { λ r. ⌜ r ≡ keptHolders g h ⌝ }
 {
-    let p = put::mmio(g);
+    let p = put::range(g, Kind::Mmio);
     let mmio = value::put_range(h.mmio, p);
-    let p = put::pio(g);
+    let p = put::range(g, Kind::Pio);
     let pio = value::put_range(h.pio, p);
     let p = put::input(g);
     let input = value::put_input(h.input, p);
-    let p = put::host(g);
+    let p = put::range(g, Kind::Host);
     let host = value::put_range(h.host, p);
-    let p = put::device(g);
+    let p = put::range(g, Kind::Device);
     let device = value::put_range(h.device, p);
-    let p = put::event(g);
+    let p = put::range(g, Kind::Event);
     let event = value::put_range(h.event, p);
-    let p = put::lpi(g);
+    let p = put::range(g, Kind::Lpi);
     let lpi = value::put_range(h.lpi, p);
     Holders {
         mmio,

@@ -33,7 +33,7 @@ use Rattle.msi.proofs.ListLaws.{msi-is}
 use Rattle.lent_table.specs.Look.{Sees, SeesInput}
 use Rattle.lent_table.specs.declared.look.Seen.{Seen}
 use Rattle.decide.specs.Outcome.{claimed}
-use Rattle.decide.specs.Query.{needing, ask, wanted, queryOf, asked}
+use Rattle.decide.specs.Query.{needing, ask, wanted, queryOf, askOf, asked}
 use Rattle.decide.specs.Granted.{rowFor, standing, rangeGranted, given, verdictOf}
 use Rattle.decide.specs.Kept.{answer, Finds}
 use Rattle.decide.specs.Tables.{Seeing, AllSeen, SeeingOwn}
@@ -102,7 +102,7 @@ finds s r m p w h d e l t y = own-finds s r m p w h d e l t (own-seen s (queryOf
 
 -- .. where only those were looked at that the query is for: the one it names, or else the three of an MSI request
 module _ (s : State) (x : Seen) where
-  pub mmio-seen : (q : Query) → T (asked q .mmio .go) → Sees (s .auto .mmio) (s .fixed .mmio) (s .owners .mmio) (asked q .mmio) x → SeeingOwn s q x x x x x x x
+  pub mmio-seen : (q : Query) → T (askOf q K.Mmio .go) → Sees (s .auto .mmio) (s .fixed .mmio) (s .owners .mmio) (askOf q K.Mmio) x → SeeingOwn s q x x x x x x x
   mmio-seen Q.Nothing t y = absurd t
   mmio-seen (Q.Mmio n c) t y = y
   mmio-seen (Q.Pio n c) t y = absurd t
@@ -110,7 +110,7 @@ module _ (s : State) (x : Seen) where
   mmio-seen (Q.Host n c) t y = absurd t
   mmio-seen (Q.Msi v) t y = absurd t
 
-  pub pio-seen : (q : Query) → T (asked q .pio .go) → Sees (s .auto .pio) (s .fixed .pio) (s .owners .pio) (asked q .pio) x → SeeingOwn s q x x x x x x x
+  pub pio-seen : (q : Query) → T (askOf q K.Pio .go) → Sees (s .auto .pio) (s .fixed .pio) (s .owners .pio) (askOf q K.Pio) x → SeeingOwn s q x x x x x x x
   pio-seen Q.Nothing t y = absurd t
   pio-seen (Q.Mmio n c) t y = absurd t
   pio-seen (Q.Pio n c) t y = y
@@ -126,7 +126,7 @@ module _ (s : State) (x : Seen) where
   input-seen (Q.Host n c) t y = absurd t
   input-seen (Q.Msi v) t y = absurd t
 
-  pub host-seen : (q : Query) → T (asked q .host .go) → Sees (s .auto .host) (s .fixed .host) (s .owners .host) (asked q .host) x → SeeingOwn s q x x x x x x x
+  pub host-seen : (q : Query) → T (askOf q K.Host .go) → Sees (s .auto .host) (s .fixed .host) (s .owners .host) (askOf q K.Host) x → SeeingOwn s q x x x x x x x
   host-seen Q.Nothing t y = absurd t
   host-seen (Q.Mmio n c) t y = absurd t
   host-seen (Q.Pio n c) t y = absurd t
@@ -134,7 +134,7 @@ module _ (s : State) (x : Seen) where
   host-seen (Q.Host n c) t y = y
   host-seen (Q.Msi v) t y = absurd t
 
-pub three-seen : (s : State) (d e l : Seen) (q : Query) → T (not (asked q .mmio .go)) → T (not (asked q .pio .go)) → T (not (asked q .input .go)) → T (not (asked q .host .go))
+pub three-seen : (s : State) (d e l : Seen) (q : Query) → T (not (askOf q K.Mmio .go)) → T (not (askOf q K.Pio .go)) → T (not (asked q .input .go)) → T (not (askOf q K.Host .go))
     → Sees (s .auto .device) (s .fixed .device) (s .owners .device) (asked q .device) d → Sees (s .auto .event) (s .fixed .event) (s .owners .event) (asked q .event d) e
     → Sees (s .auto .lpi) (s .fixed .lpi) (s .owners .lpi) (asked q .lpi e) l → SeeingOwn s q d d d d d e l
 three-seen s d e l Q.Nothing m p w h x y z = tt

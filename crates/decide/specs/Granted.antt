@@ -3,6 +3,7 @@ use mathlib.Core.Bool.{Bool, true, false}
 use Prim.Native.Nat.{ℕ}
 use lib.Dec.{ltb}
 use Rattle.definition.specs.Tables.{rowLimit}
+use Rattle.tables.specs.Views.{sameOf}
 use Rattle.tables.specs.declared.Kind.{Kind}
 use Rattle.tables.specs.declared.Kind.the-variants as K
 use Rattle.search.specs.declared.Need.{Need}
@@ -19,6 +20,7 @@ use Rattle.tables.specs.declared.InputRow.{InputRow}
 use Rattle.request.specs.declared.Said.{Said}
 use Rattle.msi.specs.Msi.{deviceIn, eventIn, lpiIn, chained, rowsOf}
 use Rattle.msi.specs.declared.Msi.{Msi}
+use Rattle.msi.specs.declared.MsiRows.{MsiRows}
 use Rattle.msi.specs.declared.MsiChosen.{MsiChosen}
 use Rattle.msi.specs.declared.MsiChosen.the-variants as M
 use Rattle.lent_table.specs.declared.look.Seen.{Seen}
@@ -118,31 +120,35 @@ verdictOf (Q.Msi x) m p w h d e l = msiVerdict x d e l
 abbrev pub put : RangeRow → Put
 put r = record { go = true; row = r }
 
-abbrev pub putInput : InputRow → InputPut
-putInput r = record { go = true; row = r }
-
 abbrev pub noPut : Put
 noPut = record { go = false; row = record { controller = 0; its = 0; device = 0; start = 0; end = 0; owner = 0 } }
 
 abbrev pub noInputPut : InputPut
 noInputPut = record { go = false; row = record { controller = 0; input = 0; trigger = 0; sharing = 0; owner = 0 } }
 
-pub record Puts : Type 0 where
-  pub mmio : Put
-  pub pio : Put
-  pub input : InputPut
-  pub host : Put
-  pub device : Put
-  pub event : Put
-  pub lpi : Put
+-- those of an MSI request, by kind
+abbrev pub putOfThree : MsiRows → Kind → Put
+putOfThree r K.Mmio = noPut
+putOfThree r K.Pio = noPut
+putOfThree r K.Input = noPut
+putOfThree r K.Host = noPut
+putOfThree r K.Device = put (r .device)
+putOfThree r K.Event = put (r .event)
+putOfThree r K.Lpi = put (r .lpi)
 
-abbrev putting : Put → Put → InputPut → Put → Put → Put → Put → Puts
-putting m p w h d e l = record { mmio = m; pio = p; input = w; host = h; device = d; event = e; lpi = l }
+-- the row for the table of a kind of ranges, and that for the table of inputs
+abbrev pub putOf : Rows → Kind → Put
+putOf R.Nothing k = noPut
+putOf (R.Mmio r) k = record { go = sameOf K.Mmio k; row = r }
+putOf (R.Pio r) k = record { go = sameOf K.Pio k; row = r }
+putOf (R.Input r) k = noPut
+putOf (R.Host r) k = record { go = sameOf K.Host k; row = r }
+putOf (R.Msi r) k = putOfThree r k
 
-abbrev pub puts : Rows → Puts
-puts R.Nothing = putting noPut noPut noInputPut noPut noPut noPut noPut
-puts (R.Mmio r) = putting (put r) noPut noInputPut noPut noPut noPut noPut
-puts (R.Pio r) = putting noPut (put r) noInputPut noPut noPut noPut noPut
-puts (R.Input r) = putting noPut noPut (putInput r) noPut noPut noPut noPut
-puts (R.Host r) = putting noPut noPut noInputPut (put r) noPut noPut noPut
-puts (R.Msi r) = putting noPut noPut noInputPut noPut (put (r .device)) (put (r .event)) (put (r .lpi))
+abbrev pub putInputOf : Rows → InputPut
+putInputOf R.Nothing = noInputPut
+putInputOf (R.Mmio r) = noInputPut
+putInputOf (R.Pio r) = noInputPut
+putInputOf (R.Input r) = record { go = true; row = r }
+putInputOf (R.Host r) = noInputPut
+putInputOf (R.Msi r) = noInputPut

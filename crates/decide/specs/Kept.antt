@@ -8,16 +8,17 @@ use mathlib.Core.List.{List}
 use Rattle.tables.specs.Views.{stateView}
 use Rattle.tables.specs.Whole.{holders}
 use Rattle.tables.specs.declared.Holders.{Holders}
+use Rattle.tables.specs.declared.Kind.the-variants as K
 use Rattle.tables.specs.declared.State.{State}
 use Rattle.lent_table.specs.Store.{Free, putRange, putInput}
 use Rattle.decide.specs.Outcome.{basesIn, after}
-use Rattle.decide.specs.Granted.{puts}
+use Rattle.decide.specs.Granted.{putOf, putInputOf}
 use Rattle.decide.specs.declared.Granted.{Granted}
 
 abbrev pub keptHolders : Granted → Holders → Holders
 keptHolders g h =
-    holders (putRange (h .mmio) (puts (g .rows) .mmio)) (putRange (h .pio) (puts (g .rows) .pio)) (putInput (h .input) (puts (g .rows) .input)) (putRange (h .host) (puts (g .rows) .host))
-    (putRange (h .device) (puts (g .rows) .device)) (putRange (h .event) (puts (g .rows) .event)) (putRange (h .lpi) (puts (g .rows) .lpi))
+    holders (putRange (h .mmio) (putOf (g .rows) K.Mmio)) (putRange (h .pio) (putOf (g .rows) K.Pio)) (putInput (h .input) (putInputOf (g .rows))) (putRange (h .host) (putOf (g .rows) K.Host))
+    (putRange (h .device) (putOf (g .rows) K.Device)) (putRange (h .event) (putOf (g .rows) K.Event)) (putRange (h .lpi) (putOf (g .rows) K.Lpi))
 
 abbrev pub kept : Granted → State → State
 kept g s =
@@ -35,13 +36,13 @@ kept g s =
 
 -- each row that is to be stored has a place
 pub record AllFree (g : Granted) (h : Holders) : Type 0 where
-  pub mmio : Free (h .mmio .n) (puts (g .rows) .mmio .go)
-  pub pio : Free (h .pio .n) (puts (g .rows) .pio .go)
-  pub input : Free (h .input .n) (puts (g .rows) .input .go)
-  pub host : Free (h .host .n) (puts (g .rows) .host .go)
-  pub device : Free (h .device .n) (puts (g .rows) .device .go)
-  pub event : Free (h .event .n) (puts (g .rows) .event .go)
-  pub lpi : Free (h .lpi .n) (puts (g .rows) .lpi .go)
+  pub mmio : Free (h .mmio .n) (putOf (g .rows) K.Mmio .go)
+  pub pio : Free (h .pio .n) (putOf (g .rows) K.Pio .go)
+  pub input : Free (h .input .n) (putInputOf (g .rows) .go)
+  pub host : Free (h .host .n) (putOf (g .rows) K.Host .go)
+  pub device : Free (h .device .n) (putOf (g .rows) K.Device .go)
+  pub event : Free (h .event .n) (putOf (g .rows) K.Event .go)
+  pub lpi : Free (h .lpi .n) (putOf (g .rows) K.Lpi .go)
 
 -- the definition's answer to a request on a state
 abbrev pub answer : State → R.Request → Answer (List Claim)

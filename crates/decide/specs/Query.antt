@@ -2,6 +2,7 @@
 use mathlib.Core.Bool.{Bool, true, false}
 use Prim.Native.Nat.{ℕ}
 use Rattle.definition.specs.Request.{goodRequest}
+use Rattle.tables.specs.Views.{sameOf}
 use Rattle.tables.specs.declared.Kind.{Kind}
 use Rattle.tables.specs.declared.Kind.the-variants as K
 use Rattle.search.specs.declared.Need.{Need}
@@ -70,25 +71,29 @@ abbrev pub lpiAsk : Msi → EventChosen → Ask
 lpiAsk m (E′.Stands e) = ask (lpiNeed m) (plainLpi (m .lpi))
 lpiAsk m (E′.Refused y) = idle
 
+-- the tables of MMIO, ports and host IRQs, by kind
+abbrev pub askOf : Query → Kind → Ask
+askOf Q.Nothing k = idle
+askOf (Q.Mmio n c) k = record { go = sameOf K.Mmio k; need = n; choice = c }
+askOf (Q.Pio n c) k = record { go = sameOf K.Pio k; need = n; choice = c }
+askOf (Q.Input w c) k = idle
+askOf (Q.Host n c) k = record { go = sameOf K.Host k; need = n; choice = c }
+askOf (Q.Msi m) k = idle
+
+-- the others
 pub record Asked : Type 0 where
-  pub mmio : Ask
-  pub pio : Ask
   pub input : InputAsk
-  pub host : Ask
   pub device : Ask
   pub event : Seen → Ask
   pub lpi : Seen → Ask
 
-abbrev asking : Ask → Ask → InputAsk → Ask → Ask → (Seen → Ask) → (Seen → Ask) → Asked
-asking m p w h d e l = record { mmio = m; pio = p; input = w; host = h; device = d; event = e; lpi = l }
-
-abbrev never : Seen → Ask
-never x = idle
+abbrev noneAsked : Asked
+noneAsked = record { input = idleInput; device = idle; event = λ d. idle; lpi = λ e. idle }
 
 abbrev pub asked : Query → Asked
-asked Q.Nothing = asking idle idle idleInput idle idle never never
-asked (Q.Mmio n c) = asking (ask n c) idle idleInput idle idle never never
-asked (Q.Pio n c) = asking idle (ask n c) idleInput idle idle never never
-asked (Q.Input w c) = asking idle idle (askInput w c) idle idle never never
-asked (Q.Host n c) = asking idle idle idleInput (ask n c) idle never never
-asked (Q.Msi m) = asking idle idle idleInput idle (deviceAsk m) (λ d. eventAsk m (deviceIn (d .chosen))) (λ e. lpiAsk m (eventIn (e .chosen)))
+asked Q.Nothing = noneAsked
+asked (Q.Mmio n c) = noneAsked
+asked (Q.Pio n c) = noneAsked
+asked (Q.Input w c) = record { input = askInput w c; device = idle; event = λ d. idle; lpi = λ e. idle }
+asked (Q.Host n c) = noneAsked
+asked (Q.Msi m) = record { input = idleInput; device = deviceAsk m; event = λ d. eventAsk m (deviceIn (d .chosen)); lpi = λ e. lpiAsk m (eventIn (e .chosen)) }

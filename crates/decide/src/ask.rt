@@ -1,4 +1,4 @@
-// What a query asks of each table: of its own what it needs, of any other nothing.
+// What a query asks of each table: of its own what it needs, of any other nothing. A kind that the caller names is folded away, so each arm is one comparison.
 use super::Query;
 use super::needing;
 use choose::Choice;
@@ -11,26 +11,22 @@ use msi::DeviceChosen;
 use msi::EventChosen;
 use msi::Msi;
 use tables::Kind;
+use tables::same_kind;
 ghost use mathlib.Core.Path.{_≡_};
-ghost use Rattle.decide.specs.Query.{idle, idleInput, asked, deviceAsk, eventAsk, lpiAsk};
+ghost use Rattle.decide.specs.Query.{idle, idleInput, askOf, asked, deviceAsk, eventAsk, lpiAsk};
 
 // ---- whether the query is for one table alone, and for which
 
-pub fn for_mmio(q: Query) -> bool
-    ensures { λ b. ⌜ b ≡ asked q .mmio .go ⌝ }
+pub fn for_range(q: Query, kind: Kind) -> bool
+    ensures { λ b. ⌜ b ≡ askOf q kind .go ⌝ }
 {
     match q {
-        Query::Mmio(_, _) => true,
-        _ => false,
-    }
-}
-
-pub fn for_pio(q: Query) -> bool
-    ensures { λ b. ⌜ b ≡ asked q .pio .go ⌝ }
-{
-    match q {
-        Query::Pio(_, _) => true,
-        _ => false,
+        Query::Nothing => false,
+        Query::Mmio(_, _) => same_kind(Kind::Mmio, kind),
+        Query::Pio(_, _) => same_kind(Kind::Pio, kind),
+        Query::Input(_, _) => false,
+        Query::Host(_, _) => same_kind(Kind::Host, kind),
+        Query::Msi(_) => false,
     }
 }
 
@@ -43,42 +39,28 @@ pub fn for_input(q: Query) -> bool
     }
 }
 
-pub fn for_host(q: Query) -> bool
-    ensures { λ b. ⌜ b ≡ asked q .host .go ⌝ }
-{
-    match q {
-        Query::Host(_, _) => true,
-        _ => false,
-    }
-}
-
 // ---- what it asks of each
 
-// The table of MMIO.
-pub fn mmio(q: Query) -> Ask
-    ensures { λ a. ⌜ a ≡ asked q .mmio ⌝ }
+// The table of a kind of ranges that has a query of its own.
+pub fn range(q: Query, kind: Kind) -> Ask
+    ensures { λ a. ⌜ a ≡ askOf q kind ⌝ }
 {
     match q {
-        Query::Mmio(need, choice) => Ask {
-            go: true,
-            need,
-            choice,
-        },
-        _ => nothing(),
-    }
-}
-
-// The table of ports.
-pub fn pio(q: Query) -> Ask
-    ensures { λ a. ⌜ a ≡ asked q .pio ⌝ }
-{
-    match q {
-        Query::Pio(need, choice) => Ask {
-            go: true,
-            need,
-            choice,
-        },
-        _ => nothing(),
+        Query::Nothing => nothing(),
+        Query::Mmio(need, choice) => {
+            let go = same_kind(Kind::Mmio, kind);
+            Ask { go, need, choice }
+        }
+        Query::Pio(need, choice) => {
+            let go = same_kind(Kind::Pio, kind);
+            Ask { go, need, choice }
+        }
+        Query::Input(_, _) => nothing(),
+        Query::Host(need, choice) => {
+            let go = same_kind(Kind::Host, kind);
+            Ask { go, need, choice }
+        }
+        Query::Msi(_) => nothing(),
     }
 }
 
@@ -93,20 +75,6 @@ pub fn input(q: Query) -> InputAsk
             choice,
         },
         _ => no_input(),
-    }
-}
-
-// The table of host IRQs.
-pub fn host(q: Query) -> Ask
-    ensures { λ a. ⌜ a ≡ asked q .host ⌝ }
-{
-    match q {
-        Query::Host(need, choice) => Ask {
-            go: true,
-            need,
-            choice,
-        },
-        _ => nothing(),
     }
 }
 

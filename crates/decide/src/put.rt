@@ -1,96 +1,72 @@
-// What each table is to store: the rows' own tables a row, any other nothing.
+// What each table is to store: the rows' own tables a row, any other nothing. A kind that the caller names is folded away, so each arm is one comparison.
 use super::Granted;
 use super::Rows;
 use lent_table::store::InputPut;
 use lent_table::store::Put;
+use msi::MsiRows;
 use tables::InputRow;
+use tables::Kind;
 use tables::RangeRow;
+use tables::same_kind;
 ghost use mathlib.Core.Path.{_≡_};
-ghost use Rattle.decide.specs.Granted.{noPut, noInputPut, puts};
+ghost use Rattle.decide.specs.Granted.{noPut, noInputPut, putOf, putOfThree, putInputOf};
 
-// The table of MMIO.
-pub fn mmio(g: Granted) -> Put
-    ensures { λ p. ⌜ p ≡ puts (g .rows) .mmio ⌝ }
+// The row for the table of a kind of ranges.
+pub fn range(g: Granted, kind: Kind) -> Put
+    ensures { λ p. ⌜ p ≡ putOf (g .rows) kind ⌝ }
 {
     let rows = g.rows;
     match rows {
-        Rows::Mmio(row) => Put { go: true, row },
-        _ => nothing(),
+        Rows::Nothing => nothing(),
+        Rows::Mmio(row) => {
+            let go = same_kind(Kind::Mmio, kind);
+            Put { go, row }
+        }
+        Rows::Pio(row) => {
+            let go = same_kind(Kind::Pio, kind);
+            Put { go, row }
+        }
+        Rows::Input(_) => nothing(),
+        Rows::Host(row) => {
+            let go = same_kind(Kind::Host, kind);
+            Put { go, row }
+        }
+        Rows::Msi(three) => of_three(three, kind),
     }
 }
 
-// The table of ports.
-pub fn pio(g: Granted) -> Put
-    ensures { λ p. ⌜ p ≡ puts (g .rows) .pio ⌝ }
+// .. of an MSI request's three.
+pub fn of_three(three: MsiRows, kind: Kind) -> Put
+    ensures { λ p. ⌜ p ≡ putOfThree three kind ⌝ }
 {
-    let rows = g.rows;
-    match rows {
-        Rows::Pio(row) => Put { go: true, row },
-        _ => nothing(),
+    match kind {
+        Kind::Mmio => nothing(),
+        Kind::Pio => nothing(),
+        Kind::Input => nothing(),
+        Kind::Host => nothing(),
+        Kind::Device => {
+            let row = three.device;
+            Put { go: true, row }
+        }
+        Kind::Event => {
+            let row = three.event;
+            Put { go: true, row }
+        }
+        Kind::Lpi => {
+            let row = three.lpi;
+            Put { go: true, row }
+        }
     }
 }
 
-// The table of inputs.
+// The row for the table of inputs.
 pub fn input(g: Granted) -> InputPut
-    ensures { λ p. ⌜ p ≡ puts (g .rows) .input ⌝ }
+    ensures { λ p. ⌜ p ≡ putInputOf (g .rows) ⌝ }
 {
     let rows = g.rows;
     match rows {
         Rows::Input(row) => InputPut { go: true, row },
         _ => no_input(),
-    }
-}
-
-// The table of host IRQs.
-pub fn host(g: Granted) -> Put
-    ensures { λ p. ⌜ p ≡ puts (g .rows) .host ⌝ }
-{
-    let rows = g.rows;
-    match rows {
-        Rows::Host(row) => Put { go: true, row },
-        _ => nothing(),
-    }
-}
-
-// The table of devices.
-pub fn device(g: Granted) -> Put
-    ensures { λ p. ⌜ p ≡ puts (g .rows) .device ⌝ }
-{
-    let rows = g.rows;
-    match rows {
-        Rows::Msi(three) => {
-            let row = three.device;
-            Put { go: true, row }
-        }
-        _ => nothing(),
-    }
-}
-
-// The table of events.
-pub fn event(g: Granted) -> Put
-    ensures { λ p. ⌜ p ≡ puts (g .rows) .event ⌝ }
-{
-    let rows = g.rows;
-    match rows {
-        Rows::Msi(three) => {
-            let row = three.event;
-            Put { go: true, row }
-        }
-        _ => nothing(),
-    }
-}
-
-// The table of LPIs.
-pub fn lpi(g: Granted) -> Put
-    ensures { λ p. ⌜ p ≡ puts (g .rows) .lpi ⌝ }
-{
-    let rows = g.rows;
-    match rows {
-        Rows::Msi(three) => {
-            let row = three.lpi;
-            Put { go: true, row }
-        }
-        _ => nothing(),
     }
 }
 

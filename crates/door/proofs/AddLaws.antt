@@ -1,6 +1,6 @@
 -- One pool range more, over the whole state: the definition's `addAll`. Assumes nothing.
 use mathlib.Core.Path.{_≡_, refl, sym, _∙_, ap}
-use mathlib.Core.Bool.{Bool, true, false, _&&_}
+use mathlib.Core.Bool.{true, false, _&&_}
 use mathlib.Core.Logic.{_⊎_, inl, inr}
 use mathlib.Core.List.{List, [], _∷_}
 use Prim.Native.Nat.{ℕ}
@@ -13,25 +13,30 @@ use Rattle.definition.specs.Calls.{State as Given, state, sameUse, addAll}
 use Rattle.definition.specs.BaseLaws.{T-true, T-false, either}
 use Rattle.definition.specs.RowLaws.{same-kind}
 use Rattle.definition.specs.StateLaws.{add-accepted, add-refused}
-use Rattle.tables.specs.Views.{poolOf, poolView, poolsView}
+use Rattle.tables.specs.Views.{poolOf, poolView}
 use Rattle.tables.specs.declared.Pools.{Pools}
 use Rattle.insert.specs.Answers.{telling, storedOr}
 use Rattle.door.specs.Kept.{TidyPools}
 
 -- q is p after range s was added to the table of kind k
-pub record Added (p q : Pools) (k : Kind) (s : Span) (number : ℕ) : Type 0 where
-  pub rows : (j : Kind) → poolView (poolOf q j)
-      ≡ elim (sameKind j k) [ true ↦ storedOr (poolView (poolOf p k)) (addRange k s (used (poolView (poolOf p k)))) | false ↦ poolView (poolOf p j) ]
-  pub said : says 0 number 0 0 0 ≡ telling (addRange k s (used (poolView (poolOf p k))))
+pub record Added (p q : Kind → Table Span) (k : Kind) (s : Span) (number : ℕ) : Type 0 where
+  pub rows : (j : Kind) → q j ≡ elim (sameKind j k) [ true ↦ storedOr (p k) (addRange k s (used (p k))) | false ↦ p j ]
+  pub said : says 0 number 0 0 0 ≡ telling (addRange k s (used (p k)))
 
--- p as the pools of use u, f as those of the other
-abbrev pub side : Use → Pools → Pools → Use → Kind → Table Span
-side automatic p f = poolsView p f
-side fixed p f = poolsView f p
+-- P with p for the pools of use u
+abbrev pub placed : Use → (Kind → Table Span) → (Use → Kind → Table Span) → Use → Kind → Table Span
+placed u p P v k = elim (sameUse v u) [ true ↦ p k | false ↦ P v k ]
+
+-- .. is Q, where P and Q have the same pools for the other use
+pub placed-own : (P Q : Use → Kind → Table Span) (u v : Use) → (sameUse v u ≡ false → (k : Kind) → P v k ≡ Q v k) → (k : Kind) → placed u (Q u) P v k ≡ Q v k
+placed-own P Q automatic automatic e k = refl
+placed-own P Q automatic fixed e k = e refl k
+placed-own P Q fixed automatic e k = e refl k
+placed-own P Q fixed fixed e k = refl
 
 -- q is p after the ranges were added in turn, whatever stands beside
-pub record Filling (p q : Pools) (cs : List (In Span)) (number : ℕ) : Type 0 where
-  pub adds : (u : Use) (f : Pools) (h o : Kind → Table Row) (w : Said) → addAll u cs (state (side u p f) h o w) ≡ state (side u q f) h o (says 0 number 0 0 0)
+pub record Filling (p q : Kind → Table Span) (cs : List (In Span)) (number : ℕ) : Type 0 where
+  pub adds : (u : Use) (P : Use → Kind → Table Span) (h o : Kind → Table Row) (w : Said) → addAll u cs (state (placed u p P) h o w) ≡ state (placed u q P) h o (says 0 number 0 0 0)
 
 -- ---- the state
 
@@ -63,22 +68,21 @@ module _ (S : Given) (u : Use) (k : Kind) (p : Span) (P : Use → Kind → Table
       go (refused x) e r s = (λ i. state (λ v j. (r v j ∙ same-put S u v k j) i) (S .held) (S .owners) (s i)) ∙ sym (add-refused u (at-kind k p) [] S x e)
 
 -- one range
-pub added-fills : (p q : Pools) (k : Kind) (r : Span) (n : ℕ) → Added p q k r n → Filling p q (at-kind k r ∷ []) n
+pub added-fills : (p q : Kind → Table Span) (k : Kind) (r : Span) (n : ℕ) → Added p q k r n → Filling p q (at-kind k r ∷ []) n
 added-fills p q k r n a = record { adds = adds }
   where
-    adds : (u : Use) (f : Pools) (h o : Kind → Table Row) (w : Said) → addAll u (at-kind k r ∷ []) (state (side u p f) h o w) ≡ state (side u q f) h o (says 0 n 0 0 0)
-    adds automatic f h o w = sym (add-state (state (poolsView p f) h o w) automatic k r (poolsView q f) (says 0 n 0 0 0) rows (a .said))
-      where
-        rows : (v : Use) (j : Kind) → poolsView q f v j
-            ≡ elim (sameUse v automatic && sameKind j k) [ true ↦ storedOr (poolView (poolOf p k)) (addRange k r (used (poolView (poolOf p k)))) | false ↦ poolsView p f v j ]
-        rows automatic j = a .rows j
-        rows fixed j = refl
-    adds fixed f h o w = sym (add-state (state (poolsView f p) h o w) fixed k r (poolsView f q) (says 0 n 0 0 0) rows (a .said))
-      where
-        rows : (v : Use) (j : Kind) → poolsView f q v j
-            ≡ elim (sameUse v fixed && sameKind j k) [ true ↦ storedOr (poolView (poolOf p k)) (addRange k r (used (poolView (poolOf p k)))) | false ↦ poolsView f p v j ]
-        rows automatic j = refl
-        rows fixed j = a .rows j
+    said : (u : Use) (P : Use → Kind → Table Span) → says 0 n 0 0 0 ≡ telling (addRange k r (used (placed u p P u k)))
+    said automatic P = a .said
+    said fixed P = a .said
+
+    rows : (u : Use) (P : Use → Kind → Table Span) (v : Use) (j : Kind) → placed u q P v j ≡ elim (sameUse v u && sameKind j k) [ true ↦ storedOr (placed u p P u k) (addRange k r (used (placed u p P u k))) | false ↦ placed u p P v j ]
+    rows automatic P automatic j = a .rows j
+    rows automatic P fixed j = refl
+    rows fixed P automatic j = refl
+    rows fixed P fixed j = a .rows j
+
+    adds : (u : Use) (P : Use → Kind → Table Span) (h o : Kind → Table Row) (w : Said) → addAll u (at-kind k r ∷ []) (state (placed u p P) h o w) ≡ state (placed u q P) h o (says 0 n 0 0 0)
+    adds u P h o w = sym (add-state (state (placed u p P) h o w) u k r (placed u q P) (says 0 n 0 0 0) (rows u P) (said u P))
 
 pub tidy-at : (p : Pools) → TidyPools p → (k : Kind) → T (tidy poolLimit (sameSpan blankSpan) (poolView (poolOf p k)))
 unfolding TidyPools

@@ -1,16 +1,15 @@
 -- The walk of `copied`: seven times a table of a lent state goes out by value and is stored as another one. It is over any types of states and tables, so that nothing of the tables can be unfolded. Assumes `Given`.
 --     copyCode     the code
---     Stage        what a table's step rests on: how the two are reached, and how they lie in the state
+--     Stage        what a table's step rests on: where it lies in its group, and how the two lie in the state
 --     copy-walk    given the stages
-use Rattle.walks.proofs.Prelude.{_≡_, refl, ℕ, [], _∷_, List, URA, fullShare, named, mut, Ty, tyUnit, tyRef, Local, local, valueLocal, place, deref, field, copy, opdUnit, rvOpd, assign, seq, return, Fn, Val, vunit, vptr, SProp, ent, GName, Lft, Share, Heap, Env, Calls, Loops, WpFn, Atoms, Given, Go, Item, Post, mean, !, unit-lit, of-opd, RattleType, partAt}
+use Rattle.walks.proofs.Prelude.{_≡_, refl, ℕ, _+_, [], _∷_, List, URA, fullShare, named, mut, Ty, tyUnit, tyRef, Local, local, valueLocal, place, deref, field, fieldOf, copy, opdUnit, rvOpd, assign, seq, return, Fn, Val, vunit, vptr, SProp, ent, GName, Lft, Share, Heap, Calls, Loops, WpFn, Atoms, Given, Post, mean, !, fld, stop, unit-lit, of-opd, RattleType, partAt}
 use mathlib.Core.Option.{some as present}
 use mir.Syntax.{Body}
-use types.Run.{Walks}
 use Rattle.walks.proofs.Straight.{Store, val, set, tyAt, Has, first, others}
 use Rattle.inplace.proofs.LendPart.{Piece}
 use Rattle.inplace.proofs.Plain.{Plain, the-row}
-use Rattle.inplace.proofs.Steps.{Does, En, sets, gives, entering}
-use Rattle.door.proofs.Parts.{Stands, takes, puts}
+use Rattle.inplace.proofs.Steps.{Does, sets, gives, entering}
+use Rattle.inplace.proofs.Parts.{Stands, takes, puts}
 
 abbrev moved : Ty → ℕ → ℕ → Body → Body
 moved τ j x rest = seq (assign (place x []) (rvOpd (copy (place 1 (deref τ ∷ field 2 ∷ field j ∷ []))))) (seq (assign (place 1 (deref τ ∷ field 3 ∷ field j ∷ [])) (rvOpd (copy (place x [])))) rest)
@@ -24,25 +23,23 @@ copyCode π τ ρ ω = record {
   body = moved τ 0 2 (moved τ 1 2 (moved τ 2 3 (moved τ 3 2 (moved τ 4 2 (moved τ 5 2 (moved τ 6 2 (seq (assign (place 0 []) (rvOpd opdUnit)) return)))))));
 }
 
--- a state of the MIR type τ at (b, o)
-module _ {M : Type 1} (𝓤 : URA M) (H : Heap 𝓤) (A : Atoms 𝓤) (W : Given 𝓤 H A) (T : RattleType) (τ : Ty) (κ : Lft) (q : Share) (b o : ℕ) (γ : GName) where
+-- a state of the MIR type τ at (b, o), with two groups of the type σ, at m and at n in it
+module _ {M : Type 1} (𝓤 : URA M) (H : Heap 𝓤) (A : Atoms 𝓤) (W : Given 𝓤 H A) (T : RattleType) (τ σ : Ty) (m n : ℕ) (at-m : fieldOf τ 2 ≡ present (σ, m)) (at-n : fieldOf τ 3 ≡ present (σ, n)) (κ : Lft) (q : Share) (b o : ℕ) (γ : GName) where
   -- h′ is h with the table number j of the second group for that of the first
   pub record Stage (F : Plain 𝓤 H A) (j : ℕ) (h h′ : T .Denot) : Type 2 where
     pub x : F .D
     pub y : F .D
-    pub source : ℕ
-    pub target : ℕ
-    pub from-way : (E : Env 𝓤 H) (Δ : List (Item 𝓤)) → Walks (Go {0}) W Δ E (τ, b, o) (field 2 ∷ field j ∷ []) (F .τ, b, source)
-    pub to-way : (E : Env 𝓤 H) (Δ : List (Item 𝓤)) → Walks (Go {0}) W Δ E (τ, b, o) (field 3 ∷ field j ∷ []) (F .τ, b, target)
-    pub reading : Piece 𝓤 H A W (the-row 𝓤 H A F) (partAt T fullShare h b o) (partAt T fullShare h b o) x x b source
-    pub writing : Piece 𝓤 H A W (the-row 𝓤 H A F) (partAt T fullShare h b o) (partAt T fullShare h′ b o) y x b target
+    pub spot : ℕ
+    pub lies : fieldOf σ j ≡ present (F .τ, spot)
+    pub reading : Piece 𝓤 H A W (the-row 𝓤 H A F) (partAt T fullShare h b o) (partAt T fullShare h b o) x x b ((o + m) + spot)
+    pub writing : Piece 𝓤 H A W (the-row 𝓤 H A F) (partAt T fullShare h b o) (partAt T fullShare h′ b o) y x b ((o + n) + spot)
 
-  module _ (C : Calls 𝓤 H) (Λ : Loops 𝓤 H) (ls : List Local) (f : ℕ → ℕ) {goal : Post 𝓤 H} {rest : Body} {σ : Store} where
-    step : (F : Plain 𝓤 H A) (j i : ℕ) (h h′ : T .Denot) (s : Stage F j h h′) → val 1 σ ≡ present (vptr b o) → Has 1 ls → Has i ls → tyAt i ls ≡ F .τ → val 1 (set i (F .val (s .x)) σ) ≡ present (vptr b o) → val i (set i (F .val (s .x)) σ) ≡ present (F .val (s .x))
-        → Does W C Λ ls f (Stands W T κ q b o γ h′) (set i (F .val (s .x)) σ) rest goal → Does W C Λ ls f (Stands W T κ q b o γ h) σ (moved τ j i rest) goal
+  module _ (C : Calls 𝓤 H) (Λ : Loops 𝓤 H) (ls : List Local) (f : ℕ → ℕ) {goal : Post 𝓤 H} {rest : Body} {ρ : Store} where
+    step : (F : Plain 𝓤 H A) (j i : ℕ) (h h′ : T .Denot) (s : Stage F j h h′) → val 1 ρ ≡ present (vptr b o) → Has 1 ls → Has i ls → tyAt i ls ≡ F .τ → val 1 (set i (F .val (s .x)) ρ) ≡ present (vptr b o) → val i (set i (F .val (s .x)) ρ) ≡ present (F .val (s .x))
+        → Does W C Λ ls f (Stands W T κ q b o γ h′) (set i (F .val (s .x)) ρ) rest goal → Does W C Λ ls f (Stands W T κ q b o γ h) ρ (moved τ j i rest) goal
     step F j i h h′ s e h1 hi ty e₁ e₂ k =
-        takes W T κ q b o γ F (s .source) C Λ ls f τ (field 2 ∷ field j ∷ []) (s .from-way (En W C Λ ls f)) h (s .x) (s .reading) e h1 hi ty (λ is.
-        puts W T κ q b o γ F (s .target) C Λ ls f τ (field 3 ∷ field j ∷ []) (s .to-way (En W C Λ ls f)) h h′ (s .y) (s .x) (s .writing) is e₁ h1 e₂ hi k)
+        takes W T κ q b o γ F ((o + m) + s .spot) C Λ ls f τ (field 2 ∷ field j ∷ []) (λ Δ. fld ! at-m (fld ! (s .lies) (stop !))) h (s .x) (s .reading) e h1 hi ty (λ is.
+        puts W T κ q b o γ F ((o + n) + s .spot) C Λ ls f τ (field 3 ∷ field j ∷ []) (λ Δ. fld ! at-n (fld ! (s .lies) (stop !))) h h′ (s .y) (s .x) (s .writing) is e₁ h1 e₂ hi k)
 
   pub copy-walk : (C : Calls 𝓤 H) (Λ : Loops 𝓤 H) (π : Ty) (Ra Wi : Plain 𝓤 H A) (h₀ h₁ h₂ h₃ h₄ h₅ h₆ h₇ : T .Denot) (s₀ : Stage Ra 0 h₀ h₁) (s₁ : Stage Ra 1 h₁ h₂) (s₂ : Stage Wi 2 h₂ h₃) (s₃ : Stage Ra 3 h₃ h₄) (s₄ : Stage Ra 4 h₄ h₅) (s₅ : Stage Ra 5 h₅ h₆) (s₆ : Stage Ra 6 h₆ h₇)
       (Kf : Val → SProp 𝓤) → ent 𝓤 (mean 𝓤 H A (Stands W T κ q b o γ h₇)) (Kf vunit) → ent 𝓤 (mean 𝓤 H A (Stands W T κ q b o γ h₀)) (WpFn 𝓤 H C Λ (copyCode π τ (Ra .τ) (Wi .τ)) (vptr b o ∷ []) Kf)

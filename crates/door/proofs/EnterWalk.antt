@@ -6,7 +6,7 @@ use Rattle.inplace.proofs.LendPart.{Piece, Makes}
 use Rattle.inplace.proofs.Plain.{Plain, the-row, Good}
 use Rattle.inplace.proofs.Acts.{Acts, plainly}
 use Rattle.inplace.proofs.Steps.{sets, acted, leaves-if, gives, gives-within, entering}
-use Rattle.door.proofs.Parts.{Stands, takes, puts}
+use Rattle.inplace.proofs.Parts.{Stands, takes, puts}
 
 abbrev leave : Body
 leave = seq (assign (place 0 []) (rvOpd opdUnit)) return

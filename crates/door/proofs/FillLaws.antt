@@ -8,23 +8,21 @@ use lib.ListN.{length}
 use borrow.Author.Tests.{eq-eqb, eqb-true, eqb-false}
 use Rattle.definition.specs.Base.{anyOf, Said, says, Answer, accepted, refused, emptyRange, full, require}
 use Rattle.definition.specs.BaseLaws.{T-true}
-use Rattle.definition.specs.PlanLaws.{tell-number}
 use Rattle.definition.specs.Tables.{poolLimit, Kind, mmio, pio, input, host, device, event, lpi, sameKind, Span, sameSpan, Row, Table, used, fitsSpan}
 use Rattle.definition.specs.Pools.{In, at-kind, insert, unlessThere, addRange}
-use Rattle.definition.specs.Request.{Use, automatic, fixed}
-use Rattle.definition.specs.Calls.{State as Given, state, addAll, saying}
-use Rattle.tables.specs.Views.{spanOf, poolOf, poolView, poolsView, holdersView, stateView}
-use Rattle.tables.specs.declared.Pool.{Pool}
-use Rattle.tables.specs.declared.Pools.{Pools}
+use Rattle.definition.specs.Request.{Use}
+use Rattle.definition.specs.Calls.{State as Given, state, sameUse, addAll}
+use Rattle.tables.specs.Views.{spanOf}
 use Rattle.tables.specs.declared.PoolRow.{PoolRow}
-use Rattle.tables.specs.declared.State.{State}
 use Rattle.insert.specs.Answers.{telling, heard, storedOr, addAny}
 use Rattle.insert.specs.declared.Reply.{Reply}
-use Rattle.adding.specs.Adds.{pick}
+use Rattle.adding.specs.Adds.{pick, ranged, inDomain, turnIn, rangeFor}
 use Rattle.adding.specs.Judged.{enteredView}
-use Rattle.adding.specs.Looks.{Adding}
+use Rattle.adding.specs.declared.To.{To}
+use Rattle.adding.specs.declared.What.the-variants as W
+use Rattle.door.specs.Kept.{kindIn}
 use Rattle.door.proofs.KindLaws.{every}
-use Rattle.door.proofs.AddLaws.{Added, side, Filling, added-fills}
+use Rattle.door.proofs.AddLaws.{placed, placed-own, Filling, added-fills}
 use Rattle.door.proofs.TurnLaws.{turn-on, turn-stop}
 
 -- ---- one table
@@ -61,104 +59,77 @@ module _ (row : PoolRow) (t : Table Span) (r : Reply) (told : heard r ≡ tellin
 
 -- ---- the pools of one use
 
-module _ (k : Kind) (row : PoolRow) (p q : Pools) (r : Reply) (b : Bool) (e : eqb (r .number) 0 ≡ b) (ok : T (fitsSpan k (spanOf row))) (told : Adding (poolOf p k) row r) (here : poolView (poolOf q k) ≡ enteredView (record { go = b; row = row }) (poolView (poolOf p k)))
-    (others : (j : Kind) → sameKind j k ≡ false → poolView (poolOf q j) ≡ poolView (poolOf p j)) (same : (j : Kind) → sameKind j k ≡ true → poolView (poolOf q j) ≡ poolView (poolOf q k)) where
-  pub one-fills : Filling p q (at-kind k (spanOf row) ∷ []) (r .number)
-  one-fills = added-fills p q k (spanOf row) (r .number) (record { rows = λ j. rows j (sameKind j k) refl; said = sym (said-plain row t r told) ∙ told ∙ ap telling (sym (range-any k (spanOf row) (used t) ok)) })
+module _ (k : Kind) (row : PoolRow) (p q : Kind → Table Span) (r : Reply) (b : Bool) (e : eqb (r .number) 0 ≡ b) (ok : T (fitsSpan k (spanOf row))) (told : heard r ≡ telling (addAny (spanOf row) (used (p k)))) where
+  pub one-fills : ((j : Kind) → q j ≡ elim (sameKind j k) [ true ↦ enteredView (record { go = b; row = row }) (p k) | false ↦ p j ]) → Filling p q (at-kind k (spanOf row) ∷ []) (r .number)
+  one-fills entered =
+      added-fills p q k (spanOf row) (r .number) (record { rows = λ j. entered j ∙ (λ i. elim (sameKind j k) [ true ↦ stored i | false ↦ p j ]); said = sym (said-plain row (p k) r told) ∙ told ∙ ap telling (sym (range-any k (spanOf row) (used (p k)) ok)) })
     where
-      t : Table Span
-      t = poolView (poolOf p k)
+      stored : enteredView (record { go = b; row = row }) (p k) ≡ storedOr (p k) (addRange k (spanOf row) (used (p k)))
+      stored = stores row (p k) r told b e ∙ ap (storedOr (p k)) (sym (range-any k (spanOf row) (used (p k)) ok))
 
-      rows : (j : Kind) (c : Bool) → sameKind j k ≡ c → poolView (poolOf q j) ≡ elim c [ true ↦ storedOr (poolView (poolOf p k)) (addRange k (spanOf row) (used (poolView (poolOf p k)))) | false ↦ poolView (poolOf p j) ]
-      rows j true z = same j z ∙ here ∙ stores row t r told b e ∙ ap (storedOr t) (sym (range-any k (spanOf row) (used t) ok))
-      rows j false z = others j z
+fills-as : (p q q′ : Kind → Table Span) (cs : List (In Span)) (n : ℕ) → ((k : Kind) → q k ≡ q′ k) → Filling p q cs n → Filling p q′ cs n
+fills-as p q q′ cs n same f = record { adds = λ u P h o w. f .adds u P h o w ∙ (λ i. state (placed u (λ k. same k i) P) h o (says 0 n 0 0 0)) }
 
--- tables of the same views
-pub fills-as : (p q q′ : Pools) (cs : List (In Span)) (n : ℕ) → ((k : Kind) → poolView (poolOf q′ k) ≡ poolView (poolOf q k)) → Filling p q cs n → Filling p q′ cs n
-fills-as p q q′ cs n v f = record { adds = adds }
-  where
-    adds : (u : Use) (g : Pools) (h o : Kind → Table Row) (w : Said) → addAll u cs (state (side u p g) h o w) ≡ state (side u q′ g) h o (says 0 n 0 0 0)
-    adds automatic g h o w = f .adds automatic g h o w ∙ (λ i. state (λ u k. pools u k i) h o (says 0 n 0 0 0))
-      where
-        pools : (u : Use) (k : Kind) → poolsView q g u k ≡ poolsView q′ g u k
-        pools automatic k = sym (v k)
-        pools fixed k = refl
-    adds fixed g h o w = f .adds fixed g h o w ∙ (λ i. state (λ u k. pools u k i) h o (says 0 n 0 0 0))
-      where
-        pools : (u : Use) (k : Kind) → poolsView g q u k ≡ poolsView g q′ u k
-        pools automatic k = refl
-        pools fixed k = sym (v k)
+-- ---- an MSI domain: q is p with the first n ranges for devices, events and LPIs
 
--- ---- an MSI domain: q is p with other tables of devices, events and LPIs
+-- p with table t for kind k
+abbrev put : Kind → Table Span → (Kind → Table Span) → Kind → Table Span
+put k t p j = elim (sameKind j k) [ true ↦ t | false ↦ p j ]
 
-module _ (x y z : PoolRow) (d e l : Reply) (p q : Pools) (ok₁ : T (fitsSpan device (spanOf x))) (ok₂ : T (fitsSpan event (spanOf y))) (ok₃ : T (fitsSpan lpi (spanOf z)))
-    (d-told : Adding (p .device) x d) (e-told : Adding (p .event) y e) (l-told : Adding (p .lpi) z l) (m-same : poolView (q .mmio) ≡ poolView (p .mmio)) (p-same : poolView (q .pio) ≡ poolView (p .pio)) (i-same : poolView (q .input) ≡ poolView (p .input)) (h-same : poolView (q .host) ≡ poolView (p .host)) where
-  abbrev first : In Span
-  first = at-kind device (spanOf x)
+module _ (to : To) (x y z : PoolRow) (d e l : Reply) (p q : Kind → Table Span) (ok₁ : T (fitsSpan device (spanOf x))) (ok₂ : T (fitsSpan event (spanOf y))) (ok₃ : T (fitsSpan lpi (spanOf z)))
+    (d-told : heard d ≡ telling (addAny (spanOf x) (used (p device)))) (e-told : heard e ≡ telling (addAny (spanOf y) (used (p event)))) (l-told : heard l ≡ telling (addAny (spanOf z) (used (p lpi)))) where
+  abbrev Turned : ℕ → Type 0
+  Turned n = (j : Kind) → q j ≡ enteredView (record { go = pick (inDomain (kindIn j)) (ltb (turnIn (kindIn j)) n) false; row = rangeFor (ranged to W.Domain x y z) (kindIn j) }) (p j)
 
-  abbrev others : List (In Span)
-  others = at-kind event (spanOf y) ∷ at-kind lpi (spanOf z) ∷ []
+  abbrev devices : In Span
+  devices = at-kind device (spanOf x)
 
-  abbrev messages : Pool → Pool → Pool → Pools
-  messages d e l = record { mmio = p .mmio; pio = p .pio; input = p .input; host = p .host; device = d; event = e; lpi = l }
+  abbrev events : In Span
+  events = at-kind event (spanOf y)
 
-  abbrev q₁ : Pools
-  q₁ = messages (q .device) (p .event) (p .lpi)
+  abbrev lpis : In Span
+  lpis = at-kind lpi (spanOf z)
 
-  abbrev q₂ : Pools
-  q₂ = messages (q .device) (q .event) (p .lpi)
+  abbrev q₁ : Kind → Table Span
+  q₁ = put device (q device) p
 
-  abbrev q₃ : Pools
-  q₃ = messages (q .device) (q .event) (q .lpi)
+  abbrev q₂ : Kind → Table Span
+  q₂ = put event (q event) q₁
 
-  step₁ : (b : Bool) → eqb (d .number) 0 ≡ b → poolView (q .device) ≡ enteredView (record { go = b; row = x }) (poolView (p .device)) → Filling p q₁ (first ∷ []) (d .number)
+  abbrev q₃ : Kind → Table Span
+  q₃ = put lpi (q lpi) q₂
+
+  -- the table of kind k becomes q's
+  step : (k : Kind) (row : PoolRow) (p : Kind → Table Span) (r : Reply) (b : Bool) → eqb (r .number) 0 ≡ b → T (fitsSpan k (spanOf row)) → heard r ≡ telling (addAny (spanOf row) (used (p k))) → q k ≡ enteredView (record { go = b; row = row }) (p k)
+      → Filling p (put k (q k) p) (at-kind k (spanOf row) ∷ []) (r .number)
+  step k row p r b w ok told v = one-fills k row p (put k (q k) p) r b w ok told (λ j i. elim (sameKind j k) [ true ↦ v i | false ↦ p j ])
+
+  pub devices-refused : eqb (d .number) 0 ≡ false → Turned 0 → Filling p q (devices ∷ events ∷ lpis ∷ []) (d .number)
   unfolding sameKind
-  step₁ b w v =
-      one-fills device x p q₁ d b w ok₁ d-told v (every _ (λ n. refl) (λ n. refl) (λ n. refl) (λ n. refl) (λ n. absurd (true≢false n)) (λ n. refl) (λ n. refl))
-      (every _ (λ n. absurd (true≢false (sym n))) (λ n. absurd (true≢false (sym n))) (λ n. absurd (true≢false (sym n))) (λ n. absurd (true≢false (sym n))) (λ n. refl) (λ n. absurd (true≢false (sym n))) (λ n. absurd (true≢false (sym n))))
+  devices-refused w t =
+      fills-as p q₁ q _ (d .number) (every _ (sym (t mmio)) (sym (t pio)) (sym (t input)) (sym (t host)) refl (sym (t event)) (sym (t lpi)))
+      (turn-stop p q₁ devices (events ∷ lpis ∷ []) (d .number) (step device x p d false w ok₁ d-told (t device)) (eqb-false (d .number) 0 w))
 
-  step₂ : (b : Bool) → eqb (e .number) 0 ≡ b → poolView (q .event) ≡ enteredView (record { go = b; row = y }) (poolView (p .event)) → Filling q₁ q₂ (at-kind event (spanOf y) ∷ []) (e .number)
-  unfolding sameKind
-  step₂ b w v =
-      one-fills event y q₁ q₂ e b w ok₂ e-told v (every _ (λ n. refl) (λ n. refl) (λ n. refl) (λ n. refl) (λ n. refl) (λ n. absurd (true≢false n)) (λ n. refl))
-      (every _ (λ n. absurd (true≢false (sym n))) (λ n. absurd (true≢false (sym n))) (λ n. absurd (true≢false (sym n))) (λ n. absurd (true≢false (sym n))) (λ n. absurd (true≢false (sym n))) (λ n. refl) (λ n. absurd (true≢false (sym n))))
+  module _ (w₁ : eqb (d .number) 0 ≡ true) where
+    pub events-refused : eqb (e .number) 0 ≡ false → Turned 1 → Filling p q (devices ∷ events ∷ lpis ∷ []) (e .number)
+    unfolding sameKind
+    events-refused w t =
+        fills-as p q₂ q _ (e .number) (every _ (sym (t mmio)) (sym (t pio)) (sym (t input)) (sym (t host)) refl refl (sym (t lpi)))
+        (turn-on p q₁ devices (events ∷ lpis ∷ []) (d .number) (step device x p d true w₁ ok₁ d-told (t device)) (eqb-true (d .number) 0 w₁) q₂ (e .number)
+        (turn-stop q₁ q₂ events (lpis ∷ []) (e .number) (step event y q₁ e false w ok₂ e-told (t event)) (eqb-false (e .number) 0 w)))
 
-  step₃ : (b : Bool) → eqb (l .number) 0 ≡ b → poolView (q .lpi) ≡ enteredView (record { go = b; row = z }) (poolView (p .lpi)) → Filling q₂ q₃ (at-kind lpi (spanOf z) ∷ []) (l .number)
-  unfolding sameKind
-  step₃ b w v =
-      one-fills lpi z q₂ q₃ l b w ok₃ l-told v (every _ (λ n. refl) (λ n. refl) (λ n. refl) (λ n. refl) (λ n. refl) (λ n. refl) (λ n. absurd (true≢false n)))
-      (every _ (λ n. absurd (true≢false (sym n))) (λ n. absurd (true≢false (sym n))) (λ n. absurd (true≢false (sym n))) (λ n. absurd (true≢false (sym n))) (λ n. absurd (true≢false (sym n))) (λ n. absurd (true≢false (sym n))) (λ n. refl))
+    -- n is 2 or 3
+    pub lpis-told : (n : ℕ) → eqb (e .number) 0 ≡ true → eqb (l .number) 0 ≡ ltb 2 n → ltb 0 n ≡ true → ltb 1 n ≡ true → Turned n → Filling p q (devices ∷ events ∷ lpis ∷ []) (l .number)
+    unfolding sameKind
+    lpis-told n w₂ w m₁ m₂ t =
+        fills-as p q₃ q _ (l .number) (every _ (sym (t mmio)) (sym (t pio)) (sym (t input)) (sym (t host)) refl refl refl)
+        (turn-on p q₁ devices (events ∷ lpis ∷ []) (d .number) (step device x p d (ltb 0 n) (w₁ ∙ sym m₁) ok₁ d-told (t device)) (eqb-true (d .number) 0 w₁) q₃ (l .number)
+        (turn-on q₁ q₂ events (lpis ∷ []) (e .number) (step event y q₁ e (ltb 1 n) (w₂ ∙ sym m₂) ok₂ e-told (t event)) (eqb-true (e .number) 0 w₂) q₃ (l .number) (step lpi z q₂ l (ltb 2 n) w ok₃ l-told (t lpi))))
 
-  pub devices-refused : eqb (d .number) 0 ≡ false → poolView (q .device) ≡ poolView (p .device) → poolView (q .event) ≡ poolView (p .event) → poolView (q .lpi) ≡ poolView (p .lpi) → Filling p q (first ∷ others) (d .number)
-  devices-refused w v₁ v₂ v₃ = fills-as p q₁ q (first ∷ others) (d .number) (every _ m-same p-same i-same h-same refl v₂ v₃) (turn-stop p q₁ first others (d .number) (step₁ false w v₁) (eqb-false (d .number) 0 w))
+-- ---- the state afterwards: Q are its pools, and those of the other use are as they were; and so are its reservations H
 
-  module _ (w₁ : eqb (d .number) 0 ≡ true) (v₁ : poolView (q .device) ≡ enteredView (record { go = true; row = x }) (poolView (p .device))) where
-    pub events-refused : eqb (e .number) 0 ≡ false → poolView (q .event) ≡ poolView (p .event) → poolView (q .lpi) ≡ poolView (p .lpi) → Filling p q (first ∷ others) (e .number)
-    events-refused w v₂ v₃ =
-        fills-as p q₂ q (first ∷ others) (e .number) (every _ m-same p-same i-same h-same refl refl v₃)
-        (turn-on p q₁ first others (d .number) (step₁ true w₁ v₁) (eqb-true (d .number) 0 w₁) q₂ (e .number) (turn-stop q₁ q₂ (at-kind event (spanOf y)) (at-kind lpi (spanOf z) ∷ []) (e .number) (step₂ false w v₂) (eqb-false (e .number) 0 w)))
-
-    pub lpis-told : (b : Bool) → eqb (l .number) 0 ≡ b → eqb (e .number) 0 ≡ true → poolView (q .event) ≡ enteredView (record { go = true; row = y }) (poolView (p .event)) → poolView (q .lpi) ≡ enteredView (record { go = b; row = z }) (poolView (p .lpi)) → Filling p q (first ∷ others) (l .number)
-    lpis-told b w w₂ v₂ v₃ =
-        fills-as p q₃ q (first ∷ others) (l .number) (every _ m-same p-same i-same h-same refl refl refl)
-        (turn-on p q₁ first others (d .number) (step₁ true w₁ v₁) (eqb-true (d .number) 0 w₁) q₃ (l .number) (turn-on q₁ q₂ (at-kind event (spanOf y)) (at-kind lpi (spanOf z) ∷ []) (e .number) (step₂ true w₂ v₂) (eqb-true (e .number) 0 w₂) q₃ (l .number) (step₃ b w v₃)))
-
--- ---- the state afterwards
-
-module _ (s : State) (a f : Pools) (r : Reply) (plain : heard r ≡ says 0 (r .number) 0 0 0) (cs : List (In Span)) where
-  abbrev after : Pools → Pools → Given
-  after a f = saying (heard r) (state (poolsView a f) (holdersView (s .held)) (holdersView (s .owners)) (stateView s .said))
-
-  pub automatic-after : ((k : Kind) → poolView (poolOf f k) ≡ poolView (poolOf (s .fixed) k)) → Filling (s .auto) a cs (r .number) → after a f ≡ addAll automatic cs (stateView s)
-  automatic-after same g = (λ i. state (λ u k. pools u k i) (holdersView (s .held)) (holdersView (s .owners)) (plain i)) ∙ sym (g .adds automatic (s .fixed) (holdersView (s .held)) (holdersView (s .owners)) (stateView s .said))
-    where
-      pools : (u : Use) (k : Kind) → poolsView a f u k ≡ poolsView a (s .fixed) u k
-      pools automatic k = refl
-      pools fixed k = same k
-
-  pub fixed-after : ((k : Kind) → poolView (poolOf a k) ≡ poolView (poolOf (s .auto) k)) → Filling (s .fixed) f cs (r .number) → after a f ≡ addAll fixed cs (stateView s)
-  fixed-after same g = (λ i. state (λ u k. pools u k i) (holdersView (s .held)) (holdersView (s .owners)) (plain i)) ∙ sym (g .adds fixed (s .auto) (holdersView (s .held)) (holdersView (s .owners)) (stateView s .said))
-    where
-      pools : (u : Use) (k : Kind) → poolsView a f u k ≡ poolsView (s .auto) f u k
-      pools automatic k = same k
-      pools fixed k = refl
+pub filled-after : (s : Given) (Q : Use → Kind → Table Span) (H : Kind → Table Row) (r : Reply) → heard r ≡ says 0 (r .number) 0 0 0 → (cs : List (In Span)) (u : Use) → ((v : Use) → sameUse v u ≡ false → (k : Kind) → Q v k ≡ s .pools v k) → ((k : Kind) → H k ≡ s .held k) → Filling (s .pools u) (Q u) cs (r .number)
+    → state Q H (s .owners) (heard r) ≡ addAll u cs s
+filled-after s Q H r plain cs u same held g =
+    (λ i. state (λ v k. sym (placed-own (s .pools) Q u v (λ n k. sym (same v n k)) k) i) (λ k. held k i) (s .owners) (plain i)) ∙ sym (g .adds u (s .pools) (s .held) (s .owners) (s .said))
+    ∙ (λ i. addAll u cs (state (λ v k. placed-own (s .pools) (s .pools) u v (λ n j. refl) k i) (s .held) (s .owners) (s .said)))

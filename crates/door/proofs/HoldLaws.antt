@@ -1,14 +1,14 @@
 -- Rows for the reservations: what the tables answered, and what is then stored, is the definition's `reserve`. Assumes nothing.
-use mathlib.Core.Path.{_≡_, refl, sym, _∙_, ap, subst}
+use mathlib.Core.Path.{_≡_, sym, _∙_, ap}
 use mathlib.Core.Bool.{Bool, true, false}
-use mathlib.Core.List.{List, [], _∷_}
+use mathlib.Core.List.{List}
 use Prim.Native.Nat.{_<_}
-use lib.Dec.{T, eqb}
+use lib.Dec.{T as Holds, eqb}
 use borrow.Author.Tests.{eqb-true, eqb-false}
-use Rattle.definition.specs.Tables.{rowLimit, Kind, input, host, sameKind, Row, Table, used, fits}
-use Rattle.definition.specs.Pools.{at-kind, Claim}
+use Rattle.definition.specs.Tables.{rowLimit, Kind, input, host, used, fits}
+use Rattle.definition.specs.Pools.{Claim}
 use Rattle.definition.specs.Request.{Use, automatic, fixed}
-use Rattle.definition.specs.Calls.{State as Given, state, saying}
+use Rattle.definition.specs.Calls.{state, saying}
 use Rattle.tables.specs.Views.{rangeOf, inputOf, rangesView, inputsView, poolOf, poolView, poolsView, holdersView, stateView}
 use Rattle.tables.specs.Whole.{pushedRange, pushedInput}
 use Rattle.tables.specs.Sized.{SizedRanges, SizedInputs}
@@ -20,22 +20,26 @@ use Rattle.tables.specs.declared.RangeRow.{RangeRow}
 use Rattle.tables.specs.declared.InputRow.{InputRow}
 use Rattle.tables.specs.declared.State.{State}
 use Rattle.tables.proofs.PushLaws.{push-range-view, push-input-view}
-use Rattle.insert.specs.Answers.{telling, heard, reserveAny, Told, Held, earlierOf}
+use Rattle.insert.specs.Answers.{telling, heard, reserveAny, Told, Held}
 use Rattle.insert.specs.declared.Reply.{Reply}
 use Rattle.insert.proofs.HoldLaws.{told-as, held-refused, held-accepted}
-use Rattle.adding.specs.Adds.{pick}
-use Rattle.door.proofs.HeldLaws.{heldAfter, Keeping, one-keeps}
-use Rattle.door.proofs.PairLaws.{putPair, pair-neither, pair-both}
+use Rattle.lent_table.specs.Store.{putRange, putInput}
+use Rattle.adding.specs.Judged.{staysOf}
+use Rattle.adding.specs.declared.To.the-variants as T
+use Rattle.adding.specs.declared.Verdict.{Verdict}
+use Rattle.door.specs.Kept.{kindIn, heldWith}
+use Rattle.door.proofs.KindLaws.{every}
+use Rattle.door.proofs.HeldLaws.{heldAfter, Keeping}
 
 -- ---- one table: the row pushed where it is accepted
 
 abbrev pub rangeIf : Bool → Ranges → RangeRow → Ranges
-rangeIf b t r = pick b (pushedRange t (rangeOf r)) t
+rangeIf b t r = putRange t (record { go = b; row = r })
 
 abbrev pub inputIf : Bool → Inputs → InputRow → Inputs
-inputIf b t r = pick b (pushedInput t (inputOf r)) t
+inputIf b t r = putInput t (record { go = b; row = r })
 
-module _ (k : Kind) (t : Ranges) (r : RangeRow) (a : Reply) (z : SizedRanges t) (ok : T (fits k (rangeOf r))) (told : heard a ≡ telling (reserveAny (rangeOf r) (used (rangesView t)))) (room : a .number ≡ 0 → t .n < rowLimit) where
+module _ (k : Kind) (t : Ranges) (r : RangeRow) (a : Reply) (z : SizedRanges t) (ok : Holds (fits k (rangeOf r))) (told : heard a ≡ telling (reserveAny (rangeOf r) (used (rangesView t)))) (room : a .number ≡ 0 → t .n < rowLimit) where
   pub range-kept : (b : Bool) → eqb (a .number) 0 ≡ b → Held k (rangeOf r) (rangesView t) (rangesView (rangeIf b t r)) a
   range-kept true e =
       held-accepted k (rangeOf r) (rangesView t) a (told-as k (rangeOf r) (rangesView t) ok a told) (rangesView (pushedRange t (rangeOf r))) (eqb-true (a .number) 0 e)
@@ -49,20 +53,12 @@ module _ (t : Inputs) (r : InputRow) (a : Reply) (z : SizedInputs t) (told : Tol
 
 -- ---- all tables
 
-module _ (h q : Holders) (k : Kind) (t : Ranges) (r : RangeRow) (a : Reply) (e : holdersView h k ≡ rangesView t) (z : SizedRanges t) (ok : T (fits k (rangeOf r))) (told : heard a ≡ telling (reserveAny (rangeOf r) (used (rangesView t)))) (room : a .number ≡ 0 → t .n < rowLimit) where
-  pub keeps-range : (b : Bool) → eqb (a .number) 0 ≡ b → ((j : Kind) → holdersView q j ≡ elim (sameKind j k) [ true ↦ rangesView (rangeIf b t r) | false ↦ holdersView h j ]) → Keeping h q (at-kind k (rangeOf r) ∷ []) a
-  keeps-range b n put = one-keeps h q k (rangeOf r) (rangesView (rangeIf b t r)) a put (subst (λ (u : Table Row). Held k (rangeOf r) u (rangesView (rangeIf b t r)) a) (sym e) (range-kept k t r a z ok told room b n))
-
-module _ (h q : Holders) (r : InputRow) (a : Reply) (z : SizedInputs (h .input)) (told : Told input (inputOf r) (inputsView (h .input)) a) (room : a .number ≡ 0 → h .input .n < rowLimit) where
-  pub keeps-input : (b : Bool) → eqb (a .number) 0 ≡ b → ((j : Kind) → holdersView q j ≡ elim (sameKind j input) [ true ↦ inputsView (inputIf b (h .input) r) | false ↦ holdersView h j ]) → Keeping h q (at-kind input (inputOf r) ∷ []) a
-  keeps-input b n put = one-keeps h q input (inputOf r) (inputsView (inputIf b (h .input) r)) a put (input-kept (h .input) r a z told room b n)
-
-module _ (h : Holders) (w : InputRow) (r : RangeRow) (a b : Reply) (p : Held input (inputOf w) (inputsView (h .input)) (inputsView (inputIf (eqb (a .number) 0) (h .input) w)) a) (q : Held host (rangeOf r) (rangesView (h .host)) (rangesView (rangeIf (eqb (b .number) 0) (h .host) r)) b) where
-  pub keeps-neither : eqb (earlierOf a b .number) 0 ≡ false → Keeping h h (at-kind input (inputOf w) ∷ at-kind host (rangeOf r) ∷ []) (earlierOf a b)
-  keeps-neither e = pair-neither h (inputOf w) (rangeOf r) (inputIf (eqb (a .number) 0) (h .input) w) (rangeIf (eqb (b .number) 0) (h .host) r) a b (earlierOf a b) refl p q (eqb-false (earlierOf a b .number) 0 e)
-
-  pub keeps-both : eqb (earlierOf a b .number) 0 ≡ true → Keeping h (putPair h (inputIf (eqb (a .number) 0) (h .input) w) (rangeIf (eqb (b .number) 0) (h .host) r)) (at-kind input (inputOf w) ∷ at-kind host (rangeOf r) ∷ []) (earlierOf a b)
-  keeps-both e = pair-both h (inputOf w) (rangeOf r) (inputIf (eqb (a .number) 0) (h .input) w) (rangeIf (eqb (b .number) 0) (h .host) r) a b (earlierOf a b) refl p q (eqb-true (earlierOf a b .number) 0 e)
+-- a table that has no row coming stays as it is
+pub held-rests : (v : Verdict) (h : Holders) (j : Kind) → staysOf v T.Held (kindIn j) ≡ false → holdersView (heldWith v h) j ≡ holdersView h j
+held-rests v h = every _ (ranges (h .mmio)) (ranges (h .pio)) (λ n. ap (λ (b : Bool). inputsView (inputIf b (h .input) (v .adds .input))) n) (ranges (h .host)) (ranges (h .device)) (ranges (h .event)) (ranges (h .lpi))
+  where
+    ranges : (t : Ranges) {b : Bool} → b ≡ false → rangesView (rangeIf b t (v .adds .row)) ≡ rangesView t
+    ranges t n = ap (λ (b : Bool). rangesView (rangeIf b t (v .adds .row))) n
 
 -- ---- the state afterwards
 

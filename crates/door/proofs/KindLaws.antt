@@ -1,11 +1,14 @@
--- What holds of each kind holds of every kind. Assumes nothing.
-use Rattle.definition.specs.Tables.{Kind, mmio, pio, input, host, device, event, lpi}
+-- What holds of each kind holds of every kind; a kind as the code names it. Assumes nothing.
+use mathlib.Core.Path.{_≡_, refl}
+use lib.Dec.{eqb}
+use Rattle.definition.specs.Tables.{Kind, nature, sameKind}
+use Rattle.tables.specs.Views.{kindOf, sameOf}
+use Rattle.door.specs.Kept.{kindIn}
+pub use Rattle.inplace.proofs.Pieces.{every}
 
-pub every : (P : Kind → Type 0) → P mmio → P pio → P input → P host → P device → P event → P lpi → (k : Kind) → P k
-every P a b c d e f g mmio = a
-every P a b c d e f g pio = b
-every P a b c d e f g input = c
-every P a b c d e f g host = d
-every P a b c d e f g device = e
-every P a b c d e f g event = f
-every P a b c d e f g lpi = g
+kind-in : (k : Kind) → kindOf (kindIn k) ≡ k
+kind-in = every _ refl refl refl refl refl refl refl
+
+pub same-in : (j k : Kind) → sameOf (kindIn j) (kindIn k) ≡ sameKind j k
+unfolding sameKind
+same-in j k = λ i. eqb (nature (kind-in j i) .number) (nature (kind-in k i) .number)

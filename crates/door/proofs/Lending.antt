@@ -1,56 +1,9 @@
 -- A function that is lent a value of T, with plain values beside it, and answers nothing. Assumes `Given`.
---     lending      its signature
---     leaves-by    what it leaves in the part of T that it is lent, out of its contract
 --     asks-meets   its walk makes its contract;        one-asks     .. with one plain value beside it
-use Rattle.walks.proofs.Prelude.{_≡_, refl, ap, subst, [], _∷_, List, ℕ, URA, fullShare, Name, named, Fn, Val, vunit, vptr, SProp, ent, sep, emp, via, id⊢, GName, Lft, Share, ftrue, flft, fres, Heap, Calls, WpFn, Tables, Atoms, sem, fact, Lfts, FmC, fm→monoC, Given, Item, mean, ⋆, ‵, raw, _⊛_, some, given, later, _$_, _∵_, !, qed, move, keep, use0, use1, split, join, pick, await, updating, now as at-once, fjoin, fsplit, suffices, frame, show, check, done, RattleType, Denots, Valss, owns, flat, Is, Ises, Are, Spells, Makes, Tells, Tellss, nothing-makes, nothing-tells, shows, unit, RefT, MutRef, ptr-vals, mut-tells, Slot, plain, mutRefTo, typesAt, owned, facts, heard, nothing, only, Args, Kepts, Fins, Meets, tripleOf, Triple, Ended, Clauses, Lasts, atExit, lasts, ensured, closing, Stays, stay-ref, stay-none, fitsOf, hasOf, AllGo, Silent, goes-ref, goes-none, yes, Last, valss}
+use Rattle.walks.proofs.Prelude.{refl, [], _∷_, List, ℕ, URA, named, Fn, Val, vunit, vptr, SProp, ent, emp, via, GName, Lft, Share, ftrue, flft, Heap, WpFn, Tables, Atoms, sem, fact, Lfts, Given, mean, ‵, _⊛_, _$_, _∵_, !, qed, move, keep, use0, split, join, fjoin, fsplit, suffices, frame, done, RattleType, Denots, owns, flat, Is, Ises, Are, Spells, Makes, Tells, Tellss, nothing-makes, unit, MutRef, ptr-vals, mut-tells, Slot, plain, typesAt, owned, nothing, Args, Kepts, Fins, Meets, Ended, Clauses, atExit, closing, Stays, stay-ref, stay-none, fitsOf, hasOf, AllGo, Silent, goes-ref, goes-none, yes, Last, valss}
 use Rattle.plan.proofs.Kept.{ends, meets-where}
-use Rattle.door.proofs.Parts.{Stands, Leaves}
-
-abbrev pub lending : RattleType → (ps : List (Slot 1)) → Kepts ps → Ended
-lending T ps ks = record { signature = record { lifetimes = 1; outlives = []; params = mutRefTo (0 ∷ []) tt (plain (λ _. T)) ∷ ps; result = plain (λ _. unit) }; kept = (yes, ks) }
-
--- ---- what a call of it leaves: xs are the plain values, us and vs their machine values
-module _ {M : Type 1} (𝓤 : URA M) (H : Heap 𝓤) (A : Atoms 𝓤) (W : Given 𝓤 H A) (C : Calls 𝓤 H) (fm : FmC 𝓤 H (W .laws) C) (f : Name) (T : RattleType) (ps : List (Slot 1)) (ks : Kepts ps) (c : Clauses 𝓤 (lending T ps ks)) (known : Triple 𝓤 (C f) (tripleOf 𝓤 H A (lending T ps ks .signature) (closing 𝓤 H A (lending T ps ks) c))) (b a : ℕ) (x : T .Denot) where
-  abbrev pub lent : GName → RefT (T .Denot)
-  lent δ = record { ptr = (b, a); name = δ; now = x }
-
-  module _ (vs : List Val) (xs : (ν : ℕ) → Denots (typesAt ps (ν ∷ [], tt))) (us : (ν : ℕ) → Valss (typesAt ps (ν ∷ [], tt))) (us-are : (ν : ℕ) → flat (typesAt ps (ν ∷ [], tt)) (us ν) ≡ vs)
-      (own : (ν : ℕ) → ent 𝓤 (emp 𝓤) (sem 𝓤 H A (owns (typesAt ps (ν ∷ [], tt)) (xs ν) (us ν)))) (gh : (ν : ℕ) (δ : GName) → c (ν ∷ [], tt) (lent δ, xs ν) .ghost) (asks : (ν : ℕ) (δ : GName) → ent 𝓤 (emp 𝓤) (c (ν ∷ [], tt) (lent δ, xs ν) .requires (gh ν δ)))
-      (K : T .Denot → Type 0) (says : (ν : ℕ) (δ : GName) (ws : Lasts (lending T ps ks) (ν ∷ [], tt) (lent δ, xs ν)) → ent 𝓤 (c (ν ∷ [], tt) (lent δ, xs ν) .ensures (gh ν δ) tt (atExit (lending T ps ks) (ν ∷ [], tt) (lent δ, xs ν) ws)) (fact 𝓤 (K (ws .0)))) where
-    pub leaves-by : Leaves W b C f T x K a vs
-    leaves-by ν δ = subst (λ (ws : List Val). ent 𝓤 (⋆ 𝓤 H A Handed) (C f (vptr b a ∷ ws) (λ v. mean 𝓤 H A (Left v)))) (us-are ν)
-        (via 𝓤 _ goes (via 𝓤 _ (known to) (fm→monoC 𝓤 H (W .laws) C fm f (vptr b a ∷ flat (typesAt ps (ν ∷ [], tt)) (us ν)) _ _ answers)))
-      where
-        E : Ended
-        E = lending T ps ks
-
-        Handed : List (Item 𝓤)
-        Handed = ‵ (MutRef (named 0) (ν ∷ []) T .own (lent δ) (vptr b a ∷ [])) ∷ ‵ (flft (ν ∷ []) fullShare) ∷ []
-
-        Left : Val → Item 𝓤
-        Left v = later (some (λ (d : T .Denot). given ((v ≡ vunit) × K d) (‵ (flft (ν ∷ []) fullShare) ⊛ ‵ (fres δ (T .coded .code d)))))
-
-        to : tripleOf 𝓤 H A (E .signature) (closing 𝓤 H A E c) .Ghost
-        to = (((ν ∷ [], tt), (fullShare, tt), tt, (lent δ, xs ν), (vptr b a ∷ [], us ν)), gh ν δ)
-
-        goes : ent 𝓤 (⋆ 𝓤 H A Handed) (tripleOf 𝓤 H A (E .signature) (closing 𝓤 H A E c) .pre to)
-        goes =
-            qed W Handed ∵ use0 W (raw (c (ν ∷ [], tt) (lent δ, xs ν) .requires (gh ν δ))) (asks ν δ) $ use0 W (‵ (owns (typesAt ps (ν ∷ [], tt)) (xs ν) (us ν))) (own ν) $ move ! (2 ∷ 0 ∷ []) $ fjoin ! $
-            -- [what the parameters own; what is required 1; ν's token 2]
-            nothing ! $ move ! (3 ∷ 0 ∷ []) $ join ! $ move ! (0 ∷ 1 ∷ []) $ join ! $ join ! $ done !
-
-        Answer : Val → Item 𝓤
-        Answer v = later (some (λ (u : Unit {0}). ((‵ (flft (ν ∷ []) fullShare) ⊛ ‵ ftrue) ⊛ ‵ (unit .own u (v ∷ []))) ⊛ raw (ensured 𝓤 H A E c (ν ∷ [], tt) (lent δ, xs ν) (gh ν δ) u)))
-
-        answers : (v : Val) → ent 𝓤 (mean 𝓤 H A (Answer v)) (mean 𝓤 H A (Left v))
-        answers v =
-            qed W (Answer v ∷ []) ∵ updating ! $ await ! tt $ pick ! (λ u. split ! $ split ! $ split ! $
-            -- [ν's token 0; true 1; the unit 2; what is ensured 3]
-            move ! (3 ∷ []) $ use1 W (some (λ (ws : Lasts E (ν ∷ [], tt) (lent δ, xs ν)). ‵ (lasts E (ν ∷ [], tt) (lent δ, xs ν) ws) ⊛ raw (c (ν ∷ [], tt) (lent δ, xs ν) .ensures (gh ν δ) u (atExit E (ν ∷ [], tt) (lent δ, xs ν) ws)))) (id⊢ 𝓤 _) $ pick ! (λ ws. split ! $ move ! (1 ∷ []) $
-            use1 W (raw (fact 𝓤 (K (ws .0)))) (says ν δ ws) $ heard ! (K (ws .0)) (λ k. fsplit ! $
-            -- [the last value 0; the others' 1; ν's token 2; true 3; the unit 4]
-            move ! (4 ∷ []) $ facts ! unit (Is unit) (shows 𝓤 H A unit) u (v ∷ []) (λ is. at-once ! $
-            show ! (λ (d : T .Denot). mean 𝓤 H A (given ((v ≡ vunit) × K d) (‵ (flft (ν ∷ []) fullShare) ⊛ ‵ (fres δ (T .coded .code d))))) (ws .0) $ check ! (ap only (nothing-tells u (v ∷ []) is), k) $ keep ! (2 ∷ 0 ∷ []) $ done !))))
+use Rattle.inplace.proofs.Callees.{lending}
+use Rattle.inplace.proofs.Parts.{Stands}
 
 -- ---- from the walk to the contract: ps are types of plain values, of which nothing is bound at the end (`none`), and which are still had (`had`)
 module _ {M : Type 1} (𝓤 : URA M) (H : Heap 𝓤) (A : Atoms 𝓤) (W : Given 𝓤 H A) (T : RattleType) (ps : List (Slot 1)) (ks : Kepts ps) (hs : Stays ps ks) (gs : AllGo 𝓤 H A W 1 ps ks hs)

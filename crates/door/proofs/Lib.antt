@@ -1,11 +1,10 @@
-pub mod Parts
 pub mod Lending
-pub mod Pieces
+pub mod Verdicts
 pub mod ToldLaws
 pub mod CopyWalk
 pub mod EnterWalk
+pub mod ToValue
 pub mod PoolsWalk
-pub mod HeldWalk
 pub mod KindLaws
 pub mod KeptLaws
 pub mod AddLaws

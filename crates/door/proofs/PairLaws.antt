@@ -20,7 +20,7 @@ use Rattle.tables.specs.Whole.{holders}
 use Rattle.door.proofs.KindLaws.{every}
 use Rattle.door.proofs.HeldLaws.{Keeping, held-state}
 
-abbrev pub putPair : Holders → Inputs → Ranges → Holders
+abbrev putPair : Holders → Inputs → Ranges → Holders
 putPair h x y = holders (h .mmio) (h .pio) x y (h .device) (h .event) (h .lpi)
 
 module _ (h : Holders) (w r : Row) (x : Inputs) (y : Ranges) (a b c : Reply) (e : c ≡ earlierOf a b)

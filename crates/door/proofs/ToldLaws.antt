@@ -2,13 +2,12 @@
 --     poolFrom     the table of a view;        pool-told      a table with the view is it
 --     poolsFrom    the group with the ranges that a verdict has for it;        pools-told     a group that is promised to be is it
 --     sized        columns in memory have their full length
-use Rattle.walks.proofs.Prelude.{_≡_, refl, sym, _∙_, ap, ap₂, ℕ, zero, suc, arith, [], _∷_, List, map, length, getD, Val, w32, w64, Is}
-use Rattle.definition.specs.Tables.{Span, Table, poolLimit, mmio, pio, input, host, device, event, lpi}
+use Rattle.walks.proofs.Prelude.{_≡_, refl, _∙_, ap, ap₂, ℕ, zero, suc, arith, [], _∷_, List, map, length, getD, Val, w32, w64, Is}
+use Rattle.definition.specs.Tables.{Kind as DKind, Span, Table, poolLimit, mmio, pio, input, host, device, event, lpi}
 use Rattle.tables.specs.Below.{listed}
-use Rattle.tables.specs.Views.{pool, spanOf, poolAt, poolView}
+use Rattle.tables.specs.Views.{pool, spanOf, poolAt, poolOf, poolView}
 use Rattle.tables.specs.Sized.{SizedPool}
 use Rattle.tables.specs.declared.Kind.{Kind}
-use Rattle.tables.specs.declared.Kind.the-variants as K
 use Rattle.tables.specs.declared.Pool.{Pool}
 use Rattle.tables.specs.declared.Pools.{Pools}
 use Rattle.tables.proofs.Pool as Po
@@ -17,8 +16,9 @@ use Rattle.lent_table.proofs.Item.{column-length}
 use Rattle.adding.specs.Judged.{poolPutOf, enteredView}
 use Rattle.adding.specs.declared.To.{To}
 use Rattle.adding.specs.declared.Verdict.{Verdict}
-use Rattle.door.specs.Kept.{PoolsKept}
-use Rattle.door.proofs.Pieces.{pools}
+use Rattle.door.specs.Kept.{kindIn, PoolsKept}
+use Rattle.door.proofs.KindLaws.{every}
+use Rattle.inplace.proofs.Pieces.{pools}
 
 abbrev pub poolFrom : Table Span → Pool
 poolFrom t = pool (t .count) (map (λ s. s .dom .controller) (t .rows)) (map (λ s. s .dom .its) (t .rows)) (map (λ s. s .start) (t .rows)) (map (λ s. s .end) (t .rows))
@@ -57,30 +57,19 @@ sized d is = record {
 abbrev pub entering : Verdict → To → Kind → Pool → Pool
 entering v to k x = poolFrom (enteredView (poolPutOf v to k) (poolView x))
 
+abbrev from : Verdict → To → Pools → DKind → Pool
+from v to p k = entering v to (kindIn k) (poolOf p k)
+
 abbrev pub poolsFrom : Verdict → To → Pools → Pools
-poolsFrom v to p =
-    pools (entering v to K.Mmio (p .mmio)) (entering v to K.Pio (p .pio)) (entering v to K.Input (p .input)) (entering v to K.Host (p .host)) (entering v to K.Device (p .device)) (entering v to K.Event (p .event)) (entering v to K.Lpi (p .lpi))
+poolsFrom v to p = pools (from v to p mmio) (from v to p pio) (from v to p input) (from v to p host) (from v to p device) (from v to p event) (from v to p lpi)
 
 pub pools-told : (v : Verdict) (to : To) (p d : Pools) {vs : List Val} → Is Ps.the-row d vs → PoolsKept v to p d → d ≡ poolsFrom v to p
-pools-told v to p d is k = λ i. pools (e₀ i) (e₁ i) (e₂ i) (e₃ i) (e₄ i) (e₅ i) (e₆ i)
+pools-told v to p d is kept = λ i. pools (told mmio i) (told pio i) (told input i) (told host i) (told device i) (told event i) (told lpi i)
   where
-    e₀ : d .mmio ≡ entering v to K.Mmio (p .mmio)
-    e₀ = pool-told (d .mmio) (sized (d .mmio) (is .1 .1 .0)) _ (k mmio)
+    size : (k : DKind) → SizedPool (poolOf d k)
+    size =
+        every _ (sized (d .mmio) (is .1 .1 .0)) (sized (d .pio) (is .1 .1 .1 .0)) (sized (d .input) (is .1 .1 .1 .1 .0)) (sized (d .host) (is .1 .1 .1 .1 .1 .0)) (sized (d .device) (is .1 .1 .1 .1 .1 .1 .0)) (sized (d .event) (is .1 .1 .1 .1 .1 .1 .1 .0))
+        (sized (d .lpi) (is .1 .1 .1 .1 .1 .1 .1 .1 .0))
 
-    e₁ : d .pio ≡ entering v to K.Pio (p .pio)
-    e₁ = pool-told (d .pio) (sized (d .pio) (is .1 .1 .1 .0)) _ (k pio)
-
-    e₂ : d .input ≡ entering v to K.Input (p .input)
-    e₂ = pool-told (d .input) (sized (d .input) (is .1 .1 .1 .1 .0)) _ (k input)
-
-    e₃ : d .host ≡ entering v to K.Host (p .host)
-    e₃ = pool-told (d .host) (sized (d .host) (is .1 .1 .1 .1 .1 .0)) _ (k host)
-
-    e₄ : d .device ≡ entering v to K.Device (p .device)
-    e₄ = pool-told (d .device) (sized (d .device) (is .1 .1 .1 .1 .1 .1 .0)) _ (k device)
-
-    e₅ : d .event ≡ entering v to K.Event (p .event)
-    e₅ = pool-told (d .event) (sized (d .event) (is .1 .1 .1 .1 .1 .1 .1 .0)) _ (k event)
-
-    e₆ : d .lpi ≡ entering v to K.Lpi (p .lpi)
-    e₆ = pool-told (d .lpi) (sized (d .lpi) (is .1 .1 .1 .1 .1 .1 .1 .1 .0)) _ (k lpi)
+    told : (k : DKind) → poolOf d k ≡ from v to p k
+    told k = pool-told (poolOf d k) (size k) _ (kept k)

@@ -1,11 +1,10 @@
 -- A state with what a verdict stores in it. Assumes nothing.
 use mathlib.Core.Path.{_≡_}
-use mathlib.Core.Bool.{true, not}
+use mathlib.Core.Bool.{not}
 use lib.Dec.{T as Holds}
-use Rattle.definition.specs.Base.{Said}
 use Rattle.definition.specs.Tables.{poolLimit, Kind, mmio, pio, input, host, device, event, lpi, sameSpan, blankSpan, tidy}
 use Rattle.definition.specs.Calls.{saying}
-use Rattle.tables.specs.Views.{poolOf, poolView, stateView}
+use Rattle.tables.specs.Views.{poolOf, poolView, holdersView, stateView}
 use Rattle.tables.specs.Whole.{holders}
 use Rattle.tables.specs.declared.Kind as C
 use Rattle.tables.specs.declared.Kind.the-variants as K
@@ -20,7 +19,7 @@ use Rattle.lent_table.specs.Store.{Free, putRange, putInput}
 use Rattle.decide.specs.declared.Rows.the-variants.{Nothing}
 use Rattle.decide.specs.declared.Granted.{Granted}
 use Rattle.request.specs.Asked.{saidOf}
-use Rattle.adding.specs.Judged.{poolPutOf, heldPutOf, inputPutOf, enteredView}
+use Rattle.adding.specs.Judged.{staysOf, poolPutOf, heldPutOf, inputPutOf, enteredView}
 use Rattle.adding.specs.Adds.{askOf, inputAskOf, passesOf, startsOf}
 use Rattle.adding.specs.Looks.{Sees, SeesInput}
 use Rattle.adding.specs.declared.To.{To}
@@ -53,14 +52,8 @@ heldWith v h =
     (putRange (h .device) (heldPutOf v K.Device)) (putRange (h .event) (heldPutOf v K.Event)) (putRange (h .lpi) (heldPutOf v K.Lpi))
 
 -- each row that is to be stored has a place
-pub record HeldFree (v : Verdict) (h : Holders) : Type 0 where
-  pub mmio : Free (h .mmio .n) (heldPutOf v K.Mmio .go)
-  pub pio : Free (h .pio .n) (heldPutOf v K.Pio .go)
-  pub input : Free (h .input .n) (inputPutOf v .go)
-  pub host : Free (h .host .n) (heldPutOf v K.Host .go)
-  pub device : Free (h .device .n) (heldPutOf v K.Device .go)
-  pub event : Free (h .event .n) (heldPutOf v K.Event .go)
-  pub lpi : Free (h .lpi .n) (heldPutOf v K.Lpi .go)
+abbrev pub HeldFree : Verdict → Holders → Type 0
+HeldFree v h = (k : Kind) → Free (holdersView h k .count) (staysOf v T.Held (kindIn k))
 
 -- ---- a state with other tables, or other numbers
 

@@ -1,11 +1,13 @@
 // A call that adds, or starts, on a lent state whose pools and reservations are sound, in place: tables are read through references, and only those of the call's use and kinds are written.
 use adding::PoolPut;
+use adding::To;
 use adding::Verdict;
 use choose::Refusal;
 use decide::Granted;
 use insert::Reply;
 use request::Said;
 use request::call::Call;
+use tables::Kind;
 use tables::Pool;
 use tables::Pools;
 use tables::State;
@@ -40,16 +42,37 @@ pub fn auto(p: &mut Pools, v: Verdict)
     requires { ⌜ TidyPools (now p) ⌝ }
     ensures { λ _. ⌜ PoolsKept v T.Automatic (now (p .entry)) (now (p .exit)) ⌝ }
 {
-    if adding::auto::idle(v) {
+    if adding::enter::idle(v, To::Automatic) {
         return;
     }
-    enter(&mut p.mmio, adding::auto::mmio(v));
-    enter(&mut p.pio, adding::auto::pio(v));
-    enter(&mut p.input, adding::auto::input(v));
-    enter(&mut p.host, adding::auto::host(v));
-    enter(&mut p.device, adding::auto::device(v));
-    enter(&mut p.event, adding::auto::event(v));
-    enter(&mut p.lpi, adding::auto::lpi(v));
+    enter(
+        &mut p.mmio,
+        adding::enter::range(v, To::Automatic, Kind::Mmio),
+    );
+    enter(
+        &mut p.pio,
+        adding::enter::range(v, To::Automatic, Kind::Pio),
+    );
+    enter(
+        &mut p.input,
+        adding::enter::range(v, To::Automatic, Kind::Input),
+    );
+    enter(
+        &mut p.host,
+        adding::enter::range(v, To::Automatic, Kind::Host),
+    );
+    enter(
+        &mut p.device,
+        adding::enter::range(v, To::Automatic, Kind::Device),
+    );
+    enter(
+        &mut p.event,
+        adding::enter::range(v, To::Automatic, Kind::Event),
+    );
+    enter(
+        &mut p.lpi,
+        adding::enter::range(v, To::Automatic, Kind::Lpi),
+    );
 }
 
 // .. for the fixed pools.
@@ -57,16 +80,25 @@ pub fn fixed(p: &mut Pools, v: Verdict)
     requires { ⌜ TidyPools (now p) ⌝ }
     ensures { λ _. ⌜ PoolsKept v T.Fixed (now (p .entry)) (now (p .exit)) ⌝ }
 {
-    if adding::fixed::idle(v) {
+    if adding::enter::idle(v, To::Fixed) {
         return;
     }
-    enter(&mut p.mmio, adding::fixed::mmio(v));
-    enter(&mut p.pio, adding::fixed::pio(v));
-    enter(&mut p.input, adding::fixed::input(v));
-    enter(&mut p.host, adding::fixed::host(v));
-    enter(&mut p.device, adding::fixed::device(v));
-    enter(&mut p.event, adding::fixed::event(v));
-    enter(&mut p.lpi, adding::fixed::lpi(v));
+    enter(&mut p.mmio, adding::enter::range(v, To::Fixed, Kind::Mmio));
+    enter(&mut p.pio, adding::enter::range(v, To::Fixed, Kind::Pio));
+    enter(
+        &mut p.input,
+        adding::enter::range(v, To::Fixed, Kind::Input),
+    );
+    enter(&mut p.host, adding::enter::range(v, To::Fixed, Kind::Host));
+    enter(
+        &mut p.device,
+        adding::enter::range(v, To::Fixed, Kind::Device),
+    );
+    enter(
+        &mut p.event,
+        adding::enter::range(v, To::Fixed, Kind::Event),
+    );
+    enter(&mut p.lpi, adding::enter::range(v, To::Fixed, Kind::Lpi));
 }
 
 // The rows for the reservations, each at the end of its table, in place.
@@ -74,13 +106,13 @@ pub fn held(s: &mut State, v: Verdict)
     requires { ⌜ HeldFree v (now s .held) ⌝ }
     ensures { λ _. ⌜ now (s .exit) ≡ withHeld (heldWith v (now (s .entry) .held)) (now (s .entry)) ⌝ }
 {
-    lent_table::store::range(&mut s.held.mmio, adding::put::mmio(v));
-    lent_table::store::range(&mut s.held.pio, adding::put::pio(v));
+    lent_table::store::range(&mut s.held.mmio, adding::put::range(v, Kind::Mmio));
+    lent_table::store::range(&mut s.held.pio, adding::put::range(v, Kind::Pio));
     lent_table::store::input(&mut s.held.input, adding::put::input(v));
-    lent_table::store::range(&mut s.held.host, adding::put::host(v));
-    lent_table::store::range(&mut s.held.device, adding::put::device(v));
-    lent_table::store::range(&mut s.held.event, adding::put::event(v));
-    lent_table::store::range(&mut s.held.lpi, adding::put::lpi(v));
+    lent_table::store::range(&mut s.held.host, adding::put::range(v, Kind::Host));
+    lent_table::store::range(&mut s.held.device, adding::put::range(v, Kind::Device));
+    lent_table::store::range(&mut s.held.event, adding::put::range(v, Kind::Event));
+    lent_table::store::range(&mut s.held.lpi, adding::put::range(v, Kind::Lpi));
 }
 
 // An answer as numbers to be stored beside the tables, with no row.
@@ -151,13 +183,13 @@ pub fn look(s: &State, c: Call) -> Verdict
         &s.auto.mmio,
         &s.fixed.mmio,
         &s.held.mmio,
-        adding::asking::mmio(q),
+        adding::asking::range(q, Kind::Mmio),
     );
     let pio = adding::answer::range(
         &s.auto.pio,
         &s.fixed.pio,
         &s.held.pio,
-        adding::asking::pio(q),
+        adding::asking::range(q, Kind::Pio),
     );
     let input = adding::answer::input(
         &s.auto.input,
@@ -169,25 +201,25 @@ pub fn look(s: &State, c: Call) -> Verdict
         &s.auto.host,
         &s.fixed.host,
         &s.held.host,
-        adding::asking::host(q),
+        adding::asking::range(q, Kind::Host),
     );
     let device = adding::answer::range(
         &s.auto.device,
         &s.fixed.device,
         &s.held.device,
-        adding::asking::device(q),
+        adding::asking::range(q, Kind::Device),
     );
     let event = adding::answer::range(
         &s.auto.event,
         &s.fixed.event,
         &s.held.event,
-        adding::asking::event(q),
+        adding::asking::range(q, Kind::Event),
     );
     let lpi = adding::answer::range(
         &s.auto.lpi,
         &s.fixed.lpi,
         &s.held.lpi,
-        adding::asking::lpi(q),
+        adding::asking::range(q, Kind::Lpi),
     );
     adding::judge(q, mmio, pio, input, host, device, event, lpi)
 }

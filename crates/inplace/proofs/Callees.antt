@@ -1,8 +1,10 @@
--- What `LendPart.antt`'s step takes of its two callees, out of their contracts, whatever those are: a function of plain values whose result is told, and one that is lent a value and told what it leaves there. Assumes `Given`.
---     made     a function of no lifetime, whose `ensures` says that its result is x: it answers x
---     left     a function of a `&mut F` and a plain value, whose `ensures` says that the last value is x′: it leaves x′
-use Rattle.walks.proofs.Prelude.{_≡_, refl, ap, subst, _∙_, ℕ, [], _∷_, List, URA, fullShare, Name, named, Val, vunit, vptr, SProp, ent, emp, via, id⊢, GName, ftrue, flft, fres, Heap, Calls, Atoms, sem, fact, Given, Item, mean, ‵, raw, _⊛_, some, given, later, _$_, _∵_, !, qed, move, drop, use0, use1, split, join, pick, rewrite, fsplit, fjoin, await, updating, now as at-once, check, frame, done, keep as keeps, FmC, fm→monoC, RattleType, owns, flat, Is, Tells, shows, unit, RefMutOf, One, nothing-tells, RefT, MutRef, Slot, plain, typesAt, facts, heard, nothing, only, yes, Args, Vals, Kepts, tripleOf, Triple, Ended, Clauses, Lasts, AtExit, atExit, lasts, closing, ensured}
-use Rattle.inplace.proofs.LendPart.{Makes, Leaves}
+-- What a walk takes of its callees, out of their contracts, whatever those are: of a function of plain values whose result is told, and of one that is lent a value and tells what it leaves there. Assumes `Given`.
+--     made         a function of no lifetime, whose `ensures` says that its result is x: it answers x
+--     lending      the signature of a function that is lent a value of T, with plain values beside it, and answers nothing
+--     leaves-by    what it leaves in the part of T that it is lent
+use Rattle.walks.proofs.Prelude.{_≡_, ap, subst, _∙_, ℕ, [], _∷_, List, URA, fullShare, Name, named, Val, vunit, vptr, ent, emp, via, id⊢, GName, ftrue, flft, fres, Heap, Calls, Atoms, sem, fact, Given, Item, mean, ‵, raw, _⊛_, some, given, later, _$_, _∵_, !, qed, move, drop, use0, use1, split, join, pick, fsplit, fjoin, await, updating, now as at-once, check, frame, done, FmC, fm→monoC, RattleType, owns, flat, Is, Tells, shows, unit, nothing-tells, RefT, MutRef, Slot, plain, typesAt, facts, heard, nothing, only, yes, Args, Vals, Kepts, tripleOf, Triple, Ended, Clauses, Lasts, AtExit, atExit, lasts, closing, ensured, ⋆, keep, show, Denots, Valss, mutRefTo}
+use Rattle.inplace.proofs.LendPart.{Makes}
+use Rattle.inplace.proofs.Parts.{Leaves}
 
 module _ {M : Type 1} (𝓤 : URA M) (H : Heap 𝓤) (A : Atoms 𝓤) (W : Given 𝓤 H A) (C : Calls 𝓤 H) (fm : FmC 𝓤 H (W .laws) C) where
   module _ (g : Name) (ps : List (Slot 0)) (ks : Kepts ps) (R : RattleType) (val : R .Denot → Val) (tells : Tells R (Is R) (λ d. val d ∷ [])) where
@@ -25,39 +27,48 @@ module _ {M : Type 1} (𝓤 : URA M) (H : Heap 𝓤) (A : Atoms 𝓤) (W : Given
             use1 W (raw (fact 𝓤 (d ≡ x))) (says d _) $ heard ! (d ≡ x) (λ e. move ! (1 ∷ []) $ facts ! R (Is R) (shows 𝓤 H A R) d (v ∷ []) (λ is.
             at-once ! $ check ! (ap only (tells d (v ∷ []) is) ∙ ap val e, subst (λ (z : R .Denot). Is R z (val z ∷ [])) e (subst (Is R d) (tells d (v ∷ []) is) is)) $ done !))))
 
-  module _ (f : Name) (F P : RattleType) (one : One (F .mir)) where
-    abbrev T′ : Ended
-    T′ = record { signature = record { lifetimes = 1; outlives = []; params = RefMutOf (0 ∷ []) tt (plain (λ κs. F)) (λ κs. one) ∷ plain (λ κs. P) ∷ []; result = plain (λ κs. unit) }; kept = (yes, (yes, tt)) }
+abbrev pub lending : RattleType → (ps : List (Slot 1)) → Kepts ps → Ended
+lending T ps ks = record { signature = record { lifetimes = 1; outlives = []; params = mutRefTo (0 ∷ []) tt (plain (λ _. T)) ∷ ps; result = plain (λ _. unit) }; kept = (yes, ks) }
 
-    module _ (c : Clauses 𝓤 T′) (known : Triple 𝓤 (C f) (tripleOf 𝓤 H A (T′ .signature) (closing 𝓤 H A T′ c))) (b a : ℕ) (x x′ : F .Denot) (y : P .Denot) (pv : Val) where
-      abbrev pub Passed : Type 0
-      Passed = RefT (F .Denot) × (P .Denot × Unit {0})
+-- ---- what a call of it leaves: xs are the plain values, us and vs their machine values
+module _ {M : Type 1} (𝓤 : URA M) (H : Heap 𝓤) (A : Atoms 𝓤) (W : Given 𝓤 H A) (C : Calls 𝓤 H) (fm : FmC 𝓤 H (W .laws) C) (f : Name) (T : RattleType) (ps : List (Slot 1)) (ks : Kepts ps) (c : Clauses 𝓤 (lending T ps ks)) (known : Triple 𝓤 (C f) (tripleOf 𝓤 H A (lending T ps ks .signature) (closing 𝓤 H A (lending T ps ks) c))) (b a : ℕ) (x : T .Denot) where
+  abbrev pub lent : GName → RefT (T .Denot)
+  lent δ = record { ptr = (b, a); name = δ; now = x }
 
-      abbrev pub lent : GName → Passed
-      lent γ = (record { ptr = (b, a); name = γ; now = x }, (y, tt))
+  module _ (vs : List Val) (xs : (ν : ℕ) → Denots (typesAt ps (ν ∷ [], tt))) (us : (ν : ℕ) → Valss (typesAt ps (ν ∷ [], tt))) (us-are : (ν : ℕ) → flat (typesAt ps (ν ∷ [], tt)) (us ν) ≡ vs)
+      (own : (ν : ℕ) → ent 𝓤 (emp 𝓤) (sem 𝓤 H A (owns (typesAt ps (ν ∷ [], tt)) (xs ν) (us ν)))) (gh : (ν : ℕ) (δ : GName) → c (ν ∷ [], tt) (lent δ, xs ν) .ghost) (asks : (ν : ℕ) (δ : GName) → ent 𝓤 (emp 𝓤) (c (ν ∷ [], tt) (lent δ, xs ν) .requires (gh ν δ)))
+      (K : T .Denot → Type 0) (says : (ν : ℕ) (δ : GName) (ws : Lasts (lending T ps ks) (ν ∷ [], tt) (lent δ, xs ν)) → ent 𝓤 (c (ν ∷ [], tt) (lent δ, xs ν) .ensures (gh ν δ) tt (atExit (lending T ps ks) (ν ∷ [], tt) (lent δ, xs ν) ws)) (fact 𝓤 (K (ws .0)))) where
+    pub leaves-by : Leaves W b C f T x K a vs
+    leaves-by ν δ = subst (λ (ws : List Val). ent 𝓤 (⋆ 𝓤 H A Handed) (C f (vptr b a ∷ ws) (λ v. mean 𝓤 H A (Left v)))) (us-are ν)
+        (via 𝓤 _ goes (via 𝓤 _ (known to) (fm→monoC 𝓤 H (W .laws) C fm f (vptr b a ∷ flat (typesAt ps (ν ∷ [], tt)) (us ν)) _ _ answers)))
+      where
+        E : Ended
+        E = lending T ps ks
 
-      module _ (gh : (ν : ℕ) (γ : GName) → c (ν ∷ [], tt) (lent γ) .ghost) (own : ent 𝓤 (emp 𝓤) (sem 𝓤 H A (P .own y (pv ∷ [])))) (asks : (ν : ℕ) (γ : GName) → ent 𝓤 (emp 𝓤) (c (ν ∷ [], tt) (lent γ) .requires (gh ν γ)))
-          (says : (ν : ℕ) (γ : GName) (ws : Lasts T′ (ν ∷ [], tt) (lent γ)) → ent 𝓤 (c (ν ∷ [], tt) (lent γ) .ensures (gh ν γ) tt (atExit T′ (ν ∷ [], tt) (lent γ) ws)) (fact 𝓤 (ws .0 ≡ x′))) where
-        abbrev Ens : ℕ → GName → SProp 𝓤
-        Ens ν γ = ensured 𝓤 H A T′ c (ν ∷ [], tt) (lent γ) (gh ν γ) tt
+        Handed : List (Item 𝓤)
+        Handed = ‵ (MutRef (named 0) (ν ∷ []) T .own (lent δ) (vptr b a ∷ [])) ∷ ‵ (flft (ν ∷ []) fullShare) ∷ []
 
-        abbrev Answer : ℕ → GName → Val → Item 𝓤
-        Answer ν γ v = later (some (λ (u : Unit {0}). ((‵ (flft (ν ∷ []) fullShare) ⊛ ‵ ftrue) ⊛ ‵ (unit .own u (v ∷ []))) ⊛ raw (Ens ν γ)))
+        Left : Val → Item 𝓤
+        Left v = later (some (λ (d : T .Denot). given ((v ≡ vunit) × K d) (‵ (flft (ν ∷ []) fullShare) ⊛ ‵ (fres δ (T .coded .code d)))))
 
-        answers : (ν : ℕ) (γ : GName) (v : Val) → ent 𝓤 (mean 𝓤 H A (Answer ν γ v)) (mean 𝓤 H A (later (given (v ≡ vunit) (‵ (flft (ν ∷ []) fullShare) ⊛ ‵ (fres γ (F .coded .code x′))))))
-        answers ν γ v =
-            qed W (Answer ν γ v ∷ []) ∵ updating ! $ await ! tt $ pick ! (λ u. split ! $ split ! $ split ! $
+        to : tripleOf 𝓤 H A (E .signature) (closing 𝓤 H A E c) .Ghost
+        to = (((ν ∷ [], tt), (fullShare, tt), tt, (lent δ, xs ν), (vptr b a ∷ [], us ν)), gh ν δ)
+
+        goes : ent 𝓤 (⋆ 𝓤 H A Handed) (tripleOf 𝓤 H A (E .signature) (closing 𝓤 H A E c) .pre to)
+        goes =
+            qed W Handed ∵ use0 W (raw (c (ν ∷ [], tt) (lent δ, xs ν) .requires (gh ν δ))) (asks ν δ) $ use0 W (‵ (owns (typesAt ps (ν ∷ [], tt)) (xs ν) (us ν))) (own ν) $ move ! (2 ∷ 0 ∷ []) $ fjoin ! $
+            -- [what the parameters own; what is required 1; ν's token 2]
+            nothing ! $ move ! (3 ∷ 0 ∷ []) $ join ! $ move ! (0 ∷ 1 ∷ []) $ join ! $ join ! $ done !
+
+        Answer : Val → Item 𝓤
+        Answer v = later (some (λ (u : Unit {0}). ((‵ (flft (ν ∷ []) fullShare) ⊛ ‵ ftrue) ⊛ ‵ (unit .own u (v ∷ []))) ⊛ raw (ensured 𝓤 H A E c (ν ∷ [], tt) (lent δ, xs ν) (gh ν δ) u)))
+
+        answers : (v : Val) → ent 𝓤 (mean 𝓤 H A (Answer v)) (mean 𝓤 H A (Left v))
+        answers v =
+            qed W (Answer v ∷ []) ∵ updating ! $ await ! tt $ pick ! (λ u. split ! $ split ! $ split ! $
             -- [ν's token 0; true 1; the unit 2; what is ensured 3]
-            move ! (3 ∷ []) $ use1 W (some (λ (ws : Lasts T′ (ν ∷ [], tt) (lent γ)). ‵ (lasts T′ (ν ∷ [], tt) (lent γ) ws) ⊛ raw (c (ν ∷ [], tt) (lent γ) .ensures (gh ν γ) tt (atExit T′ (ν ∷ [], tt) (lent γ) ws)))) (id⊢ 𝓤 _) $ pick ! (λ ws. split ! $ move ! (1 ∷ []) $
-            use1 W (raw (fact 𝓤 (ws .0 ≡ x′))) (says ν γ ws) $ heard ! (ws .0 ≡ x′) (λ e. fsplit ! $ rewrite ! 0 (λ (z : F .Denot). ‵ (fres γ (F .coded .code z))) e refl $
-            -- [the last value 0; … 1; ν's token 2; true 3; the unit 4]
-            move ! (4 ∷ []) $ facts ! unit (Is unit) (shows 𝓤 H A unit) u (v ∷ []) (λ is. at-once ! $ check ! (ap only (nothing-tells u (v ∷ []) is)) $ keeps ! (2 ∷ 0 ∷ []) $ done !))))
-
-        pub left : Leaves 𝓤 H A W C f (named 0) F x x′ b a pv
-        left ν γ =
-            via 𝓤 _
-            (qed W (‵ (MutRef (named 0) (ν ∷ []) F .own (lent γ .0) (vptr b a ∷ [])) ∷ ‵ (flft (ν ∷ []) fullShare) ∷ []) ∵
-            use0 W (raw (c (ν ∷ [], tt) (lent γ) .requires (gh ν γ))) (asks ν γ) $ nothing ! $ use0 W (‵ (P .own y (pv ∷ []))) own $ fjoin ! $ move ! (2 ∷ 0 ∷ []) $ fjoin ! $
-            -- [what the parameters own 0; what is required 1; ν's token 2]
-            nothing ! $ move ! (3 ∷ 0 ∷ []) $ join ! $ join ! $ frame ! $ done !)
-            (via 𝓤 _ (known (((ν ∷ [], tt), (fullShare, tt), tt, lent γ, (vptr b a ∷ [], (pv ∷ [], tt))), gh ν γ)) (fm→monoC 𝓤 H (W .laws) C fm f (vptr b a ∷ pv ∷ []) _ _ (answers ν γ)))
+            move ! (3 ∷ []) $ use1 W (some (λ (ws : Lasts E (ν ∷ [], tt) (lent δ, xs ν)). ‵ (lasts E (ν ∷ [], tt) (lent δ, xs ν) ws) ⊛ raw (c (ν ∷ [], tt) (lent δ, xs ν) .ensures (gh ν δ) u (atExit E (ν ∷ [], tt) (lent δ, xs ν) ws)))) (id⊢ 𝓤 _) $ pick ! (λ ws. split ! $ move ! (1 ∷ []) $
+            use1 W (raw (fact 𝓤 (K (ws .0)))) (says ν δ ws) $ heard ! (K (ws .0)) (λ k. fsplit ! $
+            -- [the last value 0; the others' 1; ν's token 2; true 3; the unit 4]
+            move ! (4 ∷ []) $ facts ! unit (Is unit) (shows 𝓤 H A unit) u (v ∷ []) (λ is. at-once ! $
+            show ! (λ (d : T .Denot). mean 𝓤 H A (given ((v ≡ vunit) × K d) (‵ (flft (ν ∷ []) fullShare) ⊛ ‵ (fres δ (T .coded .code d))))) (ws .0) $ check ! (ap only (nothing-tells u (v ∷ []) is), k) $ keep ! (2 ∷ 0 ∷ []) $ done !))))

@@ -11,5 +11,8 @@ pub mod PeekWalk
 pub mod CutViews
 pub mod Callees
 pub mod LendPart
-pub mod KeepWalk
+pub mod StoreWalk
+pub mod Storing
+pub mod Parts
+pub mod Pieces
 pub mod ResolveWalk

@@ -2,6 +2,7 @@
 use decide::Bases;
 use decide::Granted;
 use request::Request;
+use tables::Kind;
 use tables::State;
 ghost use mathlib.Core.Path.{_≡_};
 ghost use lib.Dec.{T};
@@ -20,21 +21,21 @@ pub fn find(s: &State, r: Request) -> Granted
     ensures { λ g. ⌜ Finds (now (s .entry)) (requestOf r) g ⌝ }
 {
     let q = decide::queried(r);
-    if decide::ask::for_mmio(q) {
+    if decide::ask::for_range(q, Kind::Mmio) {
         let seen = lent_table::look::range(
             &s.auto.mmio,
             &s.fixed.mmio,
             &s.owners.mmio,
-            decide::ask::mmio(q),
+            decide::ask::range(q, Kind::Mmio),
         );
         return decide::one(q, seen);
     }
-    if decide::ask::for_pio(q) {
+    if decide::ask::for_range(q, Kind::Pio) {
         let seen = lent_table::look::range(
             &s.auto.pio,
             &s.fixed.pio,
             &s.owners.pio,
-            decide::ask::pio(q),
+            decide::ask::range(q, Kind::Pio),
         );
         return decide::one(q, seen);
     }
@@ -47,12 +48,12 @@ pub fn find(s: &State, r: Request) -> Granted
         );
         return decide::one(q, seen);
     }
-    if decide::ask::for_host(q) {
+    if decide::ask::for_range(q, Kind::Host) {
         let seen = lent_table::look::range(
             &s.auto.host,
             &s.fixed.host,
             &s.owners.host,
-            decide::ask::host(q),
+            decide::ask::range(q, Kind::Host),
         );
         return decide::one(q, seen);
     }
@@ -82,13 +83,13 @@ pub fn keep(s: &mut State, g: Granted)
     requires { ⌜ AllFree g (now s .owners) ⌝ }
     ensures { λ _. ⌜ now (s .exit) ≡ kept g (now (s .entry)) ⌝ }
 {
-    lent_table::store::range(&mut s.owners.mmio, decide::put::mmio(g));
-    lent_table::store::range(&mut s.owners.pio, decide::put::pio(g));
+    lent_table::store::range(&mut s.owners.mmio, decide::put::range(g, Kind::Mmio));
+    lent_table::store::range(&mut s.owners.pio, decide::put::range(g, Kind::Pio));
     lent_table::store::input(&mut s.owners.input, decide::put::input(g));
-    lent_table::store::range(&mut s.owners.host, decide::put::host(g));
-    lent_table::store::range(&mut s.owners.device, decide::put::device(g));
-    lent_table::store::range(&mut s.owners.event, decide::put::event(g));
-    lent_table::store::range(&mut s.owners.lpi, decide::put::lpi(g));
+    lent_table::store::range(&mut s.owners.host, decide::put::range(g, Kind::Host));
+    lent_table::store::range(&mut s.owners.device, decide::put::range(g, Kind::Device));
+    lent_table::store::range(&mut s.owners.event, decide::put::range(g, Kind::Event));
+    lent_table::store::range(&mut s.owners.lpi, decide::put::range(g, Kind::Lpi));
     s.number = g.said.number;
     s.index = 0;
     s.namespace = g.said.namespace;

@@ -11,8 +11,6 @@ use msi::MsiChosen;
 use request::Request;
 use request::Want;
 use search::Need;
-use table_tests::limits;
-use table_tests::limits::Limits;
 use tables::Inputs;
 use tables::Kind;
 use tables::Pool;
@@ -21,7 +19,6 @@ ghost use mathlib.Core.Path.{_≡_};
 ghost use mathlib.Core.Bool.{false};
 ghost use Rattle.definition.specs.Tables.{mmio, pio, host, nature};
 ghost use Rattle.definition.specs.Request.{mmioWant, pioWant, inputWant, hostWant};
-ghost use Rattle.table_tests.specs.Tests.{limitsOf};
 ghost use Rattle.tables.specs.Views.{kindOf};
 ghost use Rattle.choose.specs.Told.{choiceOf};
 ghost use Rattle.choose.specs.Ids.{deviceChoice, eventChoice, lpiChoice};
@@ -58,20 +55,15 @@ pub struct InputAnswer {
 }
 
 // 1, then 2, then the choice, with its row at the end of the owner table.
-pub fn range_answer(
-    t: RangeTables,
-    l: Limits,
-    good: bool,
-    need: Need,
-    choice: Choice,
-) -> RangeAnswer
-    requires { ⌜ (l ≡ limitsOf (kindOf (need .kind))) × ((nature (kindOf (need .kind)) .wired ≡ false) × (Sensible good need)) ⌝ }
+pub fn range_answer(t: RangeTables, good: bool, need: Need, choice: Choice) -> RangeAnswer
+    requires { ⌜ (nature (kindOf (need .kind)) .wired ≡ false) × (Sensible good need) ⌝ }
     ensures { λ r. ⌜ RangeServed t good need choice r ⌝ }
 {
     let auto = t.auto;
     let fixed = t.fixed;
     let held = t.held;
-    if sound::ranges_set(l, auto, fixed, held, t.owners) {
+    let kind = need.kind;
+    if sound::ranges_set(kind, auto, fixed, held, t.owners) {
         if good {
             let got = rows::grant_range(t.owners, auto, fixed, need, choice);
             let owners = got.owners;
@@ -155,8 +147,7 @@ pub fn allocate_mmio(
         alignment,
         requester,
     };
-    let l = limits::mmio_limits();
-    range_answer(t, l, good, need, choice)
+    range_answer(t, good, need, choice)
 }
 
 // A range of ports.
@@ -189,8 +180,7 @@ pub fn allocate_pio(
         alignment,
         requester,
     };
-    let l = limits::pio_limits();
-    range_answer(t, l, good, need, choice)
+    range_answer(t, good, need, choice)
 }
 
 // A host IRQ.
@@ -212,8 +202,7 @@ pub fn allocate_host_irq(t: RangeTables, requester: u32, slot: u32, choice: Choi
         alignment: 1,
         requester,
     };
-    let l = limits::host_limits();
-    range_answer(t, l, good, need, choice)
+    range_answer(t, good, need, choice)
 }
 
 // An input of a controller.
@@ -264,9 +253,8 @@ pub struct MsiAnswer {
 pub fn msi_set(t: MsiTables) -> bool
     ensures { λ r. ⌜ r ≡ setMsi t ⌝ }
 {
-    let l = limits::device_limits();
     if !sound::ranges_set(
-        l,
+        Kind::Device,
         t.device.auto,
         t.device.fixed,
         t.device.held,
@@ -274,12 +262,16 @@ pub fn msi_set(t: MsiTables) -> bool
     ) {
         return false;
     }
-    let l = limits::event_limits();
-    if !sound::ranges_set(l, t.event.auto, t.event.fixed, t.event.held, t.event.owners) {
+    if !sound::ranges_set(
+        Kind::Event,
+        t.event.auto,
+        t.event.fixed,
+        t.event.held,
+        t.event.owners,
+    ) {
         return false;
     }
-    let l = limits::lpi_limits();
-    sound::ranges_set(l, t.lpi.auto, t.lpi.fixed, t.lpi.held, t.lpi.owners)
+    sound::ranges_set(Kind::Lpi, t.lpi.auto, t.lpi.fixed, t.lpi.held, t.lpi.owners)
 }
 
 // The tables with other owner rows.

@@ -1,3 +1,4 @@
 pub mod KindLaws
 pub mod StateLaws
 pub mod InputLaws
+pub mod LentWalk

@@ -1,13 +1,15 @@
 // The tests of the tables of one kind, on lent columns: nothing is copied. A table is passed as its columns and its count, in that order.
 use super::wired;
 use table_tests::limits::Limits;
-use table_tests::limits::input_limits;
+use table_tests::limits::limits_of;
 use table_tests::pool;
 use table_tests::range;
+use tables::Kind;
 use tables::POOL_ROWS;
 use tables::ROWS;
 ghost use mathlib.Core.Path.{_≡_};
-ghost use Rattle.tables.specs.Views.{pool, ranges, inputs};
+ghost use Rattle.tables.specs.Views.{kindOf, pool, ranges, inputs};
+ghost use Rattle.table_tests.specs.Tests.{limitsOf};
 ghost use Rattle.sound.specs.Tests.{poolsIn, givenRanges, setRanges, givenInputs, setInputs};
 
 // Whether the two pools of a kind are sound: the first test of each of the four below.
@@ -34,7 +36,7 @@ pub fn pools_sound<'a>(
 
 // Whether the pools and reservations of a kind of ranges are sound.
 pub fn ranges_given<'a>(
-    l: Limits,
+    kind: Kind,
     pc: &'a [u32; POOL_ROWS],
     pi: &'a [u32; POOL_ROWS],
     ps: &'a [u64; POOL_ROWS],
@@ -53,8 +55,9 @@ pub fn ranges_given<'a>(
     hw: &'a [u32; ROWS],
     hn: &'a usize,
 ) -> bool
-    ensures { λ r. ⌜ r ≡ givenRanges l (pool (now (pn .entry)) (now (pc .entry)) (now (pi .entry)) (now (ps .entry)) (now (pe .entry))) (pool (now (nf .entry)) (now (fc .entry)) (now (fi .entry)) (now (fs .entry)) (now (fe .entry))) (ranges (now (hn .entry)) (now (hc .entry)) (now (hi .entry)) (now (hd .entry)) (now (hs .entry)) (now (he .entry)) (now (hw .entry))) ⌝ }
+    ensures { λ r. ⌜ r ≡ givenRanges (limitsOf (kindOf kind)) (pool (now (pn .entry)) (now (pc .entry)) (now (pi .entry)) (now (ps .entry)) (now (pe .entry))) (pool (now (nf .entry)) (now (fc .entry)) (now (fi .entry)) (now (fs .entry)) (now (fe .entry))) (ranges (now (hn .entry)) (now (hc .entry)) (now (hi .entry)) (now (hd .entry)) (now (hs .entry)) (now (he .entry)) (now (hw .entry))) ⌝ }
 {
+    let l = limits_of(kind);
     if !pools_sound(l, pc, pi, ps, pe, pn, fc, fi, fs, fe, nf) {
         return false;
     }
@@ -63,7 +66,7 @@ pub fn ranges_given<'a>(
 
 // Whether all tables of a kind of ranges are sound.
 pub fn ranges_set<'a>(
-    l: Limits,
+    kind: Kind,
     pc: &'a [u32; POOL_ROWS],
     pi: &'a [u32; POOL_ROWS],
     ps: &'a [u64; POOL_ROWS],
@@ -89,8 +92,9 @@ pub fn ranges_set<'a>(
     ow: &'a [u32; ROWS],
     on: &'a usize,
 ) -> bool
-    ensures { λ r. ⌜ r ≡ setRanges l (pool (now (pn .entry)) (now (pc .entry)) (now (pi .entry)) (now (ps .entry)) (now (pe .entry))) (pool (now (nf .entry)) (now (fc .entry)) (now (fi .entry)) (now (fs .entry)) (now (fe .entry))) (ranges (now (hn .entry)) (now (hc .entry)) (now (hi .entry)) (now (hd .entry)) (now (hs .entry)) (now (he .entry)) (now (hw .entry))) (ranges (now (on .entry)) (now (oc .entry)) (now (oi .entry)) (now (od .entry)) (now (os .entry)) (now (oe .entry)) (now (ow .entry))) ⌝ }
+    ensures { λ r. ⌜ r ≡ setRanges (limitsOf (kindOf kind)) (pool (now (pn .entry)) (now (pc .entry)) (now (pi .entry)) (now (ps .entry)) (now (pe .entry))) (pool (now (nf .entry)) (now (fc .entry)) (now (fi .entry)) (now (fs .entry)) (now (fe .entry))) (ranges (now (hn .entry)) (now (hc .entry)) (now (hi .entry)) (now (hd .entry)) (now (hs .entry)) (now (he .entry)) (now (hw .entry))) (ranges (now (on .entry)) (now (oc .entry)) (now (oi .entry)) (now (od .entry)) (now (os .entry)) (now (oe .entry)) (now (ow .entry))) ⌝ }
 {
+    let l = limits_of(kind);
     if !pools_sound(l, pc, pi, ps, pe, pn, fc, fi, fs, fe, nf) {
         return false;
     }
@@ -118,7 +122,8 @@ pub fn inputs_given<'a>(
 ) -> bool
     ensures { λ r. ⌜ r ≡ givenInputs (pool (now (pn .entry)) (now (pc .entry)) (now (pi .entry)) (now (ps .entry)) (now (pe .entry))) (pool (now (nf .entry)) (now (fc .entry)) (now (fi .entry)) (now (fs .entry)) (now (fe .entry))) (inputs (now (hn .entry)) (now (hc .entry)) (now (hx .entry)) (now (ht .entry)) (now (hs .entry)) (now (hw .entry))) ⌝ }
 {
-    if !pools_sound(input_limits(), pc, pi, ps, pe, pn, fc, fi, fs, fe, nf) {
+    let l = limits_of(Kind::Input);
+    if !pools_sound(l, pc, pi, ps, pe, pn, fc, fi, fs, fe, nf) {
         return false;
     }
     wired::table_sound(true, *hn, hc, hx, ht, hs, hw)

@@ -1,13 +1,7 @@
 // The test of a lent state: what 01 calls sound, no more and no less, kind by kind. No table is copied.
 use crate::columns;
-use table_tests::limits::Limits;
-use table_tests::limits::device_limits;
-use table_tests::limits::event_limits;
-use table_tests::limits::host_limits;
-use table_tests::limits::lpi_limits;
-use table_tests::limits::mmio_limits;
-use table_tests::limits::pio_limits;
 use tables::Inputs;
+use tables::Kind;
 use tables::Pool;
 use tables::Ranges;
 use tables::State;
@@ -15,15 +9,16 @@ ghost use mathlib.Core.Path.{_≡_};
 ghost use mathlib.Core.Bool.{_&&_};
 ghost use Rattle.definition.specs.Tables.{kinds};
 ghost use Rattle.definition.specs.Calls.{given, sound};
-ghost use Rattle.tables.specs.Views.{stateView};
+ghost use Rattle.tables.specs.Views.{kindOf, stateView};
+ghost use Rattle.table_tests.specs.Tests.{limitsOf};
 ghost use Rattle.sound.specs.Tests.{givenRanges, setRanges, givenInputs, setInputs};
 
 // Whether the pools and reservations of a kind of ranges are sound: the tables are lent whole.
-pub fn ranges_given<'a>(l: Limits, auto: &'a Pool, fixed: &'a Pool, held: &'a Ranges) -> bool
-    ensures { λ r. ⌜ r ≡ givenRanges l (now (auto .entry)) (now (fixed .entry)) (now (held .entry)) ⌝ }
+pub fn ranges_given<'a>(kind: Kind, auto: &'a Pool, fixed: &'a Pool, held: &'a Ranges) -> bool
+    ensures { λ r. ⌜ r ≡ givenRanges (limitsOf (kindOf kind)) (now (auto .entry)) (now (fixed .entry)) (now (held .entry)) ⌝ }
 {
     columns::ranges_given(
-        l,
+        kind,
         &auto.controller,
         &auto.its,
         &auto.start,
@@ -46,16 +41,16 @@ pub fn ranges_given<'a>(l: Limits, auto: &'a Pool, fixed: &'a Pool, held: &'a Ra
 
 // Whether all tables of a kind of ranges are sound.
 pub fn ranges_set<'a>(
-    l: Limits,
+    kind: Kind,
     auto: &'a Pool,
     fixed: &'a Pool,
     held: &'a Ranges,
     owners: &'a Ranges,
 ) -> bool
-    ensures { λ r. ⌜ r ≡ setRanges l (now (auto .entry)) (now (fixed .entry)) (now (held .entry)) (now (owners .entry)) ⌝ }
+    ensures { λ r. ⌜ r ≡ setRanges (limitsOf (kindOf kind)) (now (auto .entry)) (now (fixed .entry)) (now (held .entry)) (now (owners .entry)) ⌝ }
 {
     columns::ranges_set(
-        l,
+        kind,
         &auto.controller,
         &auto.its,
         &auto.start,
@@ -174,18 +169,18 @@ pub fn all_passed(
 pub fn given(s: &State) -> bool
     ensures { λ r. ⌜ r ≡ given kinds (stateView (now (s .entry))) ⌝ }
 {
-    let mmio = ranges_given(mmio_limits(), &s.auto.mmio, &s.fixed.mmio, &s.held.mmio);
-    let pio = ranges_given(pio_limits(), &s.auto.pio, &s.fixed.pio, &s.held.pio);
+    let mmio = ranges_given(Kind::Mmio, &s.auto.mmio, &s.fixed.mmio, &s.held.mmio);
+    let pio = ranges_given(Kind::Pio, &s.auto.pio, &s.fixed.pio, &s.held.pio);
     let input = inputs_given(&s.auto.input, &s.fixed.input, &s.held.input);
-    let host = ranges_given(host_limits(), &s.auto.host, &s.fixed.host, &s.held.host);
+    let host = ranges_given(Kind::Host, &s.auto.host, &s.fixed.host, &s.held.host);
     let device = ranges_given(
-        device_limits(),
+        Kind::Device,
         &s.auto.device,
         &s.fixed.device,
         &s.held.device,
     );
-    let event = ranges_given(event_limits(), &s.auto.event, &s.fixed.event, &s.held.event);
-    let lpi = ranges_given(lpi_limits(), &s.auto.lpi, &s.fixed.lpi, &s.held.lpi);
+    let event = ranges_given(Kind::Event, &s.auto.event, &s.fixed.event, &s.held.event);
+    let lpi = ranges_given(Kind::Lpi, &s.auto.lpi, &s.fixed.lpi, &s.held.lpi);
     all_passed(mmio, pio, input, host, device, event, lpi)
 }
 
@@ -194,14 +189,14 @@ pub fn sound(s: &State) -> bool
     ensures { λ r. ⌜ r ≡ sound kinds (stateView (now (s .entry))) ⌝ }
 {
     let mmio = ranges_set(
-        mmio_limits(),
+        Kind::Mmio,
         &s.auto.mmio,
         &s.fixed.mmio,
         &s.held.mmio,
         &s.owners.mmio,
     );
     let pio = ranges_set(
-        pio_limits(),
+        Kind::Pio,
         &s.auto.pio,
         &s.fixed.pio,
         &s.held.pio,
@@ -214,28 +209,28 @@ pub fn sound(s: &State) -> bool
         &s.owners.input,
     );
     let host = ranges_set(
-        host_limits(),
+        Kind::Host,
         &s.auto.host,
         &s.fixed.host,
         &s.held.host,
         &s.owners.host,
     );
     let device = ranges_set(
-        device_limits(),
+        Kind::Device,
         &s.auto.device,
         &s.fixed.device,
         &s.held.device,
         &s.owners.device,
     );
     let event = ranges_set(
-        event_limits(),
+        Kind::Event,
         &s.auto.event,
         &s.fixed.event,
         &s.held.event,
         &s.owners.event,
     );
     let lpi = ranges_set(
-        lpi_limits(),
+        Kind::Lpi,
         &s.auto.lpi,
         &s.fixed.lpi,
         &s.held.lpi,

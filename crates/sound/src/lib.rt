@@ -1,19 +1,14 @@
 // The test of handed-in tables: what 01 calls sound, no more and no less.
-use table_tests::limits::Limits;
-use table_tests::limits::device_limits;
-use table_tests::limits::event_limits;
-use table_tests::limits::host_limits;
-use table_tests::limits::lpi_limits;
-use table_tests::limits::mmio_limits;
-use table_tests::limits::pio_limits;
 use tables::Inputs;
+use tables::Kind;
 use tables::Pool;
 use tables::Ranges;
 use tables::State;
 ghost use mathlib.Core.Path.{_≡_};
 ghost use Rattle.definition.specs.Tables.{kinds};
 ghost use Rattle.definition.specs.Calls.{sound};
-ghost use Rattle.tables.specs.Views.{stateView};
+ghost use Rattle.tables.specs.Views.{kindOf, stateView};
+ghost use Rattle.table_tests.specs.Tests.{limitsOf};
 ghost use Rattle.sound.specs.Tests.{setRanges, setInputs};
 
 pub mod columns;
@@ -21,11 +16,11 @@ pub mod lent;
 pub mod wired;
 
 // Whether all tables of a kind of ranges are sound. Here and below columns are lent: the columns module has the tests.
-pub fn ranges_set(l: Limits, auto: Pool, fixed: Pool, held: Ranges, owners: Ranges) -> bool
-    ensures { λ r. ⌜ r ≡ setRanges l auto fixed held owners ⌝ }
+pub fn ranges_set(kind: Kind, auto: Pool, fixed: Pool, held: Ranges, owners: Ranges) -> bool
+    ensures { λ r. ⌜ r ≡ setRanges (limitsOf (kindOf kind)) auto fixed held owners ⌝ }
 {
     columns::ranges_set(
-        l,
+        kind,
         &auto.controller,
         &auto.its,
         &auto.start,
@@ -88,7 +83,7 @@ pub fn sound(s: State) -> bool
     ensures { λ r. ⌜ r ≡ sound kinds (stateView s) ⌝ }
 {
     if !ranges_set(
-        mmio_limits(),
+        Kind::Mmio,
         s.auto.mmio,
         s.fixed.mmio,
         s.held.mmio,
@@ -96,20 +91,14 @@ pub fn sound(s: State) -> bool
     ) {
         return false;
     }
-    if !ranges_set(
-        pio_limits(),
-        s.auto.pio,
-        s.fixed.pio,
-        s.held.pio,
-        s.owners.pio,
-    ) {
+    if !ranges_set(Kind::Pio, s.auto.pio, s.fixed.pio, s.held.pio, s.owners.pio) {
         return false;
     }
     if !inputs_set(s.auto.input, s.fixed.input, s.held.input, s.owners.input) {
         return false;
     }
     if !ranges_set(
-        host_limits(),
+        Kind::Host,
         s.auto.host,
         s.fixed.host,
         s.held.host,
@@ -118,7 +107,7 @@ pub fn sound(s: State) -> bool
         return false;
     }
     if !ranges_set(
-        device_limits(),
+        Kind::Device,
         s.auto.device,
         s.fixed.device,
         s.held.device,
@@ -127,7 +116,7 @@ pub fn sound(s: State) -> bool
         return false;
     }
     if !ranges_set(
-        event_limits(),
+        Kind::Event,
         s.auto.event,
         s.fixed.event,
         s.held.event,
@@ -135,11 +124,5 @@ pub fn sound(s: State) -> bool
     ) {
         return false;
     }
-    ranges_set(
-        lpi_limits(),
-        s.auto.lpi,
-        s.fixed.lpi,
-        s.held.lpi,
-        s.owners.lpi,
-    )
+    ranges_set(Kind::Lpi, s.auto.lpi, s.fixed.lpi, s.held.lpi, s.owners.lpi)
 }

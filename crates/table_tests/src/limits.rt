@@ -1,8 +1,10 @@
 // What the rows of a kind keep to.
+use tables::Kind;
 use tables::ROWS;
 ghost use mathlib.Core.Path.{_≡_};
 ghost use Prim.Native.Nat.{min, max};
-ghost use Rattle.definition.specs.Tables.{rowLimit, mmio, pio, input, host, device, event, lpi};
+ghost use Rattle.definition.specs.Tables.{rowLimit};
+ghost use Rattle.tables.specs.Views.{kindOf};
 ghost use Rattle.table_tests.specs.Tests.{limitsOf};
 
 // The largest number of a kind's width, and of each number of its domain: 0 where the kind does not use it.
@@ -17,80 +19,53 @@ const TOP_64: u64 = 18446744073709551615;
 
 const TOP_32: u32 = 4294967295;
 
-pub fn mmio_limits() -> Limits
-    ensures { λ r. ⌜ r ≡ limitsOf mmio ⌝ }
+// The limits of a kind.
+pub fn limits_of(kind: Kind) -> Limits
+    ensures { λ r. ⌜ r ≡ limitsOf (kindOf kind) ⌝ }
 {
-    Limits {
-        top: TOP_64,
-        controller: 0,
-        its: 0,
-        device: 0,
-    }
-}
-
-pub fn pio_limits() -> Limits
-    ensures { λ r. ⌜ r ≡ limitsOf pio ⌝ }
-{
-    Limits {
-        top: 65535,
-        controller: 0,
-        its: 0,
-        device: 0,
-    }
-}
-
-pub fn input_limits() -> Limits
-    ensures { λ r. ⌜ r ≡ limitsOf input ⌝ }
-{
-    Limits {
-        top: TOP_64,
-        controller: TOP_32,
-        its: 0,
-        device: 0,
-    }
-}
-
-pub fn host_limits() -> Limits
-    ensures { λ r. ⌜ r ≡ limitsOf host ⌝ }
-{
-    Limits {
-        top: TOP_64,
-        controller: 0,
-        its: 0,
-        device: 0,
-    }
-}
-
-pub fn device_limits() -> Limits
-    ensures { λ r. ⌜ r ≡ limitsOf device ⌝ }
-{
-    Limits {
-        top: 4294967295,
-        controller: TOP_32,
-        its: TOP_32,
-        device: 0,
-    }
-}
-
-pub fn event_limits() -> Limits
-    ensures { λ r. ⌜ r ≡ limitsOf event ⌝ }
-{
-    Limits {
-        top: 4294967295,
-        controller: TOP_32,
-        its: TOP_32,
-        device: TOP_32,
-    }
-}
-
-pub fn lpi_limits() -> Limits
-    ensures { λ r. ⌜ r ≡ limitsOf lpi ⌝ }
-{
-    Limits {
-        top: 4294967295,
-        controller: TOP_32,
-        its: 0,
-        device: 0,
+    match kind {
+        Kind::Mmio => Limits {
+            top: TOP_64,
+            controller: 0,
+            its: 0,
+            device: 0,
+        },
+        Kind::Pio => Limits {
+            top: 65535,
+            controller: 0,
+            its: 0,
+            device: 0,
+        },
+        Kind::Input => Limits {
+            top: TOP_64,
+            controller: TOP_32,
+            its: 0,
+            device: 0,
+        },
+        Kind::Host => Limits {
+            top: TOP_64,
+            controller: 0,
+            its: 0,
+            device: 0,
+        },
+        Kind::Device => Limits {
+            top: 4294967295,
+            controller: TOP_32,
+            its: TOP_32,
+            device: 0,
+        },
+        Kind::Event => Limits {
+            top: 4294967295,
+            controller: TOP_32,
+            its: TOP_32,
+            device: TOP_32,
+        },
+        Kind::Lpi => Limits {
+            top: 4294967295,
+            controller: TOP_32,
+            its: 0,
+            device: 0,
+        },
     }
 }
 

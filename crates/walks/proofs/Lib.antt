@@ -1,5 +1,6 @@
 pub mod Columns
 pub mod Frame
+pub mod KindValue
 pub mod Passing
 pub mod Prelude
 pub mod StateParts

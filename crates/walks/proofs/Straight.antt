@@ -5,14 +5,16 @@
 --     Runs             the code, run from a store with i held, ends in Post:
 --         learn        no step: what is held tells a fact
 --         point        `_l = addrOf (*_p).st`: the address of a part
+--         fill         `_l = (xs)`: a value made of operands, as a variant that holds nothing is made of its number
 --         ask          `_l = f(xs)`, of a callee that `Gives`
 --         back         `return`
 --         leave        `if _k { .. return; }`, and then the rest
 --     make             `ask`, where it is told which value is returned
 --     straight         so does the machine
-use Rattle.walks.proofs.Prelude.{_≡_, refl, sym, ap, subst, _∙_, ℕ, zero, suc, _+_, _^_, Bool, not, Option, none, [], _∷_, List, _++_, URA, fullShare, T as Holds, ltb, Name, Width, Ty, tyUnit, Step as PStep, deref, field, variant, place, Opd as Operand, copy, int, addrOf, seq, assign, call, cond, skip, return, Local, local, valueLocal, Fn, Val, vint, vptr, vbool, WT, hasTy, bits, SProp, ent, sep, via, comm∗, monoR, fat, froom, fdies, fieldOf, Heap, Env, spotOf, Calls, Loops, WpFn, Atoms, FmC, fact, Given, Item, Goal, Post as Ends, atRet, post, atReturn, Seq, prop, runs, lands, allocs, params′, passes, frees, mean, ⋆, nth, put, pop, push, ++⊢, ⊢++, ‵, raw, _⊛_, some as any, later, _$_, _∵_, !, Go, qed, by, move, use1, split, join, pick, await, done, Reads, Writes, Opds, look, init, store, forget, stop, hop, fld, from, load, lit, no-more, and-then, addr, assigns, land, first as first-of, branches, skips, exec, returns-within, calls, enter, alloc1, alloc0, params1, pass1, pass0, free1, free0, heard}
+use Rattle.walks.proofs.Prelude.{_≡_, refl, sym, ap, subst, _∙_, ℕ, zero, suc, _+_, _^_, Bool, not, Option, none, [], _∷_, List, _++_, URA, fullShare, T as Holds, ltb, Name, Width, Ty, tyUnit, Step as PStep, deref, field, variant, place, Opd as Operand, copy, int, addrOf, aggregate, seq, assign, call, cond, skip, return, Local, local, valueLocal, Fn, Val, vint, vptr, vbool, WT, hasTy, bits, SProp, ent, sep, via, comm∗, monoR, fat, froom, fdies, fieldOf, Heap, Env, spotOf, Calls, Loops, WpFn, Atoms, FmC, fact, Given, Item, Goal, Post as Ends, atRet, post, atReturn, Seq, prop, runs, lands, allocs, params′, passes, frees, mean, ⋆, nth, put, pop, push, ++⊢, ⊢++, ‵, raw, _⊛_, some as any, later, _$_, _∵_, !, Go, qed, by, move, use1, split, join, pick, await, done, Reads, Writes, Opds, look, init, store, forget, stop, hop, fld, from, load, lit, no-more, and-then, addr, agg, assigns, land, first as first-of, branches, skips, exec, returns-within, calls, enter, alloc1, alloc0, params1, pass1, pass0, free1, free0, heard}
 use mathlib.Core.Option.{some}
 use mir.Syntax.{Body}
+use mir.Val.{vstruct, ofList}
 use prog.Wp.{returns as returnsᴼ}
 use types.Run.{Walks}
 
@@ -132,6 +134,8 @@ pub data Runs {M : Type 1} {𝓤 : URA M} {H : Heap 𝓤} {A : Atoms 𝓤} (W : 
   learn : {σ : Store} {b : Body} (φ : Type 0) → ent 𝓤 (mean 𝓤 H A i) (mean 𝓤 H A (later (i ⊛ raw (fact 𝓤 φ)))) → (φ → Runs W C i ls Post σ b) → Runs W C i ls Post σ b
   point : {σ : Store} {l p : ℕ} {π : Ty} {st : List PStep} {rest : Body} {b o a : ℕ} → val p σ ≡ some (vptr b o) → leads π o st ≡ some a → Has p ls → Has l ls → Holds (hasTy (tyAt l ls) (vptr b a)) × WT (vptr b a)
       → Runs W C i ls Post (set l (vptr b a) σ) rest → Runs W C i ls Post σ (seq (assign (place l []) (addrOf (place p (deref π ∷ st)))) rest)
+  fill : {σ : Store} {xs : List Operand} {l : ℕ} {rest : Body} {vs : List Val} → Evals σ ls xs vs → Has l ls → Holds (hasTy (tyAt l ls) (vstruct (ofList vs))) × WT (vstruct (ofList vs))
+      → Runs W C i ls Post (set l (vstruct (ofList vs)) σ) rest → Runs W C i ls Post σ (seq (assign (place l []) (aggregate xs)) rest)
   leave : {σ : Store} {k : ℕ} {a rest : Body} (y : Bool) → val k σ ≡ some (vbool y) → Has k ls → (Holds y → Runs W C i ls Post σ a) → (Holds (not y) → Runs W C i ls Post σ rest) → Runs W C i ls Post σ (seq (cond (copy (place k [])) a skip) rest)
   ask : {σ : Store} {g : Name} {xs : List Operand} {l : ℕ} {rest : Body} (Y : Value) (P : Y .D → Type 0) {vs : List Val} → Evals σ ls xs vs → Gives 𝓤 H A W C i g vs Y P → Has l ls → Y .ty ≡ tyAt l ls
       → ((d : Y .D) → Y .ok d → P d → Runs W C i ls Post (set l (Y .val d) σ) rest) → Runs W C i ls Post σ (seq (call g xs (place l [])) rest)
@@ -252,6 +256,8 @@ module _ {M : Type 1} {𝓤 : URA M} {H : Heap 𝓤} {A : Atoms 𝓤} (W : Given
     goes q r σ _ (point {l} {p} {π} {st} {rest} {b} {o} {a} e lies hp hl wt k) =
         let w : Way W (i ∷ cells 𝓤 (env ls f) σ) (env ls f) π b o a st = way W (i ∷ cells 𝓤 (env ls f) σ) (env ls f) st π b o a lies in
         assigns ! (addr ! (from ! (hop ! (reads W ls f i σ p (vptr b o) e hp) (w .walk)))) (from ! (stop !)) (writes W ls f i σ l (vptr b a) hl wt) $ goes q r (set l (vptr b a) σ) rest k
+    goes q r σ _ (fill {xs} {l} {rest} {vs} os hl wt k) =
+        assigns ! (agg ! (operands W ls f i σ xs vs os)) (from ! (stop !)) (writes W ls f i σ l (vstruct (ofList vs)) hl wt) $ goes q r (set l (vstruct (ofList vs)) σ) rest k
     goes q r σ _ (ask {g} {xs} {l} {rest} Y P {vs} os gives hl ty k) =
         use1 W (later (raw (C g vs (λ v. mean 𝓤 H A (Back 𝓤 H A W C i Y P v))))) gives $ await ! tt $ calls ! fm (λ v. Back 𝓤 H A W C i Y P v) (operands W ls f (raw (C g vs (λ v. mean 𝓤 H A (Back 𝓤 H A W C i Y P v)))) σ xs vs os) (λ v.
         await ! tt $ pick ! (λ d. split ! $ move ! (1 ∷ []) $ heard ! ((v ≡ Y .val d) × (Y .ok d × P d)) (λ e.

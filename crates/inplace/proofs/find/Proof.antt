@@ -1,5 +1,5 @@
 -- `inplace::find` meets its contract: straight code over the covered functions of `decide` and the two that look into tables. Assumes nothing.
-use Rattle.walks.proofs.Prelude.{_≡_, refl, [], _∷_, List, none, ℕ, _+_, URA, named, SProp, emp, id⊢, Lft, Share, Memory, Routine, Heap, Calls, WpFn, Tables, Atoms, fmOf, Fun, factI, AllOutlive, givenOf, tables, tablesOf, Given, Item, ‵, owns, flat, Is, ptr-vals, shr-tells, typesAt, Args, Vals, Meets, tripleOf, Triple, entered, cited, T as Holds, GName, Makes, Parts}
+use Rattle.walks.proofs.Prelude.{_≡_, refl, [], _∷_, List, none, ℕ, _+_, URA, named, SProp, emp, id⊢, Lft, Share, Memory, Routine, Heap, Calls, WpFn, Tables, Atoms, fmOf, Fun, factI, AllOutlive, givenOf, tables, tablesOf, Given, Item, ‵, owns, flat, Is, ptr-vals, shr-tells, typesAt, Args, Vals, Meets, tripleOf, Triple, entered, cited, T as Holds, GName, Makes, Parts, w8, vint}
 use mathlib.Core.Option.{some}
 use mir.Syntax.{Body, return}
 use denote.Struct.Laws as LL
@@ -7,6 +7,10 @@ use denote.Enum.Laws as EE
 use Rattle.definition.specs.Tables.{kinds}
 use Rattle.definition.specs.Calls.{sound as sound-state}
 use Rattle.tables.specs.Views.{stateView}
+use Rattle.tables.specs.declared.Kind.{Kind}
+use Rattle.tables.specs.declared.Kind.the-variants as Kd
+use Rattle.tables.proofs.Kind as Kn
+use Rattle.tables.proofs.Kind.Laws as Kn′
 use Rattle.tables.specs.declared.Pool.{Pool}
 use Rattle.tables.specs.declared.Pools.{Pools}
 use Rattle.tables.specs.declared.Ranges.{Ranges}
@@ -21,7 +25,7 @@ use Rattle.tables.proofs.State as T
 use Rattle.request.proofs.Request as R
 use Rattle.request.proofs.Request.Laws as R′
 use Rattle.lent_table.specs.Look.{Asks, Sees, InputAsks, SeesInput}
-use Rattle.decide.specs.Query.{queryOf, asked}
+use Rattle.decide.specs.Query.{queryOf, askOf, asked}
 use Rattle.decide.specs.Granted.{verdictOf}
 use Rattle.lent_table.specs.declared.look.Ask.{Ask}
 use Rattle.lent_table.specs.declared.look.InputAsk.{InputAsk}
@@ -40,14 +44,10 @@ use Rattle.decide.proofs.Query.Laws as Q′
 use Rattle.decide.proofs.Granted as F
 use Rattle.decide.proofs.Granted.Laws as F′
 use Rattle.decide.proofs.queried as queried
-use Rattle.decide.proofs.ask.for_mmio as for-mmio
-use Rattle.decide.proofs.ask.for_pio as for-pio
+use Rattle.decide.proofs.ask.for_range as for-range
 use Rattle.decide.proofs.ask.for_input as for-input
-use Rattle.decide.proofs.ask.for_host as for-host
-use Rattle.decide.proofs.ask.mmio as ask-mmio
-use Rattle.decide.proofs.ask.pio as ask-pio
+use Rattle.decide.proofs.ask.range as ask-range
 use Rattle.decide.proofs.ask.input as ask-input
-use Rattle.decide.proofs.ask.host as ask-host
 use Rattle.decide.proofs.ask.device as ask-device
 use Rattle.decide.proofs.ask.event as ask-event
 use Rattle.decide.proofs.ask.lpi as ask-lpi
@@ -56,7 +56,8 @@ use Rattle.decide.proofs.verdict as verdict
 use Rattle.decide.specs.Tables.{AllAsk, SeeingOwn}
 use Rattle.decide.proofs.AskLaws.{asks}
 use Rattle.decide.proofs.VerdictLaws.{own-finds, mmio-seen, pio-seen, input-seen, host-seen, three-seen}
-use Rattle.walks.proofs.Straight.{first, others, given, Store, val, Gives, Runs, back, point, leave, ask as get, make, nil, arg}
+use Rattle.walks.proofs.Straight.{first, others, given, Store, val, Gives, Runs, back, point, fill, leave, ask as get, make, nil, arg, num}
+use Rattle.walks.proofs.KindValue.{kindVal, kind-is, kind-typed}
 use Rattle.walks.proofs.Passing.{Plain, declaredAs, booleanAs, valueAs, Arg, plainly, slots, valsOf, covered, passing, refTo, among}
 use Rattle.walks.proofs.Columns.{Into}
 use Rattle.walks.proofs.StateParts.{Table, mmio, pio, input, host, device, event, lpi, auto-at, fixed-at, owners-at, pool-at, holder-at, mmio-pool, pio-pool, input-pool, host-pool, device-pool, event-pool, lpi-pool, mmio-holder, pio-holder, input-holder, host-holder, device-holder, event-holder, lpi-holder, auto-table, fixed-table, owners-table}
@@ -69,14 +70,10 @@ Sound h = Holds (sound-state kinds (stateView h))
 -- what is known of the callees
 record Known {M : Type 1} (𝓤 : URA M) (H : Heap 𝓤) (A : Atoms 𝓤) (at-mem : Memory → SProp 𝓤) (run : Routine → Fun 𝓤) (C : Calls 𝓤 H) : Type 1 where
   k-queried : Triple 𝓤 (C queried.Symbol.name) (tripleOf 𝓤 H A queried.signature (queried.spec 𝓤 H A at-mem run))
-  k-for-mmio : Triple 𝓤 (C for-mmio.Symbol.name) (tripleOf 𝓤 H A for-mmio.signature (for-mmio.spec 𝓤 H A at-mem run))
-  k-for-pio : Triple 𝓤 (C for-pio.Symbol.name) (tripleOf 𝓤 H A for-pio.signature (for-pio.spec 𝓤 H A at-mem run))
+  k-for-range : Triple 𝓤 (C for-range.Symbol.name) (tripleOf 𝓤 H A for-range.signature (for-range.spec 𝓤 H A at-mem run))
   k-for-input : Triple 𝓤 (C for-input.Symbol.name) (tripleOf 𝓤 H A for-input.signature (for-input.spec 𝓤 H A at-mem run))
-  k-for-host : Triple 𝓤 (C for-host.Symbol.name) (tripleOf 𝓤 H A for-host.signature (for-host.spec 𝓤 H A at-mem run))
-  k-ask-mmio : Triple 𝓤 (C ask-mmio.Symbol.name) (tripleOf 𝓤 H A ask-mmio.signature (ask-mmio.spec 𝓤 H A at-mem run))
-  k-ask-pio : Triple 𝓤 (C ask-pio.Symbol.name) (tripleOf 𝓤 H A ask-pio.signature (ask-pio.spec 𝓤 H A at-mem run))
+  k-ask-range : Triple 𝓤 (C ask-range.Symbol.name) (tripleOf 𝓤 H A ask-range.signature (ask-range.spec 𝓤 H A at-mem run))
   k-ask-input : Triple 𝓤 (C ask-input.Symbol.name) (tripleOf 𝓤 H A ask-input.signature (ask-input.spec 𝓤 H A at-mem run))
-  k-ask-host : Triple 𝓤 (C ask-host.Symbol.name) (tripleOf 𝓤 H A ask-host.signature (ask-host.spec 𝓤 H A at-mem run))
   k-ask-device : Triple 𝓤 (C ask-device.Symbol.name) (tripleOf 𝓤 H A ask-device.signature (ask-device.spec 𝓤 H A at-mem run))
   k-ask-event : Triple 𝓤 (C ask-event.Symbol.name) (tripleOf 𝓤 H A ask-event.signature (ask-event.spec 𝓤 H A at-mem run))
   k-ask-lpi : Triple 𝓤 (C ask-lpi.Symbol.name) (tripleOf 𝓤 H A ask-lpi.signature (ask-lpi.spec 𝓤 H A at-mem run))
@@ -106,6 +103,9 @@ module _ {M : Type 1} (𝓤 : URA M) (H : Heap 𝓤) (A : Atoms 𝓤) (W : Given
 
   make-query : Makes 𝓤 H A Q.the-row (Is Q.the-row)
   make-query = EE.makes Q.the-type Q′.the-plain 𝓤 H A
+
+  make-kind : Makes 𝓤 H A Kn.the-row (Is Kn.the-row)
+  make-kind = EE.makes Kn.the-type Kn′.the-plain 𝓤 H A
 
   make-seen : Makes 𝓤 H A S.the-row (Is S.the-row)
   make-seen = LL.makes S.the-type S′.the-plain 𝓤 H A
@@ -149,44 +149,24 @@ module _ {M : Type 1} (𝓤 : URA M) (H : Heap 𝓤) (A : Atoms 𝓤) (W : Given
         (LL.makes R.the-type R′.the-plain 𝓤 H A, tt) (r-is, tt) (id⊢ 𝓤 (emp 𝓤)) (λ d e. id⊢ 𝓤 _)
 
     module _ (y-is : Is Q.the-row y (Qu .val y ∷ [])) where
-      for-mmio-made : Gives 𝓤 H A W (𝓣 .C) hold for-mmio.Symbol.name (Qu .val y ∷ []) (valueAs Bo) (λ d. d ≡ asked y .mmio .go)
-      for-mmio-made =
-          covered 𝓤 H A W (𝓣 .C) (fmOf 𝓤 H (W .laws) 𝓣) hold for-mmio.Symbol.name Bo (λ d. d ≡ asked y .mmio .go) (for-mmio.signature .params) (for-mmio.ended .kept) (for-mmio.clauses 𝓤 H A at-mem run) (known .k-for-mmio) (y, tt) (Qu .val y ∷ [], tt) tt
-          (make-query, tt) (y-is, tt) (id⊢ 𝓤 (emp 𝓤)) (λ d e. id⊢ 𝓤 _)
-
-      for-pio-made : Gives 𝓤 H A W (𝓣 .C) hold for-pio.Symbol.name (Qu .val y ∷ []) (valueAs Bo) (λ d. d ≡ asked y .pio .go)
-      for-pio-made =
-          covered 𝓤 H A W (𝓣 .C) (fmOf 𝓤 H (W .laws) 𝓣) hold for-pio.Symbol.name Bo (λ d. d ≡ asked y .pio .go) (for-pio.signature .params) (for-pio.ended .kept) (for-pio.clauses 𝓤 H A at-mem run) (known .k-for-pio) (y, tt) (Qu .val y ∷ [], tt) tt
-          (make-query, tt) (y-is, tt) (id⊢ 𝓤 (emp 𝓤)) (λ d e. id⊢ 𝓤 _)
+      for-range-made : (k : Kind) → Gives 𝓤 H A W (𝓣 .C) hold for-range.Symbol.name (Qu .val y ∷ kindVal k ∷ []) (valueAs Bo) (λ d. d ≡ askOf y k .go)
+      for-range-made k =
+          covered 𝓤 H A W (𝓣 .C) (fmOf 𝓤 H (W .laws) 𝓣) hold for-range.Symbol.name Bo (λ d. d ≡ askOf y k .go) (for-range.signature .params) (for-range.ended .kept) (for-range.clauses 𝓤 H A at-mem run) (known .k-for-range) (y, (k, tt)) (Qu .val y ∷ [], (kindVal k ∷ [], tt)) tt
+          (make-query, (make-kind, tt)) (y-is, (kind-is k, tt)) (id⊢ 𝓤 (emp 𝓤)) (λ d e. id⊢ 𝓤 _)
 
       for-input-made : Gives 𝓤 H A W (𝓣 .C) hold for-input.Symbol.name (Qu .val y ∷ []) (valueAs Bo) (λ d. d ≡ asked y .input .go)
       for-input-made =
           covered 𝓤 H A W (𝓣 .C) (fmOf 𝓤 H (W .laws) 𝓣) hold for-input.Symbol.name Bo (λ d. d ≡ asked y .input .go) (for-input.signature .params) (for-input.ended .kept) (for-input.clauses 𝓤 H A at-mem run) (known .k-for-input) (y, tt) (Qu .val y ∷ [], tt) tt
           (make-query, tt) (y-is, tt) (id⊢ 𝓤 (emp 𝓤)) (λ d e. id⊢ 𝓤 _)
 
-      for-host-made : Gives 𝓤 H A W (𝓣 .C) hold for-host.Symbol.name (Qu .val y ∷ []) (valueAs Bo) (λ d. d ≡ asked y .host .go)
-      for-host-made =
-          covered 𝓤 H A W (𝓣 .C) (fmOf 𝓤 H (W .laws) 𝓣) hold for-host.Symbol.name Bo (λ d. d ≡ asked y .host .go) (for-host.signature .params) (for-host.ended .kept) (for-host.clauses 𝓤 H A at-mem run) (known .k-for-host) (y, tt) (Qu .val y ∷ [], tt) tt
-          (make-query, tt) (y-is, tt) (id⊢ 𝓤 (emp 𝓤)) (λ d e. id⊢ 𝓤 _)
-
-      mmio-made : Gives 𝓤 H A W (𝓣 .C) hold ask-mmio.Symbol.name (Qu .val y ∷ []) (valueAs As) (λ d. d ≡ asked y .mmio)
-      mmio-made =
-          covered 𝓤 H A W (𝓣 .C) (fmOf 𝓤 H (W .laws) 𝓣) hold ask-mmio.Symbol.name As (λ d. d ≡ asked y .mmio) (ask-mmio.signature .params) (ask-mmio.ended .kept) (ask-mmio.clauses 𝓤 H A at-mem run) (known .k-ask-mmio) (y, tt) (Qu .val y ∷ [], tt) tt
-          (make-query, tt) (y-is, tt) (id⊢ 𝓤 (emp 𝓤)) (λ d e. id⊢ 𝓤 _)
-
-      pio-made : Gives 𝓤 H A W (𝓣 .C) hold ask-pio.Symbol.name (Qu .val y ∷ []) (valueAs As) (λ d. d ≡ asked y .pio)
-      pio-made =
-          covered 𝓤 H A W (𝓣 .C) (fmOf 𝓤 H (W .laws) 𝓣) hold ask-pio.Symbol.name As (λ d. d ≡ asked y .pio) (ask-pio.signature .params) (ask-pio.ended .kept) (ask-pio.clauses 𝓤 H A at-mem run) (known .k-ask-pio) (y, tt) (Qu .val y ∷ [], tt) tt
-          (make-query, tt) (y-is, tt) (id⊢ 𝓤 (emp 𝓤)) (λ d e. id⊢ 𝓤 _)
+      range-made : (k : Kind) → Gives 𝓤 H A W (𝓣 .C) hold ask-range.Symbol.name (Qu .val y ∷ kindVal k ∷ []) (valueAs As) (λ d. d ≡ askOf y k)
+      range-made k =
+          covered 𝓤 H A W (𝓣 .C) (fmOf 𝓤 H (W .laws) 𝓣) hold ask-range.Symbol.name As (λ d. d ≡ askOf y k) (ask-range.signature .params) (ask-range.ended .kept) (ask-range.clauses 𝓤 H A at-mem run) (known .k-ask-range) (y, (k, tt)) (Qu .val y ∷ [], (kindVal k ∷ [], tt)) tt
+          (make-query, (make-kind, tt)) (y-is, (kind-is k, tt)) (id⊢ 𝓤 (emp 𝓤)) (λ d e. id⊢ 𝓤 _)
 
       input-made : Gives 𝓤 H A W (𝓣 .C) hold ask-input.Symbol.name (Qu .val y ∷ []) (valueAs Xs) (λ d. d ≡ asked y .input)
       input-made =
           covered 𝓤 H A W (𝓣 .C) (fmOf 𝓤 H (W .laws) 𝓣) hold ask-input.Symbol.name Xs (λ d. d ≡ asked y .input) (ask-input.signature .params) (ask-input.ended .kept) (ask-input.clauses 𝓤 H A at-mem run) (known .k-ask-input) (y, tt) (Qu .val y ∷ [], tt) tt
-          (make-query, tt) (y-is, tt) (id⊢ 𝓤 (emp 𝓤)) (λ d e. id⊢ 𝓤 _)
-
-      host-made : Gives 𝓤 H A W (𝓣 .C) hold ask-host.Symbol.name (Qu .val y ∷ []) (valueAs As) (λ d. d ≡ asked y .host)
-      host-made =
-          covered 𝓤 H A W (𝓣 .C) (fmOf 𝓤 H (W .laws) 𝓣) hold ask-host.Symbol.name As (λ d. d ≡ asked y .host) (ask-host.signature .params) (ask-host.ended .kept) (ask-host.clauses 𝓤 H A at-mem run) (known .k-ask-host) (y, tt) (Qu .val y ∷ [], tt) tt
           (make-query, tt) (y-is, tt) (id⊢ 𝓤 (emp 𝓤)) (λ d e. id⊢ 𝓤 _)
 
       device-made : Gives 𝓤 H A W (𝓣 .C) hold ask-device.Symbol.name (Qu .val y ∷ []) (valueAs As) (λ d. d ≡ asked y .device)
@@ -246,22 +226,22 @@ module _ {M : Type 1} (𝓤 : URA M) (H : Heap 𝓤) (A : Atoms 𝓤) (W : Given
     walk : Ends (f.Code.function .body) (none ∷ given W (flat (typesAt (f.signature .params) (κ, tt)) vss))
     walk =
         make (valueAs Qu) y (arg refl tt nil) query-made tt refl (λ y-is.
-        make (valueAs Bo) (asked y .mmio .go) (arg refl tt nil) (for-mmio-made y-is) tt refl (λ b-is. leave (asked y .mmio .go) refl tt (λ yes.
-        point {b = b} {o = o} {a = (o + auto-at) + pool-at mmio} refl refl tt tt (tt, tt) (point {b = b} {o = o} {a = (o + fixed-at) + pool-at mmio} refl refl tt tt (tt, tt) (point {b = b} {o = o} {a = (o + owners-at) + holder-at mmio} refl refl tt tt (tt, tt) (make (valueAs As) (asked y .mmio) (arg refl tt nil) (mmio-made y-is) tt refl (λ x-is.
-        get (valueAs Se) (Sees (h .auto .mmio) (h .fixed .mmio) (h .owners .mmio) (asked y .mmio)) (arg refl tt (arg refl tt (arg refl tt (arg refl tt nil)))) (range-seen mmio (λ p. p .mmio) (λ p. p .mmio) (mmio-pool 𝓤 H A W) (mmio-holder 𝓤 H A W) (asked y .mmio) x-is (may .mmio)) tt refl (λ z z-is z-seen.
-        make (valueAs Fo) (verdictOf y z z z z z z z) (arg refl tt (arg refl tt nil)) (one-made y-is z z-is) tt refl (λ v-is. returned z z z z z z z v-is (mmio-seen h z y yes z-seen) refl))))))) (λ no-mmio.
-        make (valueAs Bo) (asked y .pio .go) (arg refl tt nil) (for-pio-made y-is) tt refl (λ b-is. leave (asked y .pio .go) refl tt (λ yes.
-        point {b = b} {o = o} {a = (o + auto-at) + pool-at pio} refl refl tt tt (tt, tt) (point {b = b} {o = o} {a = (o + fixed-at) + pool-at pio} refl refl tt tt (tt, tt) (point {b = b} {o = o} {a = (o + owners-at) + holder-at pio} refl refl tt tt (tt, tt) (make (valueAs As) (asked y .pio) (arg refl tt nil) (pio-made y-is) tt refl (λ x-is.
-        get (valueAs Se) (Sees (h .auto .pio) (h .fixed .pio) (h .owners .pio) (asked y .pio)) (arg refl tt (arg refl tt (arg refl tt (arg refl tt nil)))) (range-seen pio (λ p. p .pio) (λ p. p .pio) (pio-pool 𝓤 H A W) (pio-holder 𝓤 H A W) (asked y .pio) x-is (may .pio)) tt refl (λ z z-is z-seen.
-        make (valueAs Fo) (verdictOf y z z z z z z z) (arg refl tt (arg refl tt nil)) (one-made y-is z z-is) tt refl (λ v-is. returned z z z z z z z v-is (pio-seen h z y yes z-seen) refl))))))) (λ no-pio.
+        fill {vs = vint w8 0 ∷ []} (num tt nil) tt (kind-typed 𝓤 H A W Kd.Mmio) (make (valueAs Bo) (askOf y Kd.Mmio .go) (arg refl tt (arg refl tt nil)) (for-range-made y-is Kd.Mmio) tt refl (λ b-is. leave (askOf y Kd.Mmio .go) refl tt (λ yes.
+        point {b = b} {o = o} {a = (o + auto-at) + pool-at mmio} refl refl tt tt (tt, tt) (point {b = b} {o = o} {a = (o + fixed-at) + pool-at mmio} refl refl tt tt (tt, tt) (point {b = b} {o = o} {a = (o + owners-at) + holder-at mmio} refl refl tt tt (tt, tt) (fill {vs = vint w8 0 ∷ []} (num tt nil) tt (kind-typed 𝓤 H A W Kd.Mmio) (make (valueAs As) (askOf y Kd.Mmio) (arg refl tt (arg refl tt nil)) (range-made y-is Kd.Mmio) tt refl (λ x-is.
+        get (valueAs Se) (Sees (h .auto .mmio) (h .fixed .mmio) (h .owners .mmio) (askOf y Kd.Mmio)) (arg refl tt (arg refl tt (arg refl tt (arg refl tt nil)))) (range-seen mmio (λ p. p .mmio) (λ p. p .mmio) (mmio-pool 𝓤 H A W) (mmio-holder 𝓤 H A W) (askOf y Kd.Mmio) x-is (may .mmio)) tt refl (λ z z-is z-seen.
+        make (valueAs Fo) (verdictOf y z z z z z z z) (arg refl tt (arg refl tt nil)) (one-made y-is z z-is) tt refl (λ v-is. returned z z z z z z z v-is (mmio-seen h z y yes z-seen) refl)))))))) (λ no-mmio.
+        fill {vs = vint w8 1 ∷ []} (num tt nil) tt (kind-typed 𝓤 H A W Kd.Pio) (make (valueAs Bo) (askOf y Kd.Pio .go) (arg refl tt (arg refl tt nil)) (for-range-made y-is Kd.Pio) tt refl (λ b-is. leave (askOf y Kd.Pio .go) refl tt (λ yes.
+        point {b = b} {o = o} {a = (o + auto-at) + pool-at pio} refl refl tt tt (tt, tt) (point {b = b} {o = o} {a = (o + fixed-at) + pool-at pio} refl refl tt tt (tt, tt) (point {b = b} {o = o} {a = (o + owners-at) + holder-at pio} refl refl tt tt (tt, tt) (fill {vs = vint w8 1 ∷ []} (num tt nil) tt (kind-typed 𝓤 H A W Kd.Pio) (make (valueAs As) (askOf y Kd.Pio) (arg refl tt (arg refl tt nil)) (range-made y-is Kd.Pio) tt refl (λ x-is.
+        get (valueAs Se) (Sees (h .auto .pio) (h .fixed .pio) (h .owners .pio) (askOf y Kd.Pio)) (arg refl tt (arg refl tt (arg refl tt (arg refl tt nil)))) (range-seen pio (λ p. p .pio) (λ p. p .pio) (pio-pool 𝓤 H A W) (pio-holder 𝓤 H A W) (askOf y Kd.Pio) x-is (may .pio)) tt refl (λ z z-is z-seen.
+        make (valueAs Fo) (verdictOf y z z z z z z z) (arg refl tt (arg refl tt nil)) (one-made y-is z z-is) tt refl (λ v-is. returned z z z z z z z v-is (pio-seen h z y yes z-seen) refl)))))))) (λ no-pio.
         make (valueAs Bo) (asked y .input .go) (arg refl tt nil) (for-input-made y-is) tt refl (λ b-is. leave (asked y .input .go) refl tt (λ yes.
         point {b = b} {o = o} {a = (o + auto-at) + pool-at input} refl refl tt tt (tt, tt) (point {b = b} {o = o} {a = (o + fixed-at) + pool-at input} refl refl tt tt (tt, tt) (point {b = b} {o = o} {a = (o + owners-at) + holder-at input} refl refl tt tt (tt, tt) (make (valueAs Xs) (asked y .input) (arg refl tt nil) (input-made y-is) tt refl (λ x-is.
         get (valueAs Se) (SeesInput (h .auto .input) (h .fixed .input) (h .owners .input) (asked y .input)) (arg refl tt (arg refl tt (arg refl tt (arg refl tt nil)))) (inputs-seen (asked y .input) x-is (may .input)) tt refl (λ z z-is z-seen.
         make (valueAs Fo) (verdictOf y z z z z z z z) (arg refl tt (arg refl tt nil)) (one-made y-is z z-is) tt refl (λ v-is. returned z z z z z z z v-is (input-seen h z y yes z-seen) refl))))))) (λ no-input.
-        make (valueAs Bo) (asked y .host .go) (arg refl tt nil) (for-host-made y-is) tt refl (λ b-is. leave (asked y .host .go) refl tt (λ yes.
-        point {b = b} {o = o} {a = (o + auto-at) + pool-at host} refl refl tt tt (tt, tt) (point {b = b} {o = o} {a = (o + fixed-at) + pool-at host} refl refl tt tt (tt, tt) (point {b = b} {o = o} {a = (o + owners-at) + holder-at host} refl refl tt tt (tt, tt) (make (valueAs As) (asked y .host) (arg refl tt nil) (host-made y-is) tt refl (λ x-is.
-        get (valueAs Se) (Sees (h .auto .host) (h .fixed .host) (h .owners .host) (asked y .host)) (arg refl tt (arg refl tt (arg refl tt (arg refl tt nil)))) (range-seen host (λ p. p .host) (λ p. p .host) (host-pool 𝓤 H A W) (host-holder 𝓤 H A W) (asked y .host) x-is (may .host)) tt refl (λ z z-is z-seen.
-        make (valueAs Fo) (verdictOf y z z z z z z z) (arg refl tt (arg refl tt nil)) (one-made y-is z z-is) tt refl (λ v-is. returned z z z z z z z v-is (host-seen h z y yes z-seen) refl))))))) (λ no-host.
+        fill {vs = vint w8 3 ∷ []} (num tt nil) tt (kind-typed 𝓤 H A W Kd.Host) (make (valueAs Bo) (askOf y Kd.Host .go) (arg refl tt (arg refl tt nil)) (for-range-made y-is Kd.Host) tt refl (λ b-is. leave (askOf y Kd.Host .go) refl tt (λ yes.
+        point {b = b} {o = o} {a = (o + auto-at) + pool-at host} refl refl tt tt (tt, tt) (point {b = b} {o = o} {a = (o + fixed-at) + pool-at host} refl refl tt tt (tt, tt) (point {b = b} {o = o} {a = (o + owners-at) + holder-at host} refl refl tt tt (tt, tt) (fill {vs = vint w8 3 ∷ []} (num tt nil) tt (kind-typed 𝓤 H A W Kd.Host) (make (valueAs As) (askOf y Kd.Host) (arg refl tt (arg refl tt nil)) (range-made y-is Kd.Host) tt refl (λ x-is.
+        get (valueAs Se) (Sees (h .auto .host) (h .fixed .host) (h .owners .host) (askOf y Kd.Host)) (arg refl tt (arg refl tt (arg refl tt (arg refl tt nil)))) (range-seen host (λ p. p .host) (λ p. p .host) (host-pool 𝓤 H A W) (host-holder 𝓤 H A W) (askOf y Kd.Host) x-is (may .host)) tt refl (λ z z-is z-seen.
+        make (valueAs Fo) (verdictOf y z z z z z z z) (arg refl tt (arg refl tt nil)) (one-made y-is z z-is) tt refl (λ v-is. returned z z z z z z z v-is (host-seen h z y yes z-seen) refl)))))))) (λ no-host.
         point {b = b} {o = o} {a = (o + auto-at) + pool-at device} refl refl tt tt (tt, tt) (point {b = b} {o = o} {a = (o + fixed-at) + pool-at device} refl refl tt tt (tt, tt) (point {b = b} {o = o} {a = (o + owners-at) + holder-at device} refl refl tt tt (tt, tt) (make (valueAs As) (asked y .device) (arg refl tt nil) (device-made y-is) tt refl (λ x-is.
         get (valueAs Se) (Sees (h .auto .device) (h .fixed .device) (h .owners .device) (asked y .device)) (arg refl tt (arg refl tt (arg refl tt (arg refl tt nil)))) (range-seen device (λ p. p .device) (λ p. p .device) (device-pool 𝓤 H A W) (device-holder 𝓤 H A W) (asked y .device) x-is (may .device)) tt refl (λ d d-is d-seen.
         point {b = b} {o = o} {a = (o + auto-at) + pool-at event} refl refl tt tt (tt, tt) (point {b = b} {o = o} {a = (o + fixed-at) + pool-at event} refl refl tt tt (tt, tt) (point {b = b} {o = o} {a = (o + owners-at) + holder-at event} refl refl tt tt (tt, tt) (make (valueAs As) (asked y .event d) (arg refl tt (arg refl tt nil)) (event-made y-is d d-is) tt refl (λ x-is.
@@ -269,7 +249,7 @@ module _ {M : Type 1} (𝓤 : URA M) (H : Heap 𝓤) (A : Atoms 𝓤) (W : Given
         point {b = b} {o = o} {a = (o + auto-at) + pool-at lpi} refl refl tt tt (tt, tt) (point {b = b} {o = o} {a = (o + fixed-at) + pool-at lpi} refl refl tt tt (tt, tt) (point {b = b} {o = o} {a = (o + owners-at) + holder-at lpi} refl refl tt tt (tt, tt) (make (valueAs As) (asked y .lpi e) (arg refl tt (arg refl tt nil)) (lpi-made y-is e e-is) tt refl (λ x-is.
         get (valueAs Se) (Sees (h .auto .lpi) (h .fixed .lpi) (h .owners .lpi) (asked y .lpi e)) (arg refl tt (arg refl tt (arg refl tt (arg refl tt nil)))) (range-seen lpi (λ p. p .lpi) (λ p. p .lpi) (lpi-pool 𝓤 H A W) (lpi-holder 𝓤 H A W) (asked y .lpi e) x-is (may .lpi e)) tt refl (λ l l-is l-seen.
         make (valueAs Fo) (verdictOf y d d d d d e l) (arg refl tt (arg refl tt (arg refl tt (arg refl tt (arg refl tt (arg refl tt (arg refl tt (arg refl tt (nil))))))))) (verdict-made y-is d d d d d e l d-is d-is d-is d-is d-is e-is l-is) tt refl (λ v-is.
-        returned d d d d d e l v-is (three-seen h d e l y no-mmio no-pio no-input no-host d-seen e-seen l-seen) refl)))))))))))))))))))))))))
+        returned d d d d d e l v-is (three-seen h d e l y no-mmio no-pio no-input no-host d-seen e-seen l-seen) refl))))))))))))))))))))))))))))
 
   f-meets : Meets 𝓤 H A f.signature (WpFn 𝓤 H (𝓣 .C) (𝓣 .Λ) f.Code.function) (f.spec 𝓤 H A at-mem run)
   f-meets =
@@ -284,14 +264,10 @@ find-spec 𝓤 H 𝓜 𝓖 𝓡 =
     (tables 𝓤 H 𝓜 𝓡 f.Code.env .C) (tables 𝓤 H 𝓜 𝓡 f.Code.env .Λ) f.Key.name f.Code.function (f.Code.unfolded 𝓤 H 𝓜 𝓡)
     (f-meets 𝓤 H (𝓖 .A) (givenOf 𝓤 H 𝓜 𝓖) (𝓜 .mem) (𝓡 .run) (tablesOf 𝓤 H 𝓜 (tables 𝓤 H 𝓜 𝓡 f.Code.env)) (record {
       k-queried = cited 𝓤 H (tripleOf 𝓤 H (𝓖 .A) queried.signature (queried.spec 𝓤 H (𝓖 .A) (𝓜 .mem) (𝓡 .run))) 𝓜 𝓡 f.Code.env queried.Symbol.name queried.Symbol.routine f.Code.calls-decide·queried (queried.Met.met 𝓤 H 𝓜 𝓖 𝓡);
-      k-for-mmio = cited 𝓤 H (tripleOf 𝓤 H (𝓖 .A) for-mmio.signature (for-mmio.spec 𝓤 H (𝓖 .A) (𝓜 .mem) (𝓡 .run))) 𝓜 𝓡 f.Code.env for-mmio.Symbol.name for-mmio.Symbol.routine f.Code.calls-decide·ask·for-mmio (for-mmio.Met.met 𝓤 H 𝓜 𝓖 𝓡);
-      k-for-pio = cited 𝓤 H (tripleOf 𝓤 H (𝓖 .A) for-pio.signature (for-pio.spec 𝓤 H (𝓖 .A) (𝓜 .mem) (𝓡 .run))) 𝓜 𝓡 f.Code.env for-pio.Symbol.name for-pio.Symbol.routine f.Code.calls-decide·ask·for-pio (for-pio.Met.met 𝓤 H 𝓜 𝓖 𝓡);
+      k-for-range = cited 𝓤 H (tripleOf 𝓤 H (𝓖 .A) for-range.signature (for-range.spec 𝓤 H (𝓖 .A) (𝓜 .mem) (𝓡 .run))) 𝓜 𝓡 f.Code.env for-range.Symbol.name for-range.Symbol.routine f.Code.calls-decide·ask·for-range (for-range.Met.met 𝓤 H 𝓜 𝓖 𝓡);
       k-for-input = cited 𝓤 H (tripleOf 𝓤 H (𝓖 .A) for-input.signature (for-input.spec 𝓤 H (𝓖 .A) (𝓜 .mem) (𝓡 .run))) 𝓜 𝓡 f.Code.env for-input.Symbol.name for-input.Symbol.routine f.Code.calls-decide·ask·for-input (for-input.Met.met 𝓤 H 𝓜 𝓖 𝓡);
-      k-for-host = cited 𝓤 H (tripleOf 𝓤 H (𝓖 .A) for-host.signature (for-host.spec 𝓤 H (𝓖 .A) (𝓜 .mem) (𝓡 .run))) 𝓜 𝓡 f.Code.env for-host.Symbol.name for-host.Symbol.routine f.Code.calls-decide·ask·for-host (for-host.Met.met 𝓤 H 𝓜 𝓖 𝓡);
-      k-ask-mmio = cited 𝓤 H (tripleOf 𝓤 H (𝓖 .A) ask-mmio.signature (ask-mmio.spec 𝓤 H (𝓖 .A) (𝓜 .mem) (𝓡 .run))) 𝓜 𝓡 f.Code.env ask-mmio.Symbol.name ask-mmio.Symbol.routine f.Code.calls-decide·ask·mmio (ask-mmio.Met.met 𝓤 H 𝓜 𝓖 𝓡);
-      k-ask-pio = cited 𝓤 H (tripleOf 𝓤 H (𝓖 .A) ask-pio.signature (ask-pio.spec 𝓤 H (𝓖 .A) (𝓜 .mem) (𝓡 .run))) 𝓜 𝓡 f.Code.env ask-pio.Symbol.name ask-pio.Symbol.routine f.Code.calls-decide·ask·pio (ask-pio.Met.met 𝓤 H 𝓜 𝓖 𝓡);
+      k-ask-range = cited 𝓤 H (tripleOf 𝓤 H (𝓖 .A) ask-range.signature (ask-range.spec 𝓤 H (𝓖 .A) (𝓜 .mem) (𝓡 .run))) 𝓜 𝓡 f.Code.env ask-range.Symbol.name ask-range.Symbol.routine f.Code.calls-decide·ask·range (ask-range.Met.met 𝓤 H 𝓜 𝓖 𝓡);
       k-ask-input = cited 𝓤 H (tripleOf 𝓤 H (𝓖 .A) ask-input.signature (ask-input.spec 𝓤 H (𝓖 .A) (𝓜 .mem) (𝓡 .run))) 𝓜 𝓡 f.Code.env ask-input.Symbol.name ask-input.Symbol.routine f.Code.calls-decide·ask·input (ask-input.Met.met 𝓤 H 𝓜 𝓖 𝓡);
-      k-ask-host = cited 𝓤 H (tripleOf 𝓤 H (𝓖 .A) ask-host.signature (ask-host.spec 𝓤 H (𝓖 .A) (𝓜 .mem) (𝓡 .run))) 𝓜 𝓡 f.Code.env ask-host.Symbol.name ask-host.Symbol.routine f.Code.calls-decide·ask·host (ask-host.Met.met 𝓤 H 𝓜 𝓖 𝓡);
       k-ask-device = cited 𝓤 H (tripleOf 𝓤 H (𝓖 .A) ask-device.signature (ask-device.spec 𝓤 H (𝓖 .A) (𝓜 .mem) (𝓡 .run))) 𝓜 𝓡 f.Code.env ask-device.Symbol.name ask-device.Symbol.routine f.Code.calls-decide·ask·device (ask-device.Met.met 𝓤 H 𝓜 𝓖 𝓡);
       k-ask-event = cited 𝓤 H (tripleOf 𝓤 H (𝓖 .A) ask-event.signature (ask-event.spec 𝓤 H (𝓖 .A) (𝓜 .mem) (𝓡 .run))) 𝓜 𝓡 f.Code.env ask-event.Symbol.name ask-event.Symbol.routine f.Code.calls-decide·ask·event (ask-event.Met.met 𝓤 H 𝓜 𝓖 𝓡);
       k-ask-lpi = cited 𝓤 H (tripleOf 𝓤 H (𝓖 .A) ask-lpi.signature (ask-lpi.spec 𝓤 H (𝓖 .A) (𝓜 .mem) (𝓡 .run))) 𝓜 𝓡 f.Code.env ask-lpi.Symbol.name ask-lpi.Symbol.routine f.Code.calls-decide·ask·lpi (ask-lpi.Met.met 𝓤 H 𝓜 𝓖 𝓡);

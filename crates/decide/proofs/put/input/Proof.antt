@@ -9,7 +9,7 @@ returns : tie.Need-returns
 returns c = rw (c .before .rows .given .1)
 
 returns-2 : tie.Need-returns-2
-returns-2 c = c .no-input .ensures ∙ sym (put-else (c .before .before .args .g .rows) .input (c .before .match .keys2))
+returns-2 c = c .no-input .ensures ∙ sym (put-else (c .before .before .args .g .rows) (c .before .match .keys2))
 
 pub input-spec : {M : Type 1} → statement M
 input-spec = tie.close (tie.spec (λ c. search needs) (λ c κs. search needs) returns returns-2)

@@ -1,5 +1,5 @@
 -- `apply` meets its contract: what passes, a start, and a call that adds. Assumes nothing.
-use Rattle.walks.proofs.Prelude.{_≡_, refl, sym, ap, subst, _∙_, Bool, true, false, not, ℕ, _+_, _<_, _^_, arith, [], _∷_, List, none, URA, fullShare, T as Holds, ltb, ltb→lt, lit<, Name, named, w64, field, Local, Fn, Val, WT, hasTy, vunit, vint, vbool, vptr, SProp, ent, emp, via, exE, snd∗, id⊢, GName, Lft, Share, Memory, Routine, Heap, Calls, WpFn, Tables, Atoms, Fun, sem, fact, flft, factI, givenOf, tables, tablesOf, Given, Item, mean, ⋆, ‵, _$_, _∵_, !, qed, move, join, frame, fjoin, done, fld, stop, unit-lit, of-opd, fmOf, Is, uint-makes, uint-tells, bool-makes, bool-tells, nothing-makes, nothing-tells, u64, bool, unit, plain, owned, nothing, Meets, tripleOf, Contract, Triple, RefT, ShrRef, ensured, lasts, only, says, entered, cited, yes}
+use Rattle.walks.proofs.Prelude.{_≡_, refl, ap, ℕ, [], _∷_, List, URA, fullShare, T as Holds, named, Local, Val, vunit, vbool, vptr, SProp, ent, emp, via, exE, snd∗, id⊢, GName, Lft, Share, Memory, Routine, Heap, WpFn, Tables, Atoms, Fun, sem, fact, flft, factI, givenOf, tables, tablesOf, Given, Item, mean, ⋆, ‵, _$_, _∵_, !, qed, move, join, frame, fjoin, done, unit-lit, of-opd, fmOf, Is, bool-tells, nothing-tells, bool, unit, plain, owned, nothing, Meets, tripleOf, Triple, RefT, ShrRef, ensured, lasts, only, says, entered, cited, yes}
 use denote.Struct.Laws as LL
 use Rattle.definition.specs.Tables.{kinds}
 use Rattle.definition.specs.Calls.{given, starting}
@@ -27,14 +27,12 @@ use Rattle.plan.proofs.Beside.{Stands, lent-beside}
 use Rattle.door.specs.Kept.{Decides, Kept}
 use Rattle.door.specs.Applied.{applyOf}
 use Rattle.door.proofs.Lending.{one-asks}
+use Rattle.door.proofs.Verdicts.{valV}
 use Rattle.door.proofs.ApplyLaws.{passed, begun}
 use Rattle.door.proofs.apply.start as t
 use Rattle.door.proofs.apply.look as k
 use Rattle.door.proofs.apply.keep as e
 use Rattle.door.proofs.apply.apply as f
-
-abbrev valV : Verdict → Val
-valV x = LL.val Ve.the-type Ve′.the-laws x
 
 abbrev valC : Call → Val
 valC x = EE.val Ca.the-type Ca′.the-laws x

@@ -16,7 +16,7 @@ use Rattle.adding.proofs.rests as r
 use Rattle.adding.proofs.entered as e
 use Rattle.inplace.proofs.Acts.{Acts, told-by}
 use Rattle.inplace.proofs.Plain.{Plain, plainOf, Good}
-use Rattle.door.proofs.Parts.{Stands}
+use Rattle.inplace.proofs.Parts.{Stands}
 use Rattle.door.proofs.Lending.{one-asks}
 use Rattle.door.proofs.KeptLaws.{resting}
 use Rattle.door.proofs.EnterWalk.{enterCode, enter-walk}

@@ -1,5 +1,5 @@
 -- `keep` meets its contract: its four parts, one after another. Assumes nothing.
-use Rattle.walks.proofs.Prelude.{_≡_, refl, sym, ap, subst, _∙_, Bool, true, false, not, ℕ, _+_, _<_, _^_, arith, [], _∷_, List, none, URA, fullShare, T as Holds, ltb, ltb→lt, lit<, Name, named, w64, field, Local, Fn, Val, WT, hasTy, vunit, vint, vbool, vptr, SProp, ent, emp, id⊢, GName, Lft, Share, Memory, Routine, Heap, Calls, WpFn, Tables, Atoms, Fun, factI, givenOf, tables, tablesOf, sem, owns, Given, Item, mean, _$_, _∵_, !, qed, fjoin, done, fld, stop, unit-lit, of-opd, fmOf, partAt, Is, uint-makes, uint-tells, bool-makes, bool-tells, nothing-makes, nothing-tells, u64, bool, unit, plain, owned, nothing, Meets, tripleOf, Contract, Triple, entered, cited, yes}
+use Rattle.walks.proofs.Prelude.{_≡_, refl, ℕ, _+_, [], _∷_, List, URA, fullShare, Name, Local, Val, vunit, vptr, SProp, ent, emp, id⊢, GName, Lft, Share, Memory, Routine, Heap, WpFn, Tables, Atoms, Fun, factI, givenOf, tables, tablesOf, sem, owns, Given, Item, mean, _$_, _∵_, !, qed, fjoin, done, unit-lit, of-opd, fmOf, partAt, Is, nothing-tells, unit, plain, owned, nothing, Meets, tripleOf, Triple, entered, cited, yes}
 use denote.Struct.Laws as LL
 use Rattle.definition.specs.Calls.{saying}
 use Rattle.tables.specs.Views.{stateView}
@@ -20,17 +20,18 @@ use Rattle.adding.proofs.Verdict as Ve
 use Rattle.adding.proofs.Verdict.Laws as Ve′
 use Rattle.walks.proofs.Columns.{offset}
 use Rattle.inplace.proofs.LendPart.{Piece, Makes}
-use Rattle.inplace.proofs.Callees.{made}
+use Rattle.door.proofs.Verdicts.{valV, verdict-makes}
 use Rattle.adding.proofs.reply as p
 use Rattle.inplace.proofs.Plain.{Plain, plainOf}
 use Rattle.inplace.proofs.Acts.{Acts, plainly}
-use Rattle.walks.proofs.Straight.{nil, arg, num, first, others}
-use Rattle.inplace.proofs.Steps.{points, sets, acted, leaves-if, gives, gives-within, entering}
+use Rattle.walks.proofs.Straight.{nil, arg, first, others}
+use Rattle.inplace.proofs.Steps.{points, sets, acted, gives, entering}
 use Rattle.plan.proofs.Beside.{Stands, lent-beside}
 use Rattle.door.specs.Kept.{TidyPools, heldWith, withHeld, withAuto, withFixed, PoolsKept, Ready, Kept}
-use Rattle.door.proofs.Parts.{Leaves, comes-plain, lends}
-use Rattle.door.proofs.Lending.{leaves-by, one-asks}
-use Rattle.door.proofs.Pieces.{out-auto, out-fixed}
+use Rattle.inplace.proofs.Parts.{Leaves, comes-plain, lends}
+use Rattle.door.proofs.Lending.{one-asks}
+use Rattle.inplace.proofs.Callees.{leaves-by}
+use Rattle.inplace.proofs.Pieces.{out-auto, out-fixed}
 use Rattle.door.proofs.ToldLaws.{poolsFrom, pools-told}
 use Rattle.door.proofs.KeptLaws.{kept-all}
 use Rattle.door.proofs.apply.auto as a
@@ -38,9 +39,6 @@ use Rattle.door.proofs.apply.fixed as x
 use Rattle.door.proofs.apply.held as e
 use Rattle.door.proofs.apply.say as t
 use Rattle.door.proofs.apply.keep as f
-
-abbrev valV : Verdict → Val
-valV x = LL.val Ve.the-type Ve′.the-laws x
 
 abbrev valR : Reply → Val
 valR x = LL.val Re.the-type Re′.the-laws x
@@ -92,8 +90,7 @@ module _ {M : Type 1} (𝓤 : URA M) (H : Heap 𝓤) (A : Atoms 𝓤) (at-mem : 
 
     replies : Makes 𝓤 H A W (𝓣 .C) p.Symbol.name (valV v ∷ []) (valR (v .reply)) (Is Re.the-row (v .reply) (valR (v .reply) ∷ []))
     replies =
-        made 𝓤 H A W (𝓣 .C) (fmOf 𝓤 H (W .laws) 𝓣) p.Symbol.name (p.signature .params) (p.ended .kept) Re.the-row valR (LL.tells Re.the-type Re′.the-laws) (p.clauses 𝓤 H A at-mem run) known-p (v, tt) (valV v ∷ [], tt) tt (v .reply)
-        (qed W [] ∵ nothing ! $ owned ! Ve.the-row (Is Ve.the-row) (LL.makes Ve.the-type Ve′.the-plain 𝓤 H A) v _ v-is $ fjoin ! $ done !) (id⊢ 𝓤 _) (λ z w. id⊢ 𝓤 _)
+        verdict-makes 𝓤 H A W (𝓣 .C) (fmOf 𝓤 H (W .laws) 𝓣) Re.the-row valR (LL.tells Re.the-type Re′.the-laws) v v-is (v .reply) p.Symbol.name (p.clauses 𝓤 H A at-mem run) known-p tt (id⊢ 𝓤 _) (λ z w. id⊢ 𝓤 _)
 
     says : (s₃ : State) → Is Re.the-row (v .reply) (valR (v .reply) ∷ []) → Acts 𝓤 H A W (𝓣 .C) t.Symbol.name (vptr b o ∷ valR (v .reply) ∷ []) (Held s₃) (State × Unit {0}) (λ z. Held (z .0)) (λ z. vunit) (After (λ d. stateView d ≡ saying (heard (v .reply)) (stateView s₃)))
     says s₃ r-is =

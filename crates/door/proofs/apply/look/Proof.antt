@@ -1,8 +1,9 @@
--- `lent_table` meets its contract: straight code over the covered functions of `adding` and the two that read tables. Assumes nothing.
-use Rattle.walks.proofs.Prelude.{_≡_, refl, [], _∷_, List, none, ℕ, _+_, URA, named, SProp, emp, id⊢, Lft, Share, Memory, Routine, Heap, Calls, WpFn, Tables, Atoms, fmOf, Fun, factI, AllOutlive, givenOf, tables, tablesOf, Given, Item, ‵, owns, flat, Is, ptr-vals, shr-tells, typesAt, Args, Vals, Meets, tripleOf, Triple, entered, cited, _^_, T as Holds, ltb, ltb→lt, w64, vint, GName, Makes, uint-makes, Parts}
+-- `look` meets its contract: straight code over the covered functions of `adding` and the two that read tables. Assumes nothing.
+use Rattle.walks.proofs.Prelude.{_≡_, refl, [], _∷_, List, none, ℕ, _+_, URA, named, SProp, emp, id⊢, Lft, Share, Memory, Routine, Heap, Calls, WpFn, Tables, Atoms, fmOf, Fun, factI, AllOutlive, givenOf, tables, tablesOf, Given, Item, ‵, owns, flat, Is, ptr-vals, shr-tells, typesAt, Args, Vals, Meets, tripleOf, Triple, entered, cited, _^_, T as Holds, ltb, ltb→lt, w8, w64, vint, GName, Makes, uint-makes, Parts}
 use denote.Struct.Laws as LL
 use denote.Enum.Laws as EE
 use Rattle.definition.specs.Tables.{kinds}
+use Rattle.definition.specs.Tables as D
 use Rattle.definition.specs.Calls.{given as given-state}
 use Rattle.tables.specs.Views.{stateView}
 use Rattle.tables.specs.declared.Pool.{Pool}
@@ -22,7 +23,10 @@ use Rattle.request.proofs.call.Call.Laws as R′
 use Rattle.insert.specs.declared.Reply.{Reply}
 use Rattle.insert.proofs.Reply as S
 use Rattle.insert.proofs.Reply.Laws as S′
+use Rattle.tables.specs.declared.Kind.{Kind}
 use Rattle.tables.specs.declared.Kind.the-variants as Kd
+use Rattle.tables.proofs.Kind as Kn
+use Rattle.tables.proofs.Kind.Laws as Kn′
 use Rattle.adding.specs.Adds.{askOf, inputAskOf, Asked}
 use Rattle.adding.specs.Judged.{verdictOf}
 use Rattle.adding.specs.Looks.{Fit, Sees, SeesInput}
@@ -38,22 +42,18 @@ use Rattle.adding.proofs.InputAsk.Laws as X′
 use Rattle.adding.proofs.Verdict as F
 use Rattle.adding.proofs.Verdict.Laws as F′
 use Rattle.adding.proofs.asked as asked
-use Rattle.adding.proofs.asking.mmio as q₀
-use Rattle.adding.proofs.asking.pio as q₁
-use Rattle.adding.proofs.asking.host as q₂
-use Rattle.adding.proofs.asking.device as q₃
-use Rattle.adding.proofs.asking.event as q₄
-use Rattle.adding.proofs.asking.lpi as q₅
+use Rattle.adding.proofs.asking.range as ask-range
 use Rattle.adding.proofs.asking.input as ask-input
 use Rattle.adding.proofs.answer.range as range
 use Rattle.adding.proofs.answer.input as inputs
 use Rattle.adding.proofs.judge as judge
-use Rattle.walks.proofs.Straight.{first, others, given, Gives, Runs, back, point, ask as get, make, nil, arg, num}
+use Rattle.walks.proofs.Straight.{first, others, given, Gives, Runs, back, point, fill, ask as get, make, nil, arg, num}
 use Rattle.walks.proofs.Passing.{Plain, declaredAs, valueAs, Arg, plainly, slots, valsOf, covered, passing, refTo, among}
 use Rattle.walks.proofs.Columns.{Into}
+use Rattle.walks.proofs.KindValue.{kindVal, kind-is, kind-typed}
 use Rattle.walks.proofs.StateParts.{Table, mmio, pio, input, host, device, event, lpi, auto-at, fixed-at, held-at, pool-at, holder-at, mmio-pool, pio-pool, input-pool, host-pool, device-pool, event-pool, lpi-pool, mmio-holder, pio-holder, input-holder, host-holder, device-holder, event-holder, lpi-holder, auto-table, fixed-table, held-table}
 use Rattle.walks.proofs.Frame.{mine, After, ends, frame}
-use Rattle.door.proofs.GivenLaws.{fit-mmio, fit-pio, fit-input, fit-host, fit-device, fit-event, fit-lpi}
+use Rattle.door.proofs.GivenLaws.{fit}
 use Rattle.door.proofs.DecideLaws.{decides}
 use Rattle.door.proofs.apply.look as f
 
@@ -63,12 +63,7 @@ Sound h = Holds (given-state kinds (stateView h))
 -- what is known of the callees
 record Known {M : Type 1} (𝓤 : URA M) (H : Heap 𝓤) (A : Atoms 𝓤) (at-mem : Memory → SProp 𝓤) (run : Routine → Fun 𝓤) (C : Calls 𝓤 H) : Type 1 where
   k-asked : Triple 𝓤 (C asked.Symbol.name) (tripleOf 𝓤 H A asked.signature (asked.spec 𝓤 H A at-mem run))
-  k₀ : Triple 𝓤 (C q₀.Symbol.name) (tripleOf 𝓤 H A q₀.signature (q₀.spec 𝓤 H A at-mem run))
-  k₁ : Triple 𝓤 (C q₁.Symbol.name) (tripleOf 𝓤 H A q₁.signature (q₁.spec 𝓤 H A at-mem run))
-  k₂ : Triple 𝓤 (C q₂.Symbol.name) (tripleOf 𝓤 H A q₂.signature (q₂.spec 𝓤 H A at-mem run))
-  k₃ : Triple 𝓤 (C q₃.Symbol.name) (tripleOf 𝓤 H A q₃.signature (q₃.spec 𝓤 H A at-mem run))
-  k₄ : Triple 𝓤 (C q₄.Symbol.name) (tripleOf 𝓤 H A q₄.signature (q₄.spec 𝓤 H A at-mem run))
-  k₅ : Triple 𝓤 (C q₅.Symbol.name) (tripleOf 𝓤 H A q₅.signature (q₅.spec 𝓤 H A at-mem run))
+  k-ask-range : Triple 𝓤 (C ask-range.Symbol.name) (tripleOf 𝓤 H A ask-range.signature (ask-range.spec 𝓤 H A at-mem run))
   k-ask-input : Triple 𝓤 (C ask-input.Symbol.name) (tripleOf 𝓤 H A ask-input.signature (ask-input.spec 𝓤 H A at-mem run))
   k-range : Triple 𝓤 (C range.Symbol.name) (tripleOf 𝓤 H A range.signature (range.spec 𝓤 H A at-mem run))
   k-input : Triple 𝓤 (C inputs.Symbol.name) (tripleOf 𝓤 H A inputs.signature (inputs.spec 𝓤 H A at-mem run))
@@ -132,35 +127,10 @@ module _ {M : Type 1} (𝓤 : URA M) (H : Heap 𝓤) (A : Atoms 𝓤) (W : Given
         (EE.makes R.the-type R′.the-plain 𝓤 H A, tt) (r-is, tt) (id⊢ 𝓤 (emp 𝓤)) (λ d e. id⊢ 𝓤 _)
 
     module _ (y : Adds) (y-is : Is Q.the-row y (Qu .val y ∷ [])) where
-      mmio-made : Gives 𝓤 H A W (𝓣 .C) hold q₀.Symbol.name (Qu .val y ∷ []) (valueAs As) (λ d. d ≡ askOf y Kd.Mmio)
-      mmio-made =
-          covered 𝓤 H A W (𝓣 .C) (fmOf 𝓤 H (W .laws) 𝓣) hold q₀.Symbol.name As (λ d. d ≡ askOf y Kd.Mmio) (q₀.signature .params) (q₀.ended .kept) (q₀.clauses 𝓤 H A at-mem run) (known .k₀) (y, tt) (Qu .val y ∷ [], tt) tt
-          (make-query, tt) (y-is, tt) (id⊢ 𝓤 (emp 𝓤)) (λ d e. id⊢ 𝓤 _)
-
-      pio-made : Gives 𝓤 H A W (𝓣 .C) hold q₁.Symbol.name (Qu .val y ∷ []) (valueAs As) (λ d. d ≡ askOf y Kd.Pio)
-      pio-made =
-          covered 𝓤 H A W (𝓣 .C) (fmOf 𝓤 H (W .laws) 𝓣) hold q₁.Symbol.name As (λ d. d ≡ askOf y Kd.Pio) (q₁.signature .params) (q₁.ended .kept) (q₁.clauses 𝓤 H A at-mem run) (known .k₁) (y, tt) (Qu .val y ∷ [], tt) tt
-          (make-query, tt) (y-is, tt) (id⊢ 𝓤 (emp 𝓤)) (λ d e. id⊢ 𝓤 _)
-
-      host-made : Gives 𝓤 H A W (𝓣 .C) hold q₂.Symbol.name (Qu .val y ∷ []) (valueAs As) (λ d. d ≡ askOf y Kd.Host)
-      host-made =
-          covered 𝓤 H A W (𝓣 .C) (fmOf 𝓤 H (W .laws) 𝓣) hold q₂.Symbol.name As (λ d. d ≡ askOf y Kd.Host) (q₂.signature .params) (q₂.ended .kept) (q₂.clauses 𝓤 H A at-mem run) (known .k₂) (y, tt) (Qu .val y ∷ [], tt) tt
-          (make-query, tt) (y-is, tt) (id⊢ 𝓤 (emp 𝓤)) (λ d e. id⊢ 𝓤 _)
-
-      device-made : Gives 𝓤 H A W (𝓣 .C) hold q₃.Symbol.name (Qu .val y ∷ []) (valueAs As) (λ d. d ≡ askOf y Kd.Device)
-      device-made =
-          covered 𝓤 H A W (𝓣 .C) (fmOf 𝓤 H (W .laws) 𝓣) hold q₃.Symbol.name As (λ d. d ≡ askOf y Kd.Device) (q₃.signature .params) (q₃.ended .kept) (q₃.clauses 𝓤 H A at-mem run) (known .k₃) (y, tt) (Qu .val y ∷ [], tt) tt
-          (make-query, tt) (y-is, tt) (id⊢ 𝓤 (emp 𝓤)) (λ d e. id⊢ 𝓤 _)
-
-      event-made : Gives 𝓤 H A W (𝓣 .C) hold q₄.Symbol.name (Qu .val y ∷ []) (valueAs As) (λ d. d ≡ askOf y Kd.Event)
-      event-made =
-          covered 𝓤 H A W (𝓣 .C) (fmOf 𝓤 H (W .laws) 𝓣) hold q₄.Symbol.name As (λ d. d ≡ askOf y Kd.Event) (q₄.signature .params) (q₄.ended .kept) (q₄.clauses 𝓤 H A at-mem run) (known .k₄) (y, tt) (Qu .val y ∷ [], tt) tt
-          (make-query, tt) (y-is, tt) (id⊢ 𝓤 (emp 𝓤)) (λ d e. id⊢ 𝓤 _)
-
-      lpi-made : Gives 𝓤 H A W (𝓣 .C) hold q₅.Symbol.name (Qu .val y ∷ []) (valueAs As) (λ d. d ≡ askOf y Kd.Lpi)
-      lpi-made =
-          covered 𝓤 H A W (𝓣 .C) (fmOf 𝓤 H (W .laws) 𝓣) hold q₅.Symbol.name As (λ d. d ≡ askOf y Kd.Lpi) (q₅.signature .params) (q₅.ended .kept) (q₅.clauses 𝓤 H A at-mem run) (known .k₅) (y, tt) (Qu .val y ∷ [], tt) tt
-          (make-query, tt) (y-is, tt) (id⊢ 𝓤 (emp 𝓤)) (λ d e. id⊢ 𝓤 _)
+      range-made : (k : Kind) → Gives 𝓤 H A W (𝓣 .C) hold ask-range.Symbol.name (Qu .val y ∷ kindVal k ∷ []) (valueAs As) (λ d. d ≡ askOf y k)
+      range-made k =
+          covered 𝓤 H A W (𝓣 .C) (fmOf 𝓤 H (W .laws) 𝓣) hold ask-range.Symbol.name As (λ d. d ≡ askOf y k) (ask-range.signature .params) (ask-range.ended .kept) (ask-range.clauses 𝓤 H A at-mem run) (known .k-ask-range) (y, (k, tt)) (Qu .val y ∷ [], (kindVal k ∷ [], tt)) tt
+          (make-query, (EE.makes Kn.the-type Kn′.the-plain 𝓤 H A, tt)) (y-is, (kind-is k, tt)) (id⊢ 𝓤 (emp 𝓤)) (λ d e. id⊢ 𝓤 _)
 
       input-made : Gives 𝓤 H A W (𝓣 .C) hold ask-input.Symbol.name (Qu .val y ∷ []) (valueAs Xs) (λ d. d ≡ inputAskOf y)
       input-made =
@@ -196,23 +166,23 @@ module _ {M : Type 1} (𝓤 : URA M) (H : Heap 𝓤) (A : Atoms 𝓤) (W : Given
     walk : Runs W (𝓣 .C) hold (f.Code.function .locals) (After 𝓤 H A W (f.signature .params) (f.ended .kept) Fo (f.clauses 𝓤 H A at-mem run) κ q bounds a vss tt) (none ∷ given W (flat (typesAt (f.signature .params) (κ, tt)) vss)) (f.Code.function .body)
     walk =
         get (valueAs Qu) Takes (arg refl tt nil) query-made tt refl (λ y y-is y-asks.
-        point {b = b} {o = o} {a = (o + auto-at) + pool-at mmio} refl refl tt tt (tt, tt) (point {b = b} {o = o} {a = (o + fixed-at) + pool-at mmio} refl refl tt tt (tt, tt) (point {b = b} {o = o} {a = (o + held-at) + holder-at mmio} refl refl tt tt (tt, tt) (make (valueAs As) (askOf y Kd.Mmio) (arg refl tt nil) (mmio-made y y-is) tt refl (λ x-is.
-        get (valueAs Se) (Sees (h .auto .mmio) (h .fixed .mmio) (h .held .mmio) (askOf y Kd.Mmio)) (arg refl tt (arg refl tt (arg refl tt (arg refl tt nil)))) (range-seen mmio (λ p. p .mmio) (λ p. p .mmio) (mmio-pool 𝓤 H A W) (mmio-holder 𝓤 H A W) (askOf y Kd.Mmio) x-is (fit-mmio h ok)) tt refl (λ m m-is m-seen.
-        point {b = b} {o = o} {a = (o + auto-at) + pool-at pio} refl refl tt tt (tt, tt) (point {b = b} {o = o} {a = (o + fixed-at) + pool-at pio} refl refl tt tt (tt, tt) (point {b = b} {o = o} {a = (o + held-at) + holder-at pio} refl refl tt tt (tt, tt) (make (valueAs As) (askOf y Kd.Pio) (arg refl tt nil) (pio-made y y-is) tt refl (λ x-is.
-        get (valueAs Se) (Sees (h .auto .pio) (h .fixed .pio) (h .held .pio) (askOf y Kd.Pio)) (arg refl tt (arg refl tt (arg refl tt (arg refl tt nil)))) (range-seen pio (λ p. p .pio) (λ p. p .pio) (pio-pool 𝓤 H A W) (pio-holder 𝓤 H A W) (askOf y Kd.Pio) x-is (fit-pio h ok)) tt refl (λ p p-is p-seen.
+        point {b = b} {o = o} {a = (o + auto-at) + pool-at mmio} refl refl tt tt (tt, tt) (point {b = b} {o = o} {a = (o + fixed-at) + pool-at mmio} refl refl tt tt (tt, tt) (point {b = b} {o = o} {a = (o + held-at) + holder-at mmio} refl refl tt tt (tt, tt) (fill {vs = vint w8 0 ∷ []} (num tt nil) tt (kind-typed 𝓤 H A W Kd.Mmio) (make (valueAs As) (askOf y Kd.Mmio) (arg refl tt (arg refl tt nil)) (range-made y y-is Kd.Mmio) tt refl (λ x-is.
+        get (valueAs Se) (Sees (h .auto .mmio) (h .fixed .mmio) (h .held .mmio) (askOf y Kd.Mmio)) (arg refl tt (arg refl tt (arg refl tt (arg refl tt nil)))) (range-seen mmio (λ p. p .mmio) (λ p. p .mmio) (mmio-pool 𝓤 H A W) (mmio-holder 𝓤 H A W) (askOf y Kd.Mmio) x-is (fit h ok D.mmio)) tt refl (λ m m-is m-seen.
+        point {b = b} {o = o} {a = (o + auto-at) + pool-at pio} refl refl tt tt (tt, tt) (point {b = b} {o = o} {a = (o + fixed-at) + pool-at pio} refl refl tt tt (tt, tt) (point {b = b} {o = o} {a = (o + held-at) + holder-at pio} refl refl tt tt (tt, tt) (fill {vs = vint w8 1 ∷ []} (num tt nil) tt (kind-typed 𝓤 H A W Kd.Pio) (make (valueAs As) (askOf y Kd.Pio) (arg refl tt (arg refl tt nil)) (range-made y y-is Kd.Pio) tt refl (λ x-is.
+        get (valueAs Se) (Sees (h .auto .pio) (h .fixed .pio) (h .held .pio) (askOf y Kd.Pio)) (arg refl tt (arg refl tt (arg refl tt (arg refl tt nil)))) (range-seen pio (λ p. p .pio) (λ p. p .pio) (pio-pool 𝓤 H A W) (pio-holder 𝓤 H A W) (askOf y Kd.Pio) x-is (fit h ok D.pio)) tt refl (λ p p-is p-seen.
         point {b = b} {o = o} {a = (o + auto-at) + pool-at input} refl refl tt tt (tt, tt) (point {b = b} {o = o} {a = (o + fixed-at) + pool-at input} refl refl tt tt (tt, tt) (point {b = b} {o = o} {a = (o + held-at) + holder-at input} refl refl tt tt (tt, tt) (make (valueAs Xs) (inputAskOf y) (arg refl tt nil) (input-made y y-is) tt refl (λ x-is.
-        get (valueAs Se) (SeesInput (h .auto .input) (h .fixed .input) (h .held .input) (inputAskOf y)) (arg refl tt (arg refl tt (arg refl tt (arg refl tt nil)))) (input-seen (inputAskOf y) x-is (fit-input h ok)) tt refl (λ w w-is w-seen.
-        point {b = b} {o = o} {a = (o + auto-at) + pool-at host} refl refl tt tt (tt, tt) (point {b = b} {o = o} {a = (o + fixed-at) + pool-at host} refl refl tt tt (tt, tt) (point {b = b} {o = o} {a = (o + held-at) + holder-at host} refl refl tt tt (tt, tt) (make (valueAs As) (askOf y Kd.Host) (arg refl tt nil) (host-made y y-is) tt refl (λ x-is.
-        get (valueAs Se) (Sees (h .auto .host) (h .fixed .host) (h .held .host) (askOf y Kd.Host)) (arg refl tt (arg refl tt (arg refl tt (arg refl tt nil)))) (range-seen host (λ p. p .host) (λ p. p .host) (host-pool 𝓤 H A W) (host-holder 𝓤 H A W) (askOf y Kd.Host) x-is (fit-host h ok)) tt refl (λ j j-is j-seen.
-        point {b = b} {o = o} {a = (o + auto-at) + pool-at device} refl refl tt tt (tt, tt) (point {b = b} {o = o} {a = (o + fixed-at) + pool-at device} refl refl tt tt (tt, tt) (point {b = b} {o = o} {a = (o + held-at) + holder-at device} refl refl tt tt (tt, tt) (make (valueAs As) (askOf y Kd.Device) (arg refl tt nil) (device-made y y-is) tt refl (λ x-is.
-        get (valueAs Se) (Sees (h .auto .device) (h .fixed .device) (h .held .device) (askOf y Kd.Device)) (arg refl tt (arg refl tt (arg refl tt (arg refl tt nil)))) (range-seen device (λ p. p .device) (λ p. p .device) (device-pool 𝓤 H A W) (device-holder 𝓤 H A W) (askOf y Kd.Device) x-is (fit-device h ok)) tt refl (λ d d-is d-seen.
-        point {b = b} {o = o} {a = (o + auto-at) + pool-at event} refl refl tt tt (tt, tt) (point {b = b} {o = o} {a = (o + fixed-at) + pool-at event} refl refl tt tt (tt, tt) (point {b = b} {o = o} {a = (o + held-at) + holder-at event} refl refl tt tt (tt, tt) (make (valueAs As) (askOf y Kd.Event) (arg refl tt nil) (event-made y y-is) tt refl (λ x-is.
-        get (valueAs Se) (Sees (h .auto .event) (h .fixed .event) (h .held .event) (askOf y Kd.Event)) (arg refl tt (arg refl tt (arg refl tt (arg refl tt nil)))) (range-seen event (λ p. p .event) (λ p. p .event) (event-pool 𝓤 H A W) (event-holder 𝓤 H A W) (askOf y Kd.Event) x-is (fit-event h ok)) tt refl (λ e e-is e-seen.
-        point {b = b} {o = o} {a = (o + auto-at) + pool-at lpi} refl refl tt tt (tt, tt) (point {b = b} {o = o} {a = (o + fixed-at) + pool-at lpi} refl refl tt tt (tt, tt) (point {b = b} {o = o} {a = (o + held-at) + holder-at lpi} refl refl tt tt (tt, tt) (make (valueAs As) (askOf y Kd.Lpi) (arg refl tt nil) (lpi-made y y-is) tt refl (λ x-is.
-        get (valueAs Se) (Sees (h .auto .lpi) (h .fixed .lpi) (h .held .lpi) (askOf y Kd.Lpi)) (arg refl tt (arg refl tt (arg refl tt (arg refl tt nil)))) (range-seen lpi (λ p. p .lpi) (λ p. p .lpi) (lpi-pool 𝓤 H A W) (lpi-holder 𝓤 H A W) (askOf y Kd.Lpi) x-is (fit-lpi h ok)) tt refl (λ l l-is l-seen.
+        get (valueAs Se) (SeesInput (h .auto .input) (h .fixed .input) (h .held .input) (inputAskOf y)) (arg refl tt (arg refl tt (arg refl tt (arg refl tt nil)))) (input-seen (inputAskOf y) x-is (fit h ok D.input)) tt refl (λ w w-is w-seen.
+        point {b = b} {o = o} {a = (o + auto-at) + pool-at host} refl refl tt tt (tt, tt) (point {b = b} {o = o} {a = (o + fixed-at) + pool-at host} refl refl tt tt (tt, tt) (point {b = b} {o = o} {a = (o + held-at) + holder-at host} refl refl tt tt (tt, tt) (fill {vs = vint w8 3 ∷ []} (num tt nil) tt (kind-typed 𝓤 H A W Kd.Host) (make (valueAs As) (askOf y Kd.Host) (arg refl tt (arg refl tt nil)) (range-made y y-is Kd.Host) tt refl (λ x-is.
+        get (valueAs Se) (Sees (h .auto .host) (h .fixed .host) (h .held .host) (askOf y Kd.Host)) (arg refl tt (arg refl tt (arg refl tt (arg refl tt nil)))) (range-seen host (λ p. p .host) (λ p. p .host) (host-pool 𝓤 H A W) (host-holder 𝓤 H A W) (askOf y Kd.Host) x-is (fit h ok D.host)) tt refl (λ j j-is j-seen.
+        point {b = b} {o = o} {a = (o + auto-at) + pool-at device} refl refl tt tt (tt, tt) (point {b = b} {o = o} {a = (o + fixed-at) + pool-at device} refl refl tt tt (tt, tt) (point {b = b} {o = o} {a = (o + held-at) + holder-at device} refl refl tt tt (tt, tt) (fill {vs = vint w8 4 ∷ []} (num tt nil) tt (kind-typed 𝓤 H A W Kd.Device) (make (valueAs As) (askOf y Kd.Device) (arg refl tt (arg refl tt nil)) (range-made y y-is Kd.Device) tt refl (λ x-is.
+        get (valueAs Se) (Sees (h .auto .device) (h .fixed .device) (h .held .device) (askOf y Kd.Device)) (arg refl tt (arg refl tt (arg refl tt (arg refl tt nil)))) (range-seen device (λ p. p .device) (λ p. p .device) (device-pool 𝓤 H A W) (device-holder 𝓤 H A W) (askOf y Kd.Device) x-is (fit h ok D.device)) tt refl (λ d d-is d-seen.
+        point {b = b} {o = o} {a = (o + auto-at) + pool-at event} refl refl tt tt (tt, tt) (point {b = b} {o = o} {a = (o + fixed-at) + pool-at event} refl refl tt tt (tt, tt) (point {b = b} {o = o} {a = (o + held-at) + holder-at event} refl refl tt tt (tt, tt) (fill {vs = vint w8 5 ∷ []} (num tt nil) tt (kind-typed 𝓤 H A W Kd.Event) (make (valueAs As) (askOf y Kd.Event) (arg refl tt (arg refl tt nil)) (range-made y y-is Kd.Event) tt refl (λ x-is.
+        get (valueAs Se) (Sees (h .auto .event) (h .fixed .event) (h .held .event) (askOf y Kd.Event)) (arg refl tt (arg refl tt (arg refl tt (arg refl tt nil)))) (range-seen event (λ p. p .event) (λ p. p .event) (event-pool 𝓤 H A W) (event-holder 𝓤 H A W) (askOf y Kd.Event) x-is (fit h ok D.event)) tt refl (λ e e-is e-seen.
+        point {b = b} {o = o} {a = (o + auto-at) + pool-at lpi} refl refl tt tt (tt, tt) (point {b = b} {o = o} {a = (o + fixed-at) + pool-at lpi} refl refl tt tt (tt, tt) (point {b = b} {o = o} {a = (o + held-at) + holder-at lpi} refl refl tt tt (tt, tt) (fill {vs = vint w8 6 ∷ []} (num tt nil) tt (kind-typed 𝓤 H A W Kd.Lpi) (make (valueAs As) (askOf y Kd.Lpi) (arg refl tt (arg refl tt nil)) (range-made y y-is Kd.Lpi) tt refl (λ x-is.
+        get (valueAs Se) (Sees (h .auto .lpi) (h .fixed .lpi) (h .held .lpi) (askOf y Kd.Lpi)) (arg refl tt (arg refl tt (arg refl tt (arg refl tt nil)))) (range-seen lpi (λ p. p .lpi) (λ p. p .lpi) (lpi-pool 𝓤 H A W) (lpi-holder 𝓤 H A W) (askOf y Kd.Lpi) x-is (fit h ok D.lpi)) tt refl (λ l l-is l-seen.
         make (valueAs Fo) (verdictOf y m p w j d e l) (arg refl tt (arg refl tt (arg refl tt (arg refl tt (arg refl tt (arg refl tt (arg refl tt (arg refl tt (nil))))))))) (verdict-made y y-is m p w j d e l m-is p-is w-is j-is d-is e-is l-is) tt refl (λ v-is. back (Fo .val (verdictOf y m p w j d e l)) refl tt
         (ends 𝓤 H A W (f.signature .params) (f.ended .kept) Fo (f.clauses 𝓤 H A at-mem run) (LL.makes F.the-type F′.the-plain 𝓤 H A) κ q bounds a vss tt (verdictOf y m p w j d e l) v-is (tt, (tt, tt))
-        (factI 𝓤 _ (emp 𝓤) (decides h ok (a .1 .0) y y-asks m p w j d e l (record { mmio = m-seen; pio = p-seen; input = w-seen; host = j-seen; device = d-seen; event = e-seen; lpi = l-seen })))))))))))))))))))))))))))))))))))))))))
+        (factI 𝓤 _ (emp 𝓤) (decides h ok (a .1 .0) y y-asks m p w j d e l (record { mmio = m-seen; pio = p-seen; input = w-seen; host = j-seen; device = d-seen; event = e-seen; lpi = l-seen })))))))))))))))))))))))))))))))))))))))))))))))
 
   f-meets : Meets 𝓤 H A f.signature (WpFn 𝓤 H (𝓣 .C) (𝓣 .Λ) f.Code.function) (f.spec 𝓤 H A at-mem run)
   f-meets =
@@ -227,12 +197,7 @@ look-spec 𝓤 H 𝓜 𝓖 𝓡 =
     (tables 𝓤 H 𝓜 𝓡 f.Code.env .C) (tables 𝓤 H 𝓜 𝓡 f.Code.env .Λ) f.Key.name f.Code.function (f.Code.unfolded 𝓤 H 𝓜 𝓡)
     (f-meets 𝓤 H (𝓖 .A) (givenOf 𝓤 H 𝓜 𝓖) (𝓜 .mem) (𝓡 .run) (tablesOf 𝓤 H 𝓜 (tables 𝓤 H 𝓜 𝓡 f.Code.env)) (record {
       k-asked = cited 𝓤 H (tripleOf 𝓤 H (𝓖 .A) asked.signature (asked.spec 𝓤 H (𝓖 .A) (𝓜 .mem) (𝓡 .run))) 𝓜 𝓡 f.Code.env asked.Symbol.name asked.Symbol.routine f.Code.calls-adding·asked (asked.Met.met 𝓤 H 𝓜 𝓖 𝓡);
-      k₀ = cited 𝓤 H (tripleOf 𝓤 H (𝓖 .A) q₀.signature (q₀.spec 𝓤 H (𝓖 .A) (𝓜 .mem) (𝓡 .run))) 𝓜 𝓡 f.Code.env q₀.Symbol.name q₀.Symbol.routine f.Code.calls-adding·asking·mmio (q₀.Met.met 𝓤 H 𝓜 𝓖 𝓡);
-      k₁ = cited 𝓤 H (tripleOf 𝓤 H (𝓖 .A) q₁.signature (q₁.spec 𝓤 H (𝓖 .A) (𝓜 .mem) (𝓡 .run))) 𝓜 𝓡 f.Code.env q₁.Symbol.name q₁.Symbol.routine f.Code.calls-adding·asking·pio (q₁.Met.met 𝓤 H 𝓜 𝓖 𝓡);
-      k₂ = cited 𝓤 H (tripleOf 𝓤 H (𝓖 .A) q₂.signature (q₂.spec 𝓤 H (𝓖 .A) (𝓜 .mem) (𝓡 .run))) 𝓜 𝓡 f.Code.env q₂.Symbol.name q₂.Symbol.routine f.Code.calls-adding·asking·host (q₂.Met.met 𝓤 H 𝓜 𝓖 𝓡);
-      k₃ = cited 𝓤 H (tripleOf 𝓤 H (𝓖 .A) q₃.signature (q₃.spec 𝓤 H (𝓖 .A) (𝓜 .mem) (𝓡 .run))) 𝓜 𝓡 f.Code.env q₃.Symbol.name q₃.Symbol.routine f.Code.calls-adding·asking·device (q₃.Met.met 𝓤 H 𝓜 𝓖 𝓡);
-      k₄ = cited 𝓤 H (tripleOf 𝓤 H (𝓖 .A) q₄.signature (q₄.spec 𝓤 H (𝓖 .A) (𝓜 .mem) (𝓡 .run))) 𝓜 𝓡 f.Code.env q₄.Symbol.name q₄.Symbol.routine f.Code.calls-adding·asking·event (q₄.Met.met 𝓤 H 𝓜 𝓖 𝓡);
-      k₅ = cited 𝓤 H (tripleOf 𝓤 H (𝓖 .A) q₅.signature (q₅.spec 𝓤 H (𝓖 .A) (𝓜 .mem) (𝓡 .run))) 𝓜 𝓡 f.Code.env q₅.Symbol.name q₅.Symbol.routine f.Code.calls-adding·asking·lpi (q₅.Met.met 𝓤 H 𝓜 𝓖 𝓡);
+      k-ask-range = cited 𝓤 H (tripleOf 𝓤 H (𝓖 .A) ask-range.signature (ask-range.spec 𝓤 H (𝓖 .A) (𝓜 .mem) (𝓡 .run))) 𝓜 𝓡 f.Code.env ask-range.Symbol.name ask-range.Symbol.routine f.Code.calls-adding·asking·range (ask-range.Met.met 𝓤 H 𝓜 𝓖 𝓡);
       k-ask-input = cited 𝓤 H (tripleOf 𝓤 H (𝓖 .A) ask-input.signature (ask-input.spec 𝓤 H (𝓖 .A) (𝓜 .mem) (𝓡 .run))) 𝓜 𝓡 f.Code.env ask-input.Symbol.name ask-input.Symbol.routine f.Code.calls-adding·asking·input (ask-input.Met.met 𝓤 H 𝓜 𝓖 𝓡);
       k-range = cited 𝓤 H (tripleOf 𝓤 H (𝓖 .A) range.signature (range.spec 𝓤 H (𝓖 .A) (𝓜 .mem) (𝓡 .run))) 𝓜 𝓡 f.Code.env range.Symbol.name range.Symbol.routine f.Code.calls-adding·answer·range (range.Met.met 𝓤 H 𝓜 𝓖 𝓡);
       k-input = cited 𝓤 H (tripleOf 𝓤 H (𝓖 .A) inputs.signature (inputs.spec 𝓤 H (𝓖 .A) (𝓜 .mem) (𝓡 .run))) 𝓜 𝓡 f.Code.env inputs.Symbol.name inputs.Symbol.routine f.Code.calls-adding·answer·input (inputs.Met.met 𝓤 H 𝓜 𝓖 𝓡);

@@ -1,10 +1,12 @@
 -- `sound::lent::ranges_given` meets its contract: the columns and counts of the three lent tables are handed to the test over columns. Assumes nothing.
 use Rattle.walks.proofs.Prelude.{_≡_, refl, Bool, [], _∷_, List, none, URA, named, vbool, SProp, emp, id⊢, Lft, Share, Memory, Routine, Heap, WpFn, Tables, Atoms, fmOf, Fun, factI, AllOutlive, givenOf, tables, tablesOf, Given, Item, ‵, owns, flat, Is, bool-makes, ptr-vals, shr-tells, typesAt, Args, Vals, Meets, tripleOf, Triple, entered, cited}
-use denote.Struct.Laws as LL
+use denote.Enum.Laws as EE
+use Rattle.tables.specs.Views.{kindOf}
+use Rattle.tables.proofs.Kind as K
+use Rattle.tables.proofs.Kind.Laws as K′
 use Rattle.tables.proofs.Pool as P
 use Rattle.tables.proofs.Ranges as R
-use Rattle.table_tests.proofs.limits.Limits as L
-use Rattle.table_tests.proofs.limits.Limits.Laws as L′
+use Rattle.table_tests.specs.Tests.{limitsOf}
 use Rattle.sound.specs.Tests.{givenRanges}
 use Rattle.walks.proofs.Straight.{first, others, given, Gives, Runs, back, point, ask, nil, arg}
 use Rattle.walks.proofs.Passing.{Plain, booleanAs, valueAs, Arg, plainly, slots, valsOf, passing, among}
@@ -18,22 +20,22 @@ module _ {M : Type 1} (𝓤 : URA M) (H : Heap 𝓤) (A : Atoms 𝓤) (W : Given
   X = booleanAs 𝓤 H A W
 
   -- the parameters a, and their machine values vss
-  module _ (κ : Lft) (q : Share) (bounds : AllOutlive 1 [] (κ, tt)) (a : Args f.signature (κ, tt)) (l-is : Is L.the-row (a .0) (LL.vals L.the-type L′.the-laws (a .0))) where
+  module _ (κ : Lft) (q : Share) (bounds : AllOutlive 1 [] (κ, tt)) (a : Args f.signature (κ, tt)) (k-is : Is K.the-row (a .0) (EE.vals K.the-type K′.the-laws (a .0))) where
     abbrev vss : Vals f.signature (κ, tt)
-    vss = (LL.vals L.the-type L′.the-laws (a .0), (ptr-vals (a .1 .0), (ptr-vals (a .1 .1 .0), (ptr-vals (a .1 .1 .1 .0), tt))))
+    vss = (EE.vals K.the-type K′.the-laws (a .0), (ptr-vals (a .1 .0), (ptr-vals (a .1 .1 .0), (ptr-vals (a .1 .1 .1 .0), tt))))
 
     abbrev r : Item 𝓤
     r = ‵ (owns (typesAt (f.signature .params) (κ, tt)) a vss)
 
     abbrev passed : List (Arg 𝓤 H A W κ q r)
     passed =
-        plainly L.the-row (a .0) (LL.val L.the-type L′.the-laws (a .0)) (LL.makes L.the-type L′.the-plain 𝓤 H A (a .0) _ l-is) ∷
+        plainly K.the-row (a .0) (EE.val K.the-type K′.the-laws (a .0)) (EE.makes K.the-type K′.the-plain 𝓤 H A (a .0) _ k-is) ∷
         pool-columns 𝓤 H A W κ q r (a .1 .0 .ptr .0) (a .1 .0 .ptr .1) (a .1 .0 .name) (a .1 .0 .now) (among 𝓤 H A W κ q (typesAt (f.signature .params) (κ, tt)) a vss 1) (
         pool-columns 𝓤 H A W κ q r (a .1 .1 .0 .ptr .0) (a .1 .1 .0 .ptr .1) (a .1 .1 .0 .name) (a .1 .1 .0 .now) (among 𝓤 H A W κ q (typesAt (f.signature .params) (κ, tt)) a vss 2) (
         ranges-columns 𝓤 H A W κ q r (a .1 .1 .1 .0 .ptr .0) (a .1 .1 .1 .0 .ptr .1) (a .1 .1 .1 .0 .name) (a .1 .1 .1 .0 .now) (among 𝓤 H A W κ q (typesAt (f.signature .params) (κ, tt)) a vss 3) []))
 
     abbrev Says : Bool → Type 0
-    Says d = d ≡ givenRanges (a .0) (a .1 .0 .now) (a .1 .1 .0 .now) (a .1 .1 .1 .0 .now)
+    Says d = d ≡ givenRanges (limitsOf (kindOf (a .0))) (a .1 .0 .now) (a .1 .1 .0 .now) (a .1 .1 .1 .0 .now)
 
     gives : Gives 𝓤 H A W (𝓣 .C) (mine 𝓤 H A W (f.signature .params) (f.ended .kept) X κ q a vss) g.Symbol.name (flat (typesAt (slots 𝓤 H A W κ q r passed) (κ, tt)) (valsOf 𝓤 H A W κ q r passed)) (valueAs X) Says
     gives = passing 𝓤 H A W κ q r (𝓣 .C) (fmOf 𝓤 H (W .laws) 𝓣) g.Symbol.name X Says passed (g.ended .kept) (g.clauses 𝓤 H A at-mem run) known (λ γs. tt) (λ γs. id⊢ 𝓤 (emp 𝓤)) (λ γs d e. id⊢ 𝓤 _)
@@ -50,10 +52,10 @@ module _ {M : Type 1} (𝓤 : URA M) (H : Heap 𝓤) (A : Atoms 𝓤) (W : Given
   f-meets : Meets 𝓤 H A f.signature (WpFn 𝓤 H (𝓣 .C) (𝓣 .Λ) f.Code.function) (f.spec 𝓤 H A at-mem run)
   f-meets =
       frame 𝓤 H A W (f.signature .params) (f.ended .kept) X (f.clauses 𝓤 H A at-mem run) 𝓣 f.Code.function (first (f.Code.function .locals)) (others (f.Code.function .locals)) refl
-      (λ κs. (LL.vals L.the-type L′.the-laws, (ptr-vals, (ptr-vals, (ptr-vals, tt)))))
-      (λ κs. (LL.tells L.the-type L′.the-laws, (shr-tells (named 0) (κs .0) P.the-row, (shr-tells (named 0) (κs .0) P.the-row, (shr-tells (named 0) (κs .0) R.the-row, tt)))))
+      (λ κs. (EE.vals K.the-type K′.the-laws, (ptr-vals, (ptr-vals, (ptr-vals, tt)))))
+      (λ κs. (EE.tells K.the-type K′.the-laws, (shr-tells (named 0) (κs .0) P.the-row, (shr-tells (named 0) (κs .0) P.the-row, (shr-tells (named 0) (κs .0) R.the-row, tt)))))
       ((λ κs x f. refl), ((λ κs x f. refl), ((λ κs x f. refl), ((λ κs x f. refl), tt)))) (λ κ a. Unit {0}) (λ κ a g. factI 𝓤 _ (emp 𝓤) tt)
-      (λ κ q bounds a g _ are. ((LL.lawful L.the-type L′.the-laws 𝓤 H A W .typed (a .0) _ (are .0) .0, ((tt, tt), ((tt, tt), ((tt, tt), tt)))), walk κ q bounds a (are .0)))
+      (λ κ q bounds a g _ are. ((EE.lawful K.the-type K′.the-laws 𝓤 H A W tt .typed (a .0) _ (are .0) .0, ((tt, tt), ((tt, tt), ((tt, tt), tt)))), walk κ q bounds a (are .0)))
 
 pub ranges-given-spec : {M : Type 1} → f.Statement.statement M
 unfolding f.Code.routine tablesOf

@@ -1,17 +1,18 @@
--- A part of a lent state in a walk by the locals' values (Steps.antt of `inplace`): copied out, another one stored, lent to a callee. Over any type of states and parts, so that nothing of the tables can be unfolded. Assumes `Given`.
+-- A part of a lent state in a walk by the locals' values (Steps.antt): copied out, another one stored, lent to a callee. Over any type of states and parts, so that nothing of the tables can be unfolded. Assumes `Given`.
 --     takes        `_l = (*_p).part`
 --     puts         `(*_p).part = _k`
+--     tells        `(*_p).part = x`, where the part is a number
 --     lends        what a call does to the state that is lent a `&mut` of the part. What it leaves there must be told before the call: `Leaves` is what it promises, `Comes` that this can only be x′
-use Rattle.walks.proofs.Prelude.{_≡_, refl, sym, subst, ℕ, [], _∷_, List, URA, fullShare, T as Holds, Name, named, Ty, Step as PStep, place, deref, copy, rvOpd, seq, assign, Local, Val, WT, hasTy, vunit, vptr, ent, sep, wand, via, monoL, apply∗, id⊢, Fml, GName, Lft, Share, ftrue, fat, flft, fobs, fbor, fres, fauth, fobor, flent, Heap, Env, Calls, Loops, Atoms, sem, fact, FmC, Given, Go, Item, Post, mean, ⋆, ‵, raw, _⊛_, some, given, later, _$_, _∵_, !, qed, by, move, keep, drop, use1, use2, use3, split, join, pick, learn, rewrite, await, updating, now as at-once, show, done, fsplit3, fjoin3, feqI, Reads, Writes, look, store, stop, hop, from, load, of-opd, assigns, Body as Borrowed, open-ref, close-ref, lft-new, lft-end, RattleType, Is, shows, mem, partAt, MutRef, lends-ref, ref-back, facts, owned, heard, says}
+use Rattle.walks.proofs.Prelude.{_≡_, refl, sym, subst, ℕ, _<_, _^_, [], _∷_, List, URA, fullShare, T as Holds, Name, named, Ty, tyInt, w64, Step as PStep, place, deref, Opd as Operand, copy, rvOpd, seq, assign, Local, Val, WT, hasTy, vunit, vint, vptr, ent, sep, wand, via, monoL, apply∗, GName, Lft, Share, fat, froom, flft, fobs, fres, fauth, fobor, flent, Heap, Calls, Loops, Atoms, sem, fact, FmC, Given, Go, Item, Post, mean, ⋆, ‵, raw, _⊛_, some, given, later, _$_, _∵_, !, qed, by, move, keep, drop, use1, use2, use3, split, join, pick, learn, rewrite, await, updating, now as at-once, show, done, fsplit3, fjoin3, feqI, Reads, Writes, look, store, init, stop, hop, from, load, of-opd, assigns, Body as Borrowed, open-ref, close-ref, lft-new, lft-end, RattleType, Is, shows, mem, partAt, MutRef, lends-ref, ref-back, facts, owned, heard, says, rtF, fInt, to-mem-at, part-room}
 use mathlib.Core.Option.{some as present}
 use mir.Syntax.{Body}
-use types.Run.{Walks}
+use types.Run.{Walks, Opd}
 use Rattle.walks.proofs.Straight.{Store, val, set, tyAt, Has, reads, writes}
 use Rattle.inplace.proofs.LendPart.{Piece}
 use Rattle.inplace.proofs.Plain.{Plain, the-row, Good}
 use Rattle.inplace.proofs.Lies.{lies-in, lies-out}
 use Rattle.inplace.proofs.Acts.{After, Acts}
-use Rattle.inplace.proofs.Steps.{Does, En, local-of}
+use Rattle.inplace.proofs.Steps.{At, Does, En, local-of}
 
 -- ---- what lies in front of two things that are held as one
 module _ {M : Type 1} {𝓤 : URA M} {H : Heap 𝓤} {A : Atoms 𝓤} {W : Given 𝓤 H A} {i j : Item 𝓤} {Γ : List (Item 𝓤)} {τ : Ty} {b o : ℕ} {v : Val} where
@@ -100,6 +101,29 @@ module _ {M : Type 1} {𝓤 : URA M} {H : Heap 𝓤} {A : Atoms 𝓤} (W : Given
                 assigns ! (of-opd ! (local-of W C Λ ls f (Cell x ⊛ Rest h h′ x′) σ k (F .val x′) e′ hk)) (from ! (hop ! (reads W ls f (Cell x ⊛ Rest h h′ x′) σ p (vptr b o) e hp) (way _)))
                 (front-writes (store ! 0 refl (F .typed x′ (F .val x′) is′))) $ closes-part C Λ ls f h h′ x′ is′ n .seq-of;
           })
+
+  -- ---- a part that is a number
+  module _ (C : Calls 𝓤 H) (Λ : Loops 𝓤 H) (ls : List Local) (f : ℕ → ℕ) {goal : Post 𝓤 H} {rest : Body} {σ : Store} (π : Ty) (st : List PStep) (a : ℕ) (way : (Δ : List (Item 𝓤)) → Walks (Go {0}) W Δ (En W C Λ ls f) (π, b, o) st (tyInt w64, b, a)) where
+    pub tells : (h h′ : T .Denot) (n n′ : ℕ) (x : Operand) {p : ℕ} → Piece 𝓤 H A W (rtF (fInt w64)) (partAt T fullShare h b o) (partAt T fullShare h′ b o) n n′ b a → n′ < 2 ^ 64 → val p σ ≡ present (vptr b o) → Has p ls
+        → ((I : Item 𝓤) → Opd (Go {0}) W (At W C Λ ls f I σ) (En W C Λ ls f) x (vint w64 n′)) → Does W C Λ ls f (Stands h′) σ rest goal → Does W C Λ ls f (Stands h) σ (seq (assign (place p (deref π ∷ st)) (rvOpd x)) rest) goal
+    tells h h′ n n′ x {p} piece fits e hp value k =
+        record {
+          seq-of =
+              split ! $ fsplit3 ! $ drop ! $ open-ref ! tt (mem T) {b = b} {o = o} $
+              use1 W (‵ (partAt (rtF (fInt w64)) fullShare n b a) ⊛ raw (wand 𝓤 (sem 𝓤 H A (partAt (rtF (fInt w64)) fullShare n′ b a)) (sem 𝓤 H A (partAt T fullShare h′ b o)))) piece $ split ! $
+              use1 W (‵ (froom (tyInt w64) b a)) (part-room 𝓤 H A W (rtF (fInt w64)) n b a) $
+              -- [room for the number; the way back 1; the open borrow 2; obs 3; auth 4]
+              move ! (3 ∷ 4 ∷ []) $ join ! $ move ! (3 ∷ 0 ∷ []) $ join ! $ move ! (2 ∷ 0 ∷ []) $ join ! $ move ! (1 ∷ 0 ∷ []) $ join ! $
+              assigns ! (of-opd ! (value (‵ (froom (tyInt w64) b a) ⊛ Kept))) (from ! (hop ! (reads W ls f (‵ (froom (tyInt w64) b a) ⊛ Kept) σ p (vptr b o) e hp) (way _))) (front-writes (init ! 0 refl (tt, record { fits = fits }))) $
+              split ! $ use1 W (‵ (partAt (rtF (fInt w64)) fullShare n′ b a)) (to-mem-at 𝓤 H A W (fInt w64) n′ b a) $
+              move ! (1 ∷ []) $ split ! $ move ! (1 ∷ []) $ split ! $ move ! (1 ∷ []) $ split ! $
+              -- [obs; auth 1; the open borrow 2; the way back 3; the number 4]
+              move ! (4 ∷ 3 ∷ []) $ use2 W (‵ (partAt T fullShare h′ b o)) (apply∗ 𝓤 (sem 𝓤 H A (partAt (rtF (fInt w64)) fullShare n′ b a)) (sem 𝓤 H A (partAt T fullShare h′ b o))) $
+              move ! (0 ∷ 3 ∷ 1 ∷ 2 ∷ []) $ close-ref ! tt (mem T) h′ {b = b} {o = o} $ feqI ! (List Val) (vptr b o ∷ []) (vptr b o ∷ []) refl $ fjoin3 ! $ join ! $ k .seq-of;
+        }
+      where
+        Kept : Item 𝓤
+        Kept = raw (wand 𝓤 (sem 𝓤 H A (partAt (rtF (fInt w64)) fullShare n′ b a)) (sem 𝓤 H A (partAt T fullShare h′ b o))) ⊛ (‵ (fobor κ q (Borrowed (mem T) b o γ)) ⊛ (‵ (fobs γ (T .coded .code h)) ⊛ ‵ (fauth γ (T .coded .code h))))
 
   -- ---- a callee that is lent a part of F, and leaves there what comes to x′
   module _ (C : Calls 𝓤 H) (fm : FmC 𝓤 H (W .laws) C) (F : RattleType) (a : ℕ) (h h′ : T .Denot) (x x′ : F .Denot) (piece : Piece 𝓤 H A W F (partAt T fullShare h b o) (partAt T fullShare h′ b o) x x′ b a) (g : Name) (vs : List Val) (K : F .Denot → Type 0) (Q : Type 0) (comes : Comes W b F a K x′ Q) (leaves : Leaves W b C g F x K a vs) where
