@@ -19,7 +19,7 @@ use Rattle.definition.specs.ResolveLaws.{Ground}
 use Rattle.definition.specs.RowLaws.{every-kind}
 use Rattle.definition.specs.StateLaws.{sound-ground, sound-for}
 use Rattle.definition.specs.PlanLaws.{plan-says, plan-requests}
-use Rattle.flat.specs.Flat.{requestSize, choiceAt, fits, Form, unknown, mmio, pio, input, host, messages, formAt, readable, wantAt, orBad, requestIn, numberAt, requestAt, requestsFrom, requestsOf}
+use Rattle.flat.specs.Flat.{requestSize, choiceAt, fits, Form, unknown, mmio, pio, input, host, msi, formAt, readable, wantAt, orBad, requestIn, numberAt, requestAt, requestsFrom, requestsOf}
 use Rattle.flat.proofs.FlatLaws.{request-reads, requests-read, requests-length}
 use Rattle.flat.specs.Pin.{pinChoiceAt, pinForm, grantedAt, pinChoices, tellsOf, ownRecord, pinOne, pinFrom, pinnedNumbers}
 use Rattle.flat.proofs.PinLaws.{one-own, one-length}
@@ -49,12 +49,12 @@ module _ (q s a b c x n y m z l : ℕ) (cs : List Claim) where
       let p : Request = asks q s (wantAt f a b c (choiceAt (pinCode x) (pinNumber x n g)) (choiceAt y m) (choiceAt z l)) in
       ap (λ (v : Bool). orBad v p) e ∙ ap (λ (d : Choice). asks q s (wantAt f a b c d (choiceAt y m) (choiceAt z l))) (choice-pinned x n g) ∙ ap (asks q s) w
 
-  form-three : (g h k : ℕ) → g ≤ top 32 → h ≤ top 32 → k ≤ top 32 → T (reads messages x n y m z l) → g ≡ baseAt 0 cs → h ≡ baseAt 1 cs → k ≡ baseAt 2 cs
-      → formed messages (pinCode x) (pinNumber x n g) (pinCode y) (pinNumber y m h) (pinCode z) (pinNumber z l k) ≡ pinned (grant (asks q s (wanted messages)) cs)
+  form-three : (g h k : ℕ) → g ≤ top 32 → h ≤ top 32 → k ≤ top 32 → T (reads msi x n y m z l) → g ≡ baseAt 0 cs → h ≡ baseAt 1 cs → k ≡ baseAt 2 cs
+      → formed msi (pinCode x) (pinNumber x n g) (pinCode y) (pinNumber y m h) (pinCode z) (pinNumber z l k) ≡ pinned (grant (asks q s (wanted msi)) cs)
   unfolding pinned wantAt pinWant
   form-three g h k lg lh lk t eg eh ek =
-      let e : reads messages (pinCode x) (pinNumber x n g) (pinCode y) (pinNumber y m h) (pinCode z) (pinNumber z l k) ≡ true =
-      ap (λ (v : Bool). fits q && (fits s && v)) (readable-three a b c x n y m z l g h k lg lh lk) ∙ T-true (reads messages x n y m z l) t in
+      let e : reads msi (pinCode x) (pinNumber x n g) (pinCode y) (pinNumber y m h) (pinCode z) (pinNumber z l k) ≡ true =
+      ap (λ (v : Bool). fits q && (fits s && v)) (readable-three a b c x n y m z l g h k lg lh lk) ∙ T-true (reads msi x n y m z l) t in
       let p : Request = asks q s (msiWant a b c (choiceAt (pinCode x) (pinNumber x n g)) (choiceAt (pinCode y) (pinNumber y m h)) (choiceAt (pinCode z) (pinNumber z l k))) in
       ap (λ (v : Bool). orBad v p) e ∙ (λ t. asks q s (msiWant a b c (choice-pinned x n g t) (choice-pinned y m h t) (choice-pinned z l k t)))
       ∙ (λ t. asks q s (msiWant a b c (pinChoice (choiceAt x n) (eg t)) (pinChoice (choiceAt y m) (eh t)) (pinChoice (choiceAt z l) (ek t))))
@@ -86,7 +86,7 @@ module _ (i : ℕ) (rq : List ℕ) (G : ℕ → ℕ) (cs : List Claim) (long : r
   by-form pio e t low gr = one-formed pio (G 3) tt e t (ap (λ (v : ℕ). pioWant (N 3) (N 4) (pinChoice (choiceAt (N 6) (N 7)) v)) (gr 3 (omega arith)))
   by-form input e t low gr = one-formed input (G 4) tt e t (ap (λ (v : ℕ). inputWant (N 3) (N 4) (N 5) (pinChoice (choiceAt (N 6) (N 7)) v)) (gr 4 (omega arith)))
   by-form host e t low gr = one-formed host (G 3) tt e t (ap (λ (v : ℕ). hostWant (pinChoice (choiceAt (N 6) (N 7)) v)) (gr 3 (omega arith)))
-  by-form messages e t low gr =
+  by-form msi e t low gr =
       three-choices i (G 5) (G 6) (G 7) rq long
       ∙ ap
       (λ (F : Form). formed (N 1) (N 2) (N 3) (N 4) (N 5) (N 6) (N 7) (N 8) (N 9) (N 10) (N 11) cs F (pinCode (N 6)) (pinNumber (N 6) (N 7) (G 5)) (pinCode (N 8)) (pinNumber (N 8) (N 9) (G 6)) (pinCode (N 10)) (pinNumber (N 10) (N 11) (G 7)))
@@ -188,7 +188,7 @@ form-other f G i rq h j s u = go f
     go pio = one 6 (G 3) rq (omega arith)
     go input = one 6 (G 4) rq (omega arith)
     go host = one 6 (G 3) rq (omega arith)
-    go messages =
+    go msi =
         let p : ℕ = requestSize * i in
         one 10 (G 7) (pinChoiceAt (p + 8) (G 6) (pinChoiceAt (p + 6) (G 5) rq)) (omega arith) ∙ one 8 (G 6) (pinChoiceAt (p + 6) (G 5) rq) (omega arith) ∙ one 6 (G 5) rq (omega arith)
 

@@ -9,7 +9,7 @@ use lib.ListN.{length, getD, set, length-set}
 use lib.Seq.{getD-set-same, getD-set-other}
 use Rattle.definition.specs.Tables.{top}
 use Rattle.definition.specs.Plan.{pinChoice}
-use Rattle.flat.specs.Flat.{requestSize, known, choiceAt, named, allFit, Form, unknown, mmio, pio, input, host, messages, readable, requestIn, numberAt, requestAt}
+use Rattle.flat.specs.Flat.{requestSize, known, choiceAt, named, allFit, Form, unknown, mmio, pio, input, host, msi, readable, requestIn, numberAt, requestAt}
 use Rattle.flat.specs.Pin.{ifAuto, pinChoiceAt}
 use Rattle.flat.proofs.PinLaws.{pin-choice-length}
 
@@ -63,7 +63,7 @@ Single mmio = Unit {0}
 Single pio = Unit {0}
 Single input = Unit {0}
 Single host = Unit {0}
-Single messages = ⊥
+Single msi = ⊥
 
 pub readable-one : (f : Form) (a b c x n n′ y m z l : ℕ) → Single f → readable f a b c (pinCode x) n′ y m z l ≡ readable f a b c x n y m z l
 unfolding readable
@@ -72,7 +72,7 @@ readable-one mmio a b c x n n′ y m z l s = known-pinned x
 readable-one pio a b c x n n′ y m z l s = known-pinned x
 readable-one input a b c x n n′ y m z l s = ap (λ (t : Bool). allFit a b c && t) (known-pinned x)
 readable-one host a b c x n n′ y m z l s = known-pinned x
-readable-one messages a b c x n n′ y m z l s = absurd s
+readable-one msi a b c x n n′ y m z l s = absurd s
 
 -- a number that was granted has 32 bits, so the pinned choice can be read where the choice could
 named-pinned : (code n g : ℕ) → g ≤ top 32 → named (pinCode code) (pinNumber code n g) ≡ named code n
@@ -80,7 +80,7 @@ named-pinned zero n g h = le-leb g (top 32) h
 named-pinned (suc code) n g h = refl
 
 pub readable-three : (a b c x n y m z l g h k : ℕ) → g ≤ top 32 → h ≤ top 32 → k ≤ top 32
-    → readable messages a b c (pinCode x) (pinNumber x n g) (pinCode y) (pinNumber y m h) (pinCode z) (pinNumber z l k) ≡ readable messages a b c x n y m z l
+    → readable msi a b c (pinCode x) (pinNumber x n g) (pinCode y) (pinNumber y m h) (pinCode z) (pinNumber z l k) ≡ readable msi a b c x n y m z l
 unfolding readable
 readable-three a b c x n y m z l g h k lg lh lk = λ t. allFit a b c && (named-pinned x n g lg t && (named-pinned y m h lh t && named-pinned z l k lk t))
 

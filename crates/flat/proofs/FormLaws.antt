@@ -6,7 +6,7 @@ use native.Mathlib.Omega.{arith}
 use lib.Dec.{T, leb, leb→le}
 use Rattle.definition.specs.BaseLaws.{and-l, and-r}
 use Rattle.definition.specs.Request.{at}
-use Rattle.flat.specs.Flat.{choiceAt, named, allFit, unknown, input, messages, formAt, readable}
+use Rattle.flat.specs.Flat.{choiceAt, named, allFit, unknown, input, msi, formAt, readable}
 
 pub all-fit-says : (a b c : ℕ) → T (allFit a b c) → (a ≤ 4294967295) × (b ≤ 4294967295) × (c ≤ 4294967295)
 all-fit-says a b c t =
@@ -55,9 +55,9 @@ module _ (a b c x n y m z l : ℕ) where
   reads-host (suc (suc (suc (suc (suc zero))))) n₁ n₂ n₃ n₅ t = absurd (n₅ refl)
   reads-host (suc (suc (suc (suc (suc (suc k)))))) n₁ n₂ n₃ n₅ t = absurd t
 
-  pub reads-messages : T (readable messages a b c x n y m z l) → T (allFit a b c) × T (named x n) × T (named y m) × T (named z l)
+  pub reads-msi : T (readable msi a b c x n y m z l) → T (allFit a b c) × T (named x n) × T (named y m) × T (named z l)
   unfolding readable
-  reads-messages t =
+  reads-msi t =
       let u : T (named x n && (named y m && named z l)) = and-r (allFit a b c) _ t in
       let v : T (named y m && named z l) = and-r (named x n) _ u in
       (and-l (allFit a b c) _ t, and-l (named x n) _ u, and-l (named y m) _ v, and-r (named y m) _ v)

@@ -8,7 +8,7 @@ use lib.Dec.{eqb}
 use borrow.Author.Tests.{eq-eqb, ne-eqb}
 use lib.ListN.{length, getD, set, length-set}
 use Rattle.definition.specs.Tables.{recordSize}
-use Rattle.flat.specs.Flat.{requestSize, Form, unknown, mmio, pio, input, host, messages, formAt, numberAt, requestAt}
+use Rattle.flat.specs.Flat.{requestSize, Form, unknown, mmio, pio, input, host, msi, formAt, numberAt, requestAt}
 use Rattle.flat.proofs.FormLaws.{form-past}
 use Rattle.flat.specs.Pin.{ifAuto, pinChoiceAt, pinForm, grantedAt, pinChoices, tellsOf, ownRecord, pinOne, pinFrom}
 
@@ -61,8 +61,8 @@ module _ (res : List ℕ) (i : ℕ) (rq : List ℕ) where
   pub choices-input : kind ≡ 3 → pinChoiceAt (to + 6) (g 4) rq ≡ pinChoices res i rq
   choices-input e = sym (choices-is res i rq ∙ ap (λ (k : ℕ). pinForm (formAt k) g to rq) e)
 
-  pub choices-messages : kind ≡ 5 → pinChoiceAt (to + 10) (g 7) (pinChoiceAt (to + 8) (g 6) (pinChoiceAt (to + 6) (g 5) rq)) ≡ pinChoices res i rq
-  choices-messages e = sym (choices-is res i rq ∙ ap (λ (k : ℕ). pinForm (formAt k) g to rq) e)
+  pub choices-msi : kind ≡ 5 → pinChoiceAt (to + 10) (g 7) (pinChoiceAt (to + 8) (g 6) (pinChoiceAt (to + 6) (g 5) rq)) ≡ pinChoices res i rq
+  choices-msi e = sym (choices-is res i rq ∙ ap (λ (k : ℕ). pinForm (formAt k) g to rq) e)
 
   pub choices-plain : (kind ≡ 0 → ⊥) → kind ≤ 5 → (kind ≡ 3 → ⊥) → (kind ≡ 5 → ⊥) → pinChoiceAt (to + 6) (g 3) rq ≡ pinChoices res i rq
   choices-plain n₀ l n₃ n₅ = sym (choices-is res i rq ∙ go kind n₀ l n₃ n₅)
@@ -82,7 +82,7 @@ form-length mmio g p rq = pin-choice-length (p + 6) (g 3) rq
 form-length pio g p rq = pin-choice-length (p + 6) (g 3) rq
 form-length input g p rq = pin-choice-length (p + 6) (g 4) rq
 form-length host g p rq = pin-choice-length (p + 6) (g 3) rq
-form-length messages g p rq =
+form-length msi g p rq =
     pin-choice-length (p + 10) (g 7) (pinChoiceAt (p + 8) (g 6) (pinChoiceAt (p + 6) (g 5) rq)) ∙ pin-choice-length (p + 8) (g 6) (pinChoiceAt (p + 6) (g 5) rq)
     ∙ pin-choice-length (p + 6) (g 5) rq
 

@@ -33,10 +33,10 @@ allFit a b c = fits a && (fits b && fits c)
 
 -- the kinds of request, by their numbers from 1 on
 pub data Form : Type 0 where
-  unknown mmio pio input host messages : Form
+  unknown mmio pio input host msi : Form
 
 abbrev pub forms : List Form
-forms = unknown ∷ mmio ∷ pio ∷ input ∷ host ∷ messages ∷ []
+forms = unknown ∷ mmio ∷ pio ∷ input ∷ host ∷ msi ∷ []
 
 abbrev pub formAt : ℕ → Form
 formAt kind = getD forms kind unknown
@@ -54,7 +54,7 @@ readable mmio a b c x n y m z l = known x
 readable pio a b c x n y m z l = known x
 readable input a b c x n y m z l = allFit a b c && known x
 readable host a b c x n y m z l = known x
-readable messages a b c x n y m z l = allFit a b c && (named x n && (named y m && named z l))
+readable msi a b c x n y m z l = allFit a b c && (named x n && (named y m && named z l))
 
 -- MMIO and PIO: a size, b alignment; an input: a controller, b trigger, c sharing; MSI: a controller, b ITS, c count, and its three choices device, event, LPI
 unfoldable pub wantAt : Form → ℕ → ℕ → ℕ → Choice → Choice → Choice → Want
@@ -63,7 +63,7 @@ wantAt mmio a b c cd ce cl = mmioWant a b cd
 wantAt pio a b c cd ce cl = pioWant a b cd
 wantAt input a b c cd ce cl = inputWant a b c cd
 wantAt host a b c cd ce cl = hostWant cd
-wantAt messages a b c cd ce cl = msiWant a b c cd ce cl
+wantAt msi a b c cd ce cl = msiWant a b c cd ce cl
 
 -- what cannot be read is a request of requester 0, which the definition itself answers with 2
 abbrev pub bad : Request

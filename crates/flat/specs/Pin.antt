@@ -5,7 +5,7 @@ use Prim.Native.Nat.{ℕ, zero, suc, _+_, _*_, _/_, min}
 use lib.Dec.{eqb}
 use lib.ListN.{length, getD, set}
 use Rattle.definition.specs.Tables.{recordSize}
-use Rattle.flat.specs.Flat.{requestSize, Form, unknown, mmio, pio, input, host, messages, formAt, numberAt, requestAt}
+use Rattle.flat.specs.Flat.{requestSize, Form, unknown, mmio, pio, input, host, msi, formAt, numberAt, requestAt}
 
 abbrev pub ifAuto : {A : Type 0} → ℕ → A → A → A
 ifAuto zero a b = a
@@ -22,7 +22,7 @@ pinForm mmio granted p rq = pinChoiceAt (p + 6) (granted 3) rq
 pinForm pio granted p rq = pinChoiceAt (p + 6) (granted 3) rq
 pinForm input granted p rq = pinChoiceAt (p + 6) (granted 4) rq
 pinForm host granted p rq = pinChoiceAt (p + 6) (granted 3) rq
-pinForm messages granted p rq = pinChoiceAt (p + 10) (granted 7) (pinChoiceAt (p + 8) (granted 6) (pinChoiceAt (p + 6) (granted 5) rq))
+pinForm msi granted p rq = pinChoiceAt (p + 10) (granted 7) (pinChoiceAt (p + 8) (granted 6) (pinChoiceAt (p + 6) (granted 5) rq))
 
 -- the j-th number of the i-th record
 abbrev pub grantedAt : List ℕ → ℕ → ℕ → ℕ

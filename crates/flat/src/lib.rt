@@ -16,7 +16,7 @@ ghost use Rattle.definition.specs.Request.{inputWant, msiWant};
 ghost use Rattle.choose.specs.Told.{choiceOf};
 ghost use Rattle.choose.specs.Ids.{deviceChoice, eventChoice, lpiChoice};
 ghost use Rattle.request.specs.Asked.{wantOf, requestOf};
-ghost use Rattle.flat.specs.Flat.{requestSize, choiceAt, named, allFit, input, messages, formAt, readable, wantAt, bad, requestIn, requestAt};
+ghost use Rattle.flat.specs.Flat.{requestSize, choiceAt, named, allFit, input, msi, formAt, readable, wantAt, bad, requestIn, requestAt};
 
 pub mod pin;
 
@@ -72,8 +72,8 @@ pub fn number_reads(code: u64, n: u64) -> bool
 }
 
 // .. the numbers of an MSI request.
-pub fn messages_read(a: u64, b: u64, c: u64, x: u64, n: u64, y: u64, m: u64, z: u64, l: u64) -> bool
-    ensures { λ r. ⌜ r ≡ readable messages a b c x n y m z l ⌝ }
+pub fn msi_read(a: u64, b: u64, c: u64, x: u64, n: u64, y: u64, m: u64, z: u64, l: u64) -> bool
+    ensures { λ r. ⌜ r ≡ readable msi a b c x n y m z l ⌝ }
 {
     if !all_fit(a, b, c) {
         return false;
@@ -112,7 +112,7 @@ pub fn readable(
         return wired_reads(a, b, c, x);
     }
     if kind == 5 {
-        return messages_read(a, b, c, x, n, y, m, z, l);
+        return msi_read(a, b, c, x, n, y, m, z, l);
     }
     x <= 1
 }
@@ -164,8 +164,8 @@ pub fn lpi_of(code: u64, n: u64) -> LpiChoice
 }
 
 // What is asked of an MSI domain.
-pub fn messages(a: u64, b: u64, c: u64, x: u64, n: u64, y: u64, m: u64, z: u64, l: u64) -> Want
-    requires { ⌜ T (readable messages a b c x n y m z l) ⌝ }
+pub fn msi(a: u64, b: u64, c: u64, x: u64, n: u64, y: u64, m: u64, z: u64, l: u64) -> Want
+    requires { ⌜ T (readable msi a b c x n y m z l) ⌝ }
     ensures { λ r. ⌜ wantOf r ≡ msiWant a b c (choiceAt x n) (choiceAt y m) (choiceAt z l) ⌝ }
 {
     let device = device_of(x, n);
@@ -198,7 +198,7 @@ pub fn want_of(
     ensures { λ r. ⌜ wantOf r ≡ wantAt (formAt kind) a b c (choiceAt x n) (choiceAt y m) (choiceAt z l) ⌝ }
 {
     if kind == 5 {
-        return messages(a, b, c, x, n, y, m, z, l);
+        return msi(a, b, c, x, n, y, m, z, l);
     }
     let choice = choice_of(x, n);
     if kind == 1 {

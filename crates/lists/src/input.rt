@@ -25,7 +25,7 @@ pub const CONFLICT: usize = 64;
 const CALLS: u64 = 12;
 
 // A pool of MSI numbers, all three from and to the same.
-pub fn messages(from: u32, to: u32) -> PoolRange {
+pub fn domain(from: u32, to: u32) -> PoolRange {
     let d = Devices {
         start: DeviceId(from),
         end: DeviceId(to),
@@ -55,7 +55,7 @@ pub fn automatic(i: u64) -> PoolRange {
     if i == 3 {
         return PoolRange::Host(0, 4096);
     }
-    messages(0, 4096)
+    domain(0, 4096)
 }
 
 // Those that fixed requests are allowed in.
@@ -72,7 +72,7 @@ pub fn fixed(i: u64) -> PoolRange {
     if i == 3 {
         return PoolRange::Host(4096, 8192);
     }
-    messages(4096, 8192)
+    domain(4096, 8192)
 }
 
 // The calls that make the tables: five pools and five, one reservation, start.

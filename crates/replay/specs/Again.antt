@@ -9,7 +9,7 @@ use Rattle.definition.specs.Calls.{State, poolsOf, start, serve}
 use Rattle.definition.specs.Plan.{Lent}
 use Rattle.definition.specs.RequestLaws.{AutoInFixed}
 use Rattle.definition.specs.ReplayLaws.{Pick}
-use Rattle.flat.specs.Flat.{requestSize, Form, unknown, messages, formAt, flatPlan}
+use Rattle.flat.specs.Flat.{requestSize, Form, unknown, msi, formAt, flatPlan}
 use Rattle.flat.specs.Flat as F
 use Rattle.flat.specs.Pin.{pinnedNumbers}
 
@@ -41,7 +41,7 @@ rowsIn F.mmio r = at-kind mmio (rangeRow (dom 0 0 0) (r 3) (r 3 + r 4) (r 1)) �
 rowsIn F.pio r = at-kind pio (rangeRow (dom 0 0 0) (r 3) (r 3 + r 4) (r 1)) ∷ []
 rowsIn F.input r = at-kind input (wiredRow (r 3) (r 4) (r 5) (r 6) (r 1)) ∷ []
 rowsIn F.host r = at-kind host (rangeRow (dom 0 0 0) (r 3) (r 3 + 1) (r 1)) ∷ []
-rowsIn messages r =
+rowsIn msi r =
     at-kind device (rangeRow (dom (r 3) (r 4) 0) (r 5) (r 5 + 1) (r 1)) ∷ at-kind event (rangeRow (dom (r 3) (r 4) (r 5)) (r 6) (r 6 + r 8) (r 1))
     ∷ at-kind lpi (rangeRow (dom (r 3) 0 0) (r 7) (r 7 + r 8) (r 1)) ∷ []
 

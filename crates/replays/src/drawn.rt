@@ -45,7 +45,7 @@ pub fn code(seed: u32, i: u64, j: u64) -> u64 {
 }
 
 // The numbers of a line past its third. Fixed ones stand where no automatic pool is, each at its line's own place.
-pub fn memory(seed: u32, i: u64, j: u64) -> u64 {
+pub fn mmio(seed: u32, i: u64, j: u64) -> u64 {
     if j == 3 {
         return 4096 + draw(seed, i, 3) % 16 * 4096;
     }
@@ -58,7 +58,7 @@ pub fn memory(seed: u32, i: u64, j: u64) -> u64 {
     3221225472 + i % 128 * 1048576
 }
 
-pub fn ports(seed: u32, i: u64, j: u64) -> u64 {
+pub fn pio(seed: u32, i: u64, j: u64) -> u64 {
     if j == 3 {
         return 1 + draw(seed, i, 3) % 8;
     }
@@ -99,7 +99,7 @@ pub fn host(seed: u32, i: u64, j: u64) -> u64 {
     1000 + i % 128
 }
 
-pub fn messages(seed: u32, i: u64, j: u64) -> u64 {
+pub fn msi(seed: u32, i: u64, j: u64) -> u64 {
     if j == 3 {
         return 1;
     }
@@ -128,10 +128,10 @@ pub fn number(seed: u32, i: u64, j: u64) -> u64 {
         return i;
     }
     if kind == 1 {
-        return memory(seed, i, j);
+        return mmio(seed, i, j);
     }
     if kind == 2 {
-        return ports(seed, i, j);
+        return pio(seed, i, j);
     }
     if kind == 3 {
         return input(seed, i, j);
@@ -139,7 +139,7 @@ pub fn number(seed: u32, i: u64, j: u64) -> u64 {
     if kind == 4 {
         return host(seed, i, j);
     }
-    messages(seed, i, j)
+    msi(seed, i, j)
 }
 
 // All lines of a plan.

@@ -28,7 +28,7 @@ pub fn long(seed: u32, i: u64) -> u64
     draw(seed, 2001, i) % 65
 }
 
-pub fn messages(seed: u32) -> PoolRange {
+pub fn msi(seed: u32) -> PoolRange {
     let a = head(seed, 5) as u32;
     let b = head(seed, 6) as u32;
     let d = Devices {
@@ -46,7 +46,7 @@ pub fn messages(seed: u32) -> PoolRange {
     PoolRange::Msi(1, 2, d, e, l)
 }
 
-pub fn ports(head: u16, long: u16) -> PoolRange
+pub fn pio(head: u16, long: u16) -> PoolRange
     requires { ⌜ (head ≤ 500) × (long ≤ 64) ⌝ }
 {
     let start = head * 16;
@@ -62,7 +62,7 @@ pub fn automatic(seed: u32, i: u64) -> PoolRange {
         return PoolRange::Mmio(start, start + 524288 + n * 65536);
     }
     if i == 1 {
-        return ports(h as u16, n as u16);
+        return pio(h as u16, n as u16);
     }
     if i == 2 {
         return PoolRange::Input(1, h, h + 8 + n);
@@ -70,7 +70,7 @@ pub fn automatic(seed: u32, i: u64) -> PoolRange {
     if i == 3 {
         return PoolRange::Host(h, h + 8 + n);
     }
-    messages(seed)
+    msi(seed)
 }
 
 // Those that fixed requests are allowed in.

@@ -19,7 +19,7 @@ returns-3 c = rw (c .before .if3 .taken) (c .wired-reads .ensures)
 
 returns-4 : tie.Need-returns-4
 unfolding readable
-returns-4 c = rw (c .before .if4 .taken) (c .messages-read .ensures)
+returns-4 c = rw (c .before .if4 .taken) (c .msi-read .ensures)
 
 returns-5 : tie.Need-returns-5
 returns-5 c = readable-plain _ _ _ _ _ _ _ _ _ _ (omega arith) (omega arith) (c .before .if3 .left) (c .if4 .left)

@@ -5,12 +5,12 @@ use borrow.Author.Needs.{needs}
 use Rattle.flat.proofs.want_of.Statement.{statement}
 use Rattle.flat.proofs.want_of.Tie as tie
 
-messages-requires : tie.Need-messages-requires
-messages-requires c κs = rw (c .if1 .taken) at (c .before .pre)
+msi-requires : tie.Need-msi-requires
+msi-requires c κs = rw (c .if1 .taken) at (c .before .pre)
 
 returns : tie.Need-returns
 unfolding wantAt
-returns c = rw (c .before .if1 .taken) (c .messages .ensures)
+returns c = rw (c .before .if1 .taken) (c .msi .ensures)
 
 returns-2 : tie.Need-returns-2
 unfolding wantAt
@@ -32,4 +32,4 @@ unfolding wantAt
 returns-5 c = rw (reads-host _ _ _ _ _ _ _ _ _ _ (c .before .before .if2 .left) (c .before .if3 .left) (c .if4 .left) (c .before .before .before .before .if1 .left) (c .before .before .before .before .before .pre), c .before .before .before .choice-of .ensures)
 
 pub want-of-spec : {M : Type 1} → statement M
-want-of-spec = tie.close (tie.spec messages-requires returns (λ c κs. search needs) returns-2 returns-3 wired-requires returns-4 returns-5)
+want-of-spec = tie.close (tie.spec msi-requires returns (λ c κs. search needs) returns-2 returns-3 wired-requires returns-4 returns-5)

@@ -1,7 +1,7 @@
 -- Each kind. Assumes nothing.
 use mathlib.Core.Path.{ap, _∙_}
 use Rattle.flat.specs.Pin.{pinChoiceAt}
-use Rattle.flat.proofs.PinLaws.{choices-zero, choices-past, choices-input, choices-messages, choices-plain}
+use Rattle.flat.proofs.PinLaws.{choices-zero, choices-past, choices-input, choices-msi, choices-plain}
 use borrow.Author.Needs.{needs}
 use Rattle.flat.proofs.pin.pin_choices.Statement.{statement}
 use Rattle.flat.proofs.pin.pin_choices.Tie as tie
@@ -16,7 +16,7 @@ returns-3 : tie.Need-returns-3
 returns-3 c = c .before .before .pin-choice .ensures ∙ choices-input _ _ _ (c .before .before .before .before .before .if3 .taken)
 
 returns-4 : tie.Need-returns-4
-returns-4 c = c .before .before .pin-choice4 .ensures ∙ ap (pinChoiceAt _ _) (c .before .before .before .before .before .before .before .pin-choice3 .ensures ∙ ap (pinChoiceAt _ _) (c .before .before .before .before .before .before .before .before .before .before .before .before .pin-choice2 .ensures)) ∙ choices-messages _ _ _ (c .before .before .before .before .before .before .before .before .before .before .before .before .before .before .before .if4 .taken)
+returns-4 c = c .before .before .pin-choice4 .ensures ∙ ap (pinChoiceAt _ _) (c .before .before .before .before .before .before .before .pin-choice3 .ensures ∙ ap (pinChoiceAt _ _) (c .before .before .before .before .before .before .before .before .before .before .before .before .pin-choice2 .ensures)) ∙ choices-msi _ _ _ (c .before .before .before .before .before .before .before .before .before .before .before .before .before .before .before .if4 .taken)
 
 returns-5 : tie.Need-returns-5
 returns-5 c = c .before .before .pin-choice5 .ensures ∙ choices-plain _ _ _ (c .before .before .before .before .before .before .before .before .if1 .left) (c .before .before .before .before .before .before .before .if2 .left) (c .before .before .before .before .before .before .if3 .left) (c .before .before .before .before .before .if4 .left)
