@@ -32,40 +32,40 @@ use Rattle.adding.specs.declared.InputAsk.{InputAsk}
 
 -- one of two
 abbrev pub pick : {A : Type 0} → Bool → A → A → A
-pick true a b = a
-pick false a b = b
+pick true x y = x
+pick false x y = y
 
 -- ---- calls
 
 abbrev pub ranged : To → What → PoolRow → PoolRow → PoolRow → Adds
-ranged to k a b c = record { to = to; what = k; first = a; second = b; third = c; row = noRow; input = noInput }
+ranged to what first second third = record { to = to; what = what; first = first; second = second; third = third; row = noRow; input = noInput }
 
 abbrev pub held : What → RangeRow → InputRow → Adds
-held k r w = record { to = T.Held; what = k; first = noPoolRow; second = noPoolRow; third = noPoolRow; row = r; input = w }
+held what row input = record { to = T.Held; what = what; first = noPoolRow; second = noPoolRow; third = noPoolRow; row = row; input = input }
 
 abbrev pub useTo : Use → To
 useTo U.Automatic = T.Automatic
 useTo U.Fixed = T.Fixed
 
 abbrev pub once : To → What → PoolRow → Adds
-once to k r = ranged to k r r r
+once to what range = ranged to what range range range
 
 abbrev pub poolAdds : To → PoolRange → Adds
 poolAdds to (P.Mmio s e) = once to (W.One K.Mmio) (poolRow 0 0 s e)
 poolAdds to (P.Pio s e) = once to (W.One K.Pio) (poolRow 0 0 s e)
 poolAdds to (P.Host s e) = once to (W.One K.Host) (poolRow 0 0 s e)
 poolAdds to (P.Input c s e) = once to (W.One K.Input) (poolRow c 0 s e)
-poolAdds to (P.Msi c i d e l) = ranged to W.Domain (poolRow c i (d .start .0) (d .end .0)) (poolRow c i (e .start .0) (e .end .0)) (poolRow c 0 (l .start .0) (l .end .0))
+poolAdds to (P.Msi c i devices events lpis) = ranged to W.Domain (poolRow c i (devices .start .0) (devices .end .0)) (poolRow c i (events .start .0) (events .end .0)) (poolRow c 0 (lpis .start .0) (lpis .end .0))
 
 abbrev pub holdAdds : ℕ → Hold → Adds
 holdAdds o (H.Mmio s e) = held (W.One K.Mmio) (heldRow 0 0 0 s e o) noInput
 holdAdds o (H.Pio s e) = held (W.One K.Pio) (heldRow 0 0 0 s e o) noInput
 holdAdds o (H.Host s e) = held (W.One K.Host) (heldRow 0 0 0 s e o) noInput
-holdAdds o (H.Input c n t s) = held (W.One K.Input) noRow (inputRow c n t s o)
-holdAdds o (H.Devices c i d) = held (W.One K.Device) (heldRow c i 0 (d .start .0) (d .end .0) o) noInput
-holdAdds o (H.Events c i v e) = held (W.One K.Event) (heldRow c i (v .0) (e .start .0) (e .end .0) o) noInput
-holdAdds o (H.Lpis c l) = held (W.One K.Lpi) (heldRow c 0 0 (l .start .0) (l .end .0) o) noInput
-holdAdds o (H.Pair c n t h) = held W.Pair (heldRow 0 0 0 h (min (suc h) (top 64)) o) (inputRow c n t 0 o)
+holdAdds o (H.Input c n t sharing) = held (W.One K.Input) noRow (inputRow c n t sharing o)
+holdAdds o (H.Devices c i devices) = held (W.One K.Device) (heldRow c i 0 (devices .start .0) (devices .end .0) o) noInput
+holdAdds o (H.Events c i v events) = held (W.One K.Event) (heldRow c i (v .0) (events .start .0) (events .end .0) o) noInput
+holdAdds o (H.Lpis c lpis) = held (W.One K.Lpi) (heldRow c 0 0 (lpis .start .0) (lpis .end .0) o) noInput
+holdAdds o (H.Pair c n t irq) = held W.Pair (heldRow 0 0 0 irq (min (suc irq) (top 64)) o) (inputRow c n t 0 o)
 
 abbrev pub nothing : Adds
 nothing = once T.Nowhere W.Nothing noPoolRow

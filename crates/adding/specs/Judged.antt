@@ -78,4 +78,4 @@ inputPutOf v = record { go = staysOf v T.Held K.Input; row = v .adds .input }
 
 -- a pool table with the range, or as it was
 abbrev pub enteredView : PoolPut → Table Span → Table Span
-enteredView p t = pick (p .go) (storedOr t (addAny (spanOf (p .row)) (used t))) t
+enteredView put t = pick (put .go) (storedOr t (addAny (spanOf (put .row)) (used t))) t

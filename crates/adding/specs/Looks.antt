@@ -25,7 +25,7 @@ Fit a f n = Tidy a × (Tidy f × (n ≤ rowLimit))
 
 -- what a pool answers
 abbrev pub Adding : Pool → PoolRow → Reply → Type 0
-Adding t r a = heard a ≡ telling (addAny (spanOf r) (used (poolView t)))
+Adding t range r = heard r ≡ telling (addAny (spanOf range) (used (poolView t)))
 
 -- .. and the table that is asked: of a reservation that is accepted it is known that there is room
 abbrev pub Tells : Pool → Pool → Ranges → Ask → To → Reply → Type 0

@@ -22,14 +22,14 @@ recorded k r a b c d e f = record { kind = k; requester = r .requester; slot = r
 
 -- the record of a request whose rows have these first numbers: law `record-granted` ties it to the definition's
 abbrev pub recordFor : Request → Bases → Want → Record
-recordFor r b (Mmio s a c) = recorded 1 r (b .base) s 0 0 0 0
-recordFor r b (Pio s a c) = recorded 2 r (b .base) s 0 0 0 0
-recordFor r b (Input k t s c) = recorded 3 r k (b .base) t s 0 0
-recordFor r b (Host c) = recorded 4 r (b .base) 0 0 0 0 0
-recordFor r b (Msi k i n d e l) = recorded 5 r k i (b .device .0) (b .event .0) (b .lpi .0) n
+recordFor r bases (Mmio size alignment choice) = recorded 1 r (bases .base) size 0 0 0 0
+recordFor r bases (Pio size alignment choice) = recorded 2 r (bases .base) size 0 0 0 0
+recordFor r bases (Input controller trigger sharing choice) = recorded 3 r controller (bases .base) trigger sharing 0 0
+recordFor r bases (Host choice) = recorded 4 r (bases .base) 0 0 0 0 0
+recordFor r bases (Msi controller its count cd ce cl) = recorded 5 r controller its (bases .device .0) (bases .event .0) (bases .lpi .0) count
 
 abbrev pub recordIn : Request → Bases → Record
-recordIn r b = recordFor r b (r .want)
+recordIn r bases = recordFor r bases (r .want)
 
 -- one request on sound tables: the state afterwards, and the first numbers
 pub record Answers (s : State) (r : R.Request) (o : Outcome) : Type 0 where

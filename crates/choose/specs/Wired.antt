@@ -21,7 +21,7 @@ inputAsked w = inputNeed (w .controller) (w .trigger) (w .sharing) (w .requester
 
 -- the detail of the conflict with a row on the same input, if they cannot share it
 unfoldable pub verdict : Row → Row → Option ℕ
-verdict w r = elim (joins w r) [ true ↦ none | false ↦ some (detail input w r) ]
+verdict wanted held = elim (joins wanted held) [ true ↦ none | false ↦ some (detail input wanted held) ]
 
 abbrev pub sharingOf : Sharing → Option ℕ
 sharingOf Joins = none
@@ -29,7 +29,7 @@ sharingOf (Clashes d) = some d
 
 -- whatever input they are on
 abbrev pub Judges : InputNeed → Row → Sharing → Type 0
-Judges w held r = (b : ℕ) → sharingOf r ≡ verdict (rowAt (inputAsked w) b) held
+Judges w held sharing = (b : ℕ) → sharingOf sharing ≡ verdict (rowAt (inputAsked w) b) held
 
 abbrev pub AutomaticInput : Pool → ℕ → List ℕ → List ℕ → InputNeed → Chosen → Type 0
 AutomaticInput p on c x w r =

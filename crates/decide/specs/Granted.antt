@@ -35,43 +35,43 @@ use Rattle.decide.specs.declared.Rows.the-variants as R
 use Rattle.decide.specs.declared.Granted.{Granted}
 
 abbrev pub saying : ℕ → ℕ → ℕ → ℕ → Said
-saying n s o d = record { number = n; namespace = s; owner = o; detail = d }
+saying number namespace owner detail = record { number = number; namespace = namespace; owner = owner; detail = detail }
 
 -- the numbers of a refusal: law `refusal-told` ties them to 01's
 abbrev pub numbersOf : Refusal → Said
 numbersOf Malformed = saying 1 0 0 0
 numbersOf BadInput = saying 2 0 0 0
-numbersOf (FixedNotAllowed s) = saying 6 s 0 0
-numbersOf (Exhausted s) = saying 7 s 0 0
-numbersOf (Conflict s o d) = saying 8 s o d
+numbersOf (FixedNotAllowed namespace) = saying 6 namespace 0 0
+numbersOf (Exhausted namespace) = saying 7 namespace 0 0
+numbersOf (Conflict namespace owner detail) = saying 8 namespace owner detail
 numbersOf Full = saying 9 0 0 0
 numbersOf Short = saying 11 0 0 0
 
 -- rows, and five zeros
 abbrev pub granted : Rows → Bases → Granted
-granted r b = record { rows = r; bases = b; said = saying 0 0 0 0 }
+granted rows bases = record { rows = rows; bases = bases; said = saying 0 0 0 0 }
 
 abbrev pub refusal : Refusal → Granted
 refusal y = record { rows = R.Nothing; bases = noBases; said = numbersOf y }
 
 abbrev pub rowFor : Need → ℕ → ℕ → RangeRow
-rowFor n b e = record { controller = n .controller; its = n .its; device = n .device; start = b; end = e; owner = n .requester }
+rowFor n b end = record { controller = n .controller; its = n .its; device = n .device; start = b; end = end; owner = n .requester }
 
 abbrev pub inputFor : InputNeed → ℕ → InputRow
 inputFor w b = record { controller = w .controller; input = b; trigger = w .trigger; sharing = w .sharing; owner = w .requester }
 
 -- what stands, if the table has a free row for it
 abbrev pub orFull : Bool → ℕ → ℕ → Chosen
-orFull true b e = Stands b e
-orFull false b e = Refused Full
+orFull true b end = Stands b end
+orFull false b end = Refused Full
 
 abbrev pub standing : ℕ → Chosen → Chosen
-standing at (Stands b e) = orFull (ltb at rowLimit) b e
+standing at (Stands b end) = orFull (ltb at rowLimit) b end
 standing at (Refused y) = Refused y
 
 -- one table's answer: f of what stands
 abbrev pub given : (ℕ → ℕ → Granted) → Chosen → Granted
-given f (Stands b e) = f b e
+given f (Stands b end) = f b end
 given f (Refused y) = refusal y
 
 -- a row for the table of its kind; those of an MSI request come as three
@@ -85,13 +85,13 @@ placed K.Event r = R.Nothing
 placed K.Lpi r = R.Nothing
 
 abbrev pub rangeGranted : Need → ℕ → ℕ → Granted
-rangeGranted n b e = granted (placed (n .kind) (rowFor n b e)) (someBase b)
+rangeGranted n b end = granted (placed (n .kind) (rowFor n b end)) (someBase b)
 
 abbrev pub rangeVerdict : Need → Seen → Granted
 rangeVerdict n x = given (rangeGranted n) (standing (x .at) (x .chosen))
 
 abbrev pub inputGranted : InputNeed → ℕ → ℕ → Granted
-inputGranted w b e = granted (R.Input (inputFor w b)) (someBase b)
+inputGranted w b end = granted (R.Input (inputFor w b)) (someBase b)
 
 abbrev pub inputVerdict : InputNeed → Seen → Granted
 inputVerdict w x = given (inputGranted w) (standing (x .at) (x .chosen))
@@ -104,16 +104,16 @@ msiGiven m (M.Stands d e l) = msiGranted m d e l
 msiGiven m (M.Refused y) = refusal y
 
 abbrev pub msiVerdict : Msi → Seen → Seen → Seen → Granted
-msiVerdict m d e l = msiGiven m (chained (deviceIn (d .chosen)) (eventIn (e .chosen)) (lpiIn (l .chosen)) (d .at) (e .at) (l .at))
+msiVerdict m sd se sl = msiGiven m (chained (deviceIn (sd .chosen)) (eventIn (se .chosen)) (lpiIn (sl .chosen)) (sd .at) (se .at) (sl .at))
 
 -- MMIO, ports, the input, the host IRQ, the device with its events and LPIs
 abbrev pub verdictOf : Query → Seen → Seen → Seen → Seen → Seen → Seen → Seen → Granted
-verdictOf Q.Nothing m p w h d e l = refusal BadInput
-verdictOf (Q.Mmio n c) m p w h d e l = rangeVerdict n m
-verdictOf (Q.Pio n c) m p w h d e l = rangeVerdict n p
-verdictOf (Q.Input x c) m p w h d e l = inputVerdict x w
-verdictOf (Q.Host n c) m p w h d e l = rangeVerdict n h
-verdictOf (Q.Msi x) m p w h d e l = msiVerdict x d e l
+verdictOf Q.Nothing sm sp si sh sd se sl = refusal BadInput
+verdictOf (Q.Mmio n c) sm sp si sh sd se sl = rangeVerdict n sm
+verdictOf (Q.Pio n c) sm sp si sh sd se sl = rangeVerdict n sp
+verdictOf (Q.Input w c) sm sp si sh sd se sl = inputVerdict w si
+verdictOf (Q.Host n c) sm sp si sh sd se sl = rangeVerdict n sh
+verdictOf (Q.Msi m) sm sp si sh sd se sl = msiVerdict m sd se sl
 
 -- ---- what each table is to store
 
@@ -128,13 +128,13 @@ noInputPut = record { go = false; row = record { controller = 0; input = 0; trig
 
 -- those of an MSI request, by kind
 abbrev pub putOfThree : MsiRows → Kind → Put
-putOfThree r K.Mmio = noPut
-putOfThree r K.Pio = noPut
-putOfThree r K.Input = noPut
-putOfThree r K.Host = noPut
-putOfThree r K.Device = put (r .device)
-putOfThree r K.Event = put (r .event)
-putOfThree r K.Lpi = put (r .lpi)
+putOfThree three K.Mmio = noPut
+putOfThree three K.Pio = noPut
+putOfThree three K.Input = noPut
+putOfThree three K.Host = noPut
+putOfThree three K.Device = put (three .device)
+putOfThree three K.Event = put (three .event)
+putOfThree three K.Lpi = put (three .lpi)
 
 -- the row for the table of a kind of ranges, and that for the table of inputs
 abbrev pub putOf : Rows → Kind → Put
@@ -143,7 +143,7 @@ putOf (R.Mmio r) k = record { go = sameOf K.Mmio k; row = r }
 putOf (R.Pio r) k = record { go = sameOf K.Pio k; row = r }
 putOf (R.Input r) k = noPut
 putOf (R.Host r) k = record { go = sameOf K.Host k; row = r }
-putOf (R.Msi r) k = putOfThree r k
+putOf (R.Msi three) k = putOfThree three k
 
 abbrev pub putInputOf : Rows → InputPut
 putInputOf R.Nothing = noInputPut
@@ -151,4 +151,4 @@ putInputOf (R.Mmio r) = noInputPut
 putInputOf (R.Pio r) = noInputPut
 putInputOf (R.Input r) = record { go = true; row = r }
 putInputOf (R.Host r) = noInputPut
-putInputOf (R.Msi r) = noInputPut
+putInputOf (R.Msi three) = noInputPut

@@ -28,19 +28,19 @@ use Rattle.decide.specs.declared.Query.the-variants as Q
 
 -- a need of the whole machine
 abbrev pub needing : Kind → ℕ → ℕ → ℕ → Need
-needing k s a q = record { kind = k; controller = 0; its = 0; device = 0; size = s; alignment = a; requester = q }
+needing k size a q = record { kind = k; controller = 0; its = 0; device = 0; size = size; alignment = a; requester = q }
 
 abbrev pub wanted : ℕ → W.Want → Query
-wanted q (Want.Mmio s a c) = Q.Mmio (needing K.Mmio s a q) c
-wanted q (Want.Pio s a c) = Q.Pio (needing K.Pio s a q) c
-wanted q (Want.Input k t s c) = Q.Input (record { controller = k; trigger = t; sharing = s; requester = q }) c
+wanted q (Want.Mmio size a c) = Q.Mmio (needing K.Mmio size a q) c
+wanted q (Want.Pio size a c) = Q.Pio (needing K.Pio size a q) c
+wanted q (Want.Input controller trigger sharing c) = Q.Input (record { controller = controller; trigger = trigger; sharing = sharing; requester = q }) c
 wanted q (Want.Host c) = Q.Host (needing K.Host 1 1 q) c
-wanted q (Want.Msi k i n d e l) = Q.Msi (record { controller = k; its = i; count = n; requester = q; device = d; event = e; lpi = l })
+wanted q (Want.Msi controller its count cd ce cl) = Q.Msi (record { controller = controller; its = its; count = count; requester = q; device = cd; event = ce; lpi = cl })
 
 -- what makes no sense asks nothing
 abbrev pub ifGood : Bool → Query → Query
-ifGood true q = q
-ifGood false q = Q.Nothing
+ifGood true query = query
+ifGood false query = Q.Nothing
 
 abbrev pub queryOf : Request → Query
 queryOf r = ifGood (goodRequest (requestOf r)) (wanted (r .requester) (r .want))

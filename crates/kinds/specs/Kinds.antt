@@ -30,7 +30,7 @@ use Rattle.kinds.specs.declared.InputAnswer.{InputAnswer}
 -- ---- a state with tables of one kind
 
 abbrev pub onlyAt : {A : Type 0} → Kind → Kind → A → A → A
-onlyAt k j a b = elim (eqb (nature k .number) (nature j .number)) [ true ↦ a | false ↦ b ]
+onlyAt k j x y = elim (eqb (nature k .number) (nature j .number)) [ true ↦ x | false ↦ y ]
 
 abbrev pub poolAs : Table Span → Table Span → Use → Table Span
 poolAs a f automatic = a
@@ -53,7 +53,7 @@ abbrev pub answerOf : List Kind → R.Request → State → Answer (List Claim)
 answerOf ks r v = require (sound ks v) malformed (resolve (poolsOf v) (ownersOf v) r)
 
 abbrev pub asked : ℕ → ℕ → R.Want → R.Request
-asked q s w = record { requester = q; slot = s; want = w }
+asked q slot wanted = record { requester = q; slot = slot; want = wanted }
 
 -- the five numbers of an answer
 abbrev pub saidBy : Chosen → Said

@@ -45,7 +45,7 @@ unfoldable pub numbers : List ℕ → List (List ℕ) → Option (List ℕ)
 numbers [] [] = some []
 numbers [] (f ∷ fs) = none
 numbers (m ∷ ms) [] = none
-numbers (m ∷ ms) (f ∷ fs) = entry m f andThen λ n. numbers ms fs andThen λ ns. some (n ∷ ns)
+numbers (m ∷ ms) (f ∷ fs) = entry m f andThen λ v. numbers ms fs andThen λ vs. some (v ∷ vs)
 
 -- .. and the kind's word before them
 unfoldable pub form : List ℕ → List ℕ → List ℕ → List (List ℕ) → Option (List ℕ)
@@ -54,7 +54,7 @@ form w ms k fs = when (same k w) (numbers ms fs)
 -- what is made of the numbers, which are counted from 0
 unfoldable pub _gives_ : {A : Type 0} → Option (List ℕ) → ((ℕ → ℕ) → A) → Option A
 _gives_ none make = none
-_gives_ (some ns) make = some (make (λ i. getD ns i 0))
+_gives_ (some vs) make = some (make (λ i. getD vs i 0))
 
 infixl 30 _gives_
 -- ---- the forms, from the kind's word k on, with the fields fs behind it. A form with a controller (`..Of`) is tried after those

@@ -16,7 +16,7 @@ pub record Carried : Type 0 where
   pub count : ℕ
 
 abbrev pub carries : String → ℕ → Carried
-carries w n = record { word = bytes w; count = n }
+carries name n = record { word = bytes name; count = n }
 
 unfoldable pub carriedBy : ℕ → Carried
 carriedBy k =

@@ -84,7 +84,7 @@ take-line t (some (want r)) = ask t r
 
 -- THE LINE STEP: a refusal stands, whatever follows
 unfoldable pub step : Sofar → List ℕ → Sofar
-step t l = elim (accepts (t .said)) [ true ↦ take-line t (readLine l) | false ↦ t ]
+step t line = elim (accepts (t .said)) [ true ↦ take-line t (readLine line) | false ↦ t ]
 
 -- ---- text to lines, for any step on lines
 

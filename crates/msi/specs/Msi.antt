@@ -56,15 +56,15 @@ abbrev pub narrowed : ℕ → ℕ
 narrowed b = ifFits (ltb b (2 ^ 32)) b
 
 abbrev pub deviceIn : Chosen → DeviceChosen
-deviceIn (C.Stands b e) = D′.Stands (record { 0 = narrowed b })
+deviceIn (C.Stands b end) = D′.Stands (record { 0 = narrowed b })
 deviceIn (C.Refused y) = D′.Refused y
 
 abbrev pub eventIn : Chosen → EventChosen
-eventIn (C.Stands b e) = E′.Stands (record { 0 = narrowed b })
+eventIn (C.Stands b end) = E′.Stands (record { 0 = narrowed b })
 eventIn (C.Refused y) = E′.Refused y
 
 abbrev pub lpiIn : Chosen → LpiChosen
-lpiIn (C.Stands b e) = L′.Stands (record { 0 = narrowed b })
+lpiIn (C.Stands b end) = L′.Stands (record { 0 = narrowed b })
 lpiIn (C.Refused y) = L′.Refused y
 
 -- ---- what comes of all three
@@ -82,8 +82,8 @@ withRoom d e l dn en ln = pickRoom (allRoom dn en ln) d e l
 
 -- each refusal in its turn, and room last
 abbrev pub chained : DeviceChosen → EventChosen → LpiChosen → ℕ → ℕ → ℕ → MsiChosen
-chained (D′.Refused y) e l dn en ln = Refused y
-chained (D′.Stands d) (E′.Refused y) l dn en ln = Refused y
+chained (D′.Refused y) second third dn en ln = Refused y
+chained (D′.Stands d) (E′.Refused y) third dn en ln = Refused y
 chained (D′.Stands d) (E′.Stands e) (L′.Refused y) dn en ln = Refused y
 chained (D′.Stands d) (E′.Stands e) (L′.Stands l) dn en ln = withRoom d e l dn en ln
 
@@ -117,35 +117,35 @@ abbrev pub placePart : Part → R.Need → R.Choice → Answer Row
 placePart p n c = placeIn (p .auto) (p .fixed) (p .rows) n c
 
 abbrev pub msiPools : Part → Part → Part → Pools
-msiPools d e l automatic mmio = []
-msiPools d e l automatic pio = []
-msiPools d e l automatic input = []
-msiPools d e l automatic host = []
-msiPools d e l automatic device = d .auto
-msiPools d e l automatic event = e .auto
-msiPools d e l automatic lpi = l .auto
-msiPools d e l fixed mmio = []
-msiPools d e l fixed pio = []
-msiPools d e l fixed input = []
-msiPools d e l fixed host = []
-msiPools d e l fixed device = d .fixed
-msiPools d e l fixed event = e .fixed
-msiPools d e l fixed lpi = l .fixed
+msiPools pd pe pl automatic mmio = []
+msiPools pd pe pl automatic pio = []
+msiPools pd pe pl automatic input = []
+msiPools pd pe pl automatic host = []
+msiPools pd pe pl automatic device = pd .auto
+msiPools pd pe pl automatic event = pe .auto
+msiPools pd pe pl automatic lpi = pl .auto
+msiPools pd pe pl fixed mmio = []
+msiPools pd pe pl fixed pio = []
+msiPools pd pe pl fixed input = []
+msiPools pd pe pl fixed host = []
+msiPools pd pe pl fixed device = pd .fixed
+msiPools pd pe pl fixed event = pe .fixed
+msiPools pd pe pl fixed lpi = pl .fixed
 
 abbrev pub msiHolders : Part → Part → Part → Holders
-msiHolders d e l mmio = []
-msiHolders d e l pio = []
-msiHolders d e l input = []
-msiHolders d e l host = []
-msiHolders d e l device = d .rows
-msiHolders d e l event = e .rows
-msiHolders d e l lpi = l .rows
+msiHolders pd pe pl mmio = []
+msiHolders pd pe pl pio = []
+msiHolders pd pe pl input = []
+msiHolders pd pe pl host = []
+msiHolders pd pe pl device = pd .rows
+msiHolders pd pe pl event = pe .rows
+msiHolders pd pe pl lpi = pl .rows
 
 abbrev pub askedMsi : Msi → R.Want
 askedMsi m = R.msiWant (m .controller) (m .its) (m .count) (deviceChoice (m .device)) (eventChoice (m .event)) (lpiChoice (m .lpi))
 
 -- the definition's `claims` and its room test, which read the lists of the three kinds and no others: law `msi-is`
 abbrev pub msiIn : Part → Part → Part → Msi → Answer (List Claim)
-msiIn d e l m =
-    claims (msiPools d e l) (msiHolders d e l) (m .requester) (askedMsi m)
-    then λ cs. require (room (msiHolders d e l) cs) full (accepted cs)
+msiIn pd pe pl m =
+    claims (msiPools pd pe pl) (msiHolders pd pe pl) (m .requester) (askedMsi m)
+    then λ cs. require (room (msiHolders pd pe pl) cs) full (accepted cs)

@@ -39,10 +39,10 @@ sameOf j k = eqb (nature (kindOf j) .number) (nature (kindOf k) .number)
 -- ---- tables of lent columns
 
 abbrev pub pool : ℕ → List ℕ → List ℕ → List ℕ → List ℕ → Pool
-pool n c i s e = record { n = n; controller = c; its = i; start = s; end = e }
+pool n c i starts ends = record { n = n; controller = c; its = i; start = starts; end = ends }
 
 abbrev pub ranges : ℕ → List ℕ → List ℕ → List ℕ → List ℕ → List ℕ → List ℕ → Ranges
-ranges n c i d s e o = record { n = n; controller = c; its = i; device = d; start = s; end = e; owner = o }
+ranges n c i d starts ends o = record { n = n; controller = c; its = i; device = d; start = starts; end = ends; owner = o }
 
 abbrev pub inputs : ℕ → List ℕ → List ℕ → List ℕ → List ℕ → List ℕ → Inputs
 inputs n c x trigger sharing o = record { n = n; controller = c; input = x; trigger = trigger; sharing = sharing; owner = o }
@@ -59,40 +59,40 @@ abbrev pub inputOf : InputRow → Row
 inputOf r = wiredRow (r .controller) (r .input) (r .trigger) (r .sharing) (r .owner)
 
 abbrev pub poolAt : Pool → ℕ → PoolRow
-poolAt t k =
-    record { controller = getD (t .controller) k 0; its = getD (t .its) k 0; start = getD (t .start) k 0; end = getD (t .end) k 0 }
+poolAt t row =
+    record { controller = getD (t .controller) row 0; its = getD (t .its) row 0; start = getD (t .start) row 0; end = getD (t .end) row 0 }
 
 abbrev pub rangeAt : Ranges → ℕ → RangeRow
-rangeAt t k =
+rangeAt t row =
     record {
-      controller = getD (t .controller) k 0;
-      its = getD (t .its) k 0;
-      device = getD (t .device) k 0;
-      start = getD (t .start) k 0;
-      end = getD (t .end) k 0;
-      owner = getD (t .owner) k 0;
+      controller = getD (t .controller) row 0;
+      its = getD (t .its) row 0;
+      device = getD (t .device) row 0;
+      start = getD (t .start) row 0;
+      end = getD (t .end) row 0;
+      owner = getD (t .owner) row 0;
     }
 
 abbrev pub inputAt : Inputs → ℕ → InputRow
-inputAt t k =
+inputAt t row =
     record {
-      controller = getD (t .controller) k 0;
-      input = getD (t .input) k 0;
-      trigger = getD (t .trigger) k 0;
-      sharing = getD (t .sharing) k 0;
-      owner = getD (t .owner) k 0;
+      controller = getD (t .controller) row 0;
+      input = getD (t .input) row 0;
+      trigger = getD (t .trigger) row 0;
+      sharing = getD (t .sharing) row 0;
+      owner = getD (t .owner) row 0;
     }
 
 -- ---- whole tables
 
 abbrev pub poolView : Pool → Table Span
-poolView t = record { count = t .n; rows = listed (λ k. spanOf (poolAt t k)) poolLimit }
+poolView t = record { count = t .n; rows = listed (λ row. spanOf (poolAt t row)) poolLimit }
 
 abbrev pub rangesView : Ranges → Table Row
-rangesView t = record { count = t .n; rows = listed (λ k. rangeOf (rangeAt t k)) rowLimit }
+rangesView t = record { count = t .n; rows = listed (λ row. rangeOf (rangeAt t row)) rowLimit }
 
 abbrev pub inputsView : Inputs → Table Row
-inputsView t = record { count = t .n; rows = listed (λ k. inputOf (inputAt t k)) rowLimit }
+inputsView t = record { count = t .n; rows = listed (λ row. inputOf (inputAt t row)) rowLimit }
 
 -- ---- all tables
 

@@ -97,10 +97,10 @@ pub enum Kind {
 }
 
 // The number of a kind.
-pub fn kind_number(k: Kind) -> u64
-    ensures { λ n. ⌜ n ≡ nature (kindOf k) .number ⌝ }
+pub fn kind_number(kind: Kind) -> u64
+    ensures { λ n. ⌜ n ≡ nature (kindOf kind) .number ⌝ }
 {
-    match k {
+    match kind {
         Kind::Mmio => 1,
         Kind::Pio => 2,
         Kind::Input => 3,
@@ -112,10 +112,10 @@ pub fn kind_number(k: Kind) -> u64
 }
 
 // Whether two kinds are one.
-pub fn same_kind(j: Kind, k: Kind) -> bool
-    ensures { λ b. ⌜ b ≡ sameOf j k ⌝ }
+pub fn same_kind(one: Kind, other: Kind) -> bool
+    ensures { λ b. ⌜ b ≡ sameOf one other ⌝ }
 {
-    kind_number(j) == kind_number(k)
+    kind_number(one) == kind_number(other)
 }
 
 // Three numbers that cannot be passed for one another.
