@@ -97,11 +97,11 @@ startsOf C.Bad = false
 
 abbrev pub Fitting : List (In Span) → Type 0
 Fitting [] = Unit {0}
-Fitting (c ∷ cs) = Holds (fitsSpan (c .kind) (c .row)) × Fitting cs
+Fitting (claim ∷ cs) = Holds (fitsSpan (claim .kind) (claim .row)) × Fitting cs
 
 abbrev pub FittingRows : List Claim → Type 0
 FittingRows [] = Unit {0}
-FittingRows (c ∷ cs) = (nature (c .kind) .wired ≡ false → Holds (fits (c .kind) (c .row))) × FittingRows cs
+FittingRows (claim ∷ cs) = (nature (claim .kind) .wired ≡ false → Holds (fits (claim .kind) (claim .row))) × FittingRows cs
 
 pub record PoolAsked (to : To) (p : PoolRange) (q : Adds) : Type 0 where
   pub is : q ≡ poolAdds to p
@@ -118,9 +118,9 @@ FitCall C.Start = Unit {0}
 FitCall (C.Want r) = Unit {0}
 FitCall C.Bad = Unit {0}
 
-pub record Asked (c : Call) (q : Adds) : Type 0 where
-  pub is : q ≡ addsOf c
-  pub fit : FitCall c
+pub record Asked (call : Call) (q : Adds) : Type 0 where
+  pub is : q ≡ addsOf call
+  pub fit : FitCall call
 
 -- ---- the tables of kind k
 

@@ -64,20 +64,20 @@ pub fn find(s: State, r: Request) -> Granted
     ensures { λ g. ⌜ Finds s (requestOf r) g ⌝ }
 {
     let q = decide::queried(r);
-    let a = ask::range(q, Kind::Mmio);
-    let mmio = value::see_range(s.auto.mmio, s.fixed.mmio, s.owners.mmio, a);
-    let a = ask::range(q, Kind::Pio);
-    let pio = value::see_range(s.auto.pio, s.fixed.pio, s.owners.pio, a);
-    let a = ask::input(q);
-    let input = value::see_input(s.auto.input, s.fixed.input, s.owners.input, a);
-    let a = ask::range(q, Kind::Host);
-    let host = value::see_range(s.auto.host, s.fixed.host, s.owners.host, a);
-    let a = ask::device(q);
-    let device = value::see_range(s.auto.device, s.fixed.device, s.owners.device, a);
-    let a = ask::event(q, device);
-    let event = value::see_range(s.auto.event, s.fixed.event, s.owners.event, a);
-    let a = ask::lpi(q, event);
-    let lpi = value::see_range(s.auto.lpi, s.fixed.lpi, s.owners.lpi, a);
+    let asked = ask::range(q, Kind::Mmio);
+    let mmio = value::see_range(s.auto.mmio, s.fixed.mmio, s.owners.mmio, asked);
+    let asked = ask::range(q, Kind::Pio);
+    let pio = value::see_range(s.auto.pio, s.fixed.pio, s.owners.pio, asked);
+    let asked = ask::input(q);
+    let input = value::see_input(s.auto.input, s.fixed.input, s.owners.input, asked);
+    let asked = ask::range(q, Kind::Host);
+    let host = value::see_range(s.auto.host, s.fixed.host, s.owners.host, asked);
+    let asked = ask::device(q);
+    let device = value::see_range(s.auto.device, s.fixed.device, s.owners.device, asked);
+    let asked = ask::event(q, device);
+    let event = value::see_range(s.auto.event, s.fixed.event, s.owners.event, asked);
+    let asked = ask::lpi(q, event);
+    let lpi = value::see_range(s.auto.lpi, s.fixed.lpi, s.owners.lpi, asked);
     decide::verdict(q, mmio, pio, input, host, device, event, lpi)
 }
 
@@ -154,13 +154,13 @@ pub fn allocate(s: State, r: Request) -> State
 pub fn record_of(r: Request, bases: Bases) -> Record
     ensures { λ n. ⌜ n ≡ recordIn r bases ⌝ }
 {
-    let q = r.requester as u64;
+    let requester = r.requester as u64;
     let slot = r.slot as u64;
     let want = r.want;
     let x = bases.base;
     match want {
-        Want::Mmio { size, .. } => line(1, q, slot, x, size, 0, 0, 0, 0),
-        Want::Pio { size, .. } => line(2, q, slot, x, size, 0, 0, 0, 0),
+        Want::Mmio { size, .. } => line(1, requester, slot, x, size, 0, 0, 0, 0),
+        Want::Pio { size, .. } => line(2, requester, slot, x, size, 0, 0, 0, 0),
         Want::Input {
             controller,
             trigger,
@@ -168,7 +168,7 @@ pub fn record_of(r: Request, bases: Bases) -> Record
             ..
         } => line(
             3,
-            q,
+            requester,
             slot,
             controller as u64,
             x,
@@ -177,7 +177,7 @@ pub fn record_of(r: Request, bases: Bases) -> Record
             0,
             0,
         ),
-        Want::Host { .. } => line(4, q, slot, x, 0, 0, 0, 0, 0),
+        Want::Host { .. } => line(4, requester, slot, x, 0, 0, 0, 0, 0),
         Want::Msi {
             controller,
             its,
@@ -185,7 +185,7 @@ pub fn record_of(r: Request, bases: Bases) -> Record
             ..
         } => line(
             5,
-            q,
+            requester,
             slot,
             controller as u64,
             its as u64,

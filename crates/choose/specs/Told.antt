@@ -64,8 +64,8 @@ chosenIn ps fs rs n choice = roomed rs (placeIn ps fs rs n choice)
 
 -- an automatic answer reads no fixed pool and no owner, a fixed one no automatic pool
 abbrev pub AutomaticIs : Pool → ℕ → List ℕ → List ℕ → List ℕ → List ℕ → List ℕ → Need → Chosen → Type 0
-AutomaticIs p on c i d s e n x =
-    (fs : List Span) (o : List ℕ) → told (needOf n) x ≡ placeIn (used (poolView p)) fs (used (rangesView (ranges on c i d s e o))) (needOf n) auto
+AutomaticIs p on controllers units devices starts ends n x =
+    (fs : List Span) (owners : List ℕ) → told (needOf n) x ≡ placeIn (used (poolView p)) fs (used (rangesView (ranges on controllers units devices starts ends owners))) (needOf n) auto
 
 abbrev pub FixedIs : Pool → Ranges → Need → ℕ → Chosen → Type 0
 FixedIs p t n b x = (ps : List Span) → told (needOf n) x ≡ placeIn ps (used (poolView p)) (used (rangesView t)) (needOf n) (at b)

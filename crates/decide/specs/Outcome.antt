@@ -23,18 +23,18 @@ someMsi d e l = record { accepted = true; base = 0; device = d; event = e; lpi =
 
 -- the first numbers of the rows granted: three of an MSI request, one of any other
 abbrev pub baseIn : Want → List Claim → ℕ
-baseIn (mmioWant s a c) cs = baseAt 0 cs
-baseIn (pioWant s a c) cs = baseAt 0 cs
-baseIn (inputWant k t s c) cs = baseAt 0 cs
-baseIn (hostWant c) cs = baseAt 0 cs
-baseIn (msiWant k i n d e l) cs = 0
+baseIn (mmioWant size alignment choice) cs = baseAt 0 cs
+baseIn (pioWant size alignment choice) cs = baseAt 0 cs
+baseIn (inputWant controller trigger sharing choice) cs = baseAt 0 cs
+baseIn (hostWant choice) cs = baseAt 0 cs
+baseIn (msiWant controller its count cd ce cl) cs = 0
 
 abbrev pub threeIn : Want → ℕ → List Claim → ℕ
-threeIn (mmioWant s a c) j cs = 0
-threeIn (pioWant s a c) j cs = 0
-threeIn (inputWant k t s c) j cs = 0
-threeIn (hostWant c) j cs = 0
-threeIn (msiWant k i n d e l) j cs = baseAt j cs
+threeIn (mmioWant size alignment choice) j cs = 0
+threeIn (pioWant size alignment choice) j cs = 0
+threeIn (inputWant controller trigger sharing choice) j cs = 0
+threeIn (hostWant choice) j cs = 0
+threeIn (msiWant controller its count cd ce cl) j cs = baseAt j cs
 
 abbrev pub firstsIn : Want → List Claim → Bases
 firstsIn w cs = record { accepted = true; base = baseIn w cs; device = record { 0 = threeIn w 0 cs }; event = record { 0 = threeIn w 1 cs }; lpi = record { 0 = threeIn w 2 cs } }

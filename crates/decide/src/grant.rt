@@ -108,8 +108,8 @@ pub fn msi(m: Msi, device: Seen, event: Seen, lpi: Seen) -> Granted
 {
     let d = device.chosen;
     let first = msi::device(d);
-    let e = event.chosen;
-    let second = msi::event(e);
+    let chosen = event.chosen;
+    let second = msi::event(chosen);
     let l = lpi.chosen;
     let third = msi::lpi(l);
     let chosen = msi::chain(first, second, third, device.at, event.at, lpi.at);

@@ -18,7 +18,7 @@ pub record Case : Type 0 where
   pub answers : List (List ℕ)
 
 abbrev case : List Call → List Want → List (List ℕ) → Case
-case c w a = record { calls = c; wants = w; answers = a }
+case calls wants answers = record { calls = calls; wants = wants; answers = answers }
 
 unfoldable made : List Call → State → State
 made [] s = s
@@ -27,16 +27,16 @@ made (c ∷ cs) s = made cs (serve kinds c s)
 -- number, namespace, owner, detail
 unfoldable shown : Run → List (List ℕ)
 shown (done []) = []
-shown (done (g ∷ gs)) = (0 ∷ map (λ c. c .row .start) (g .rows)) ∷ shown (done gs)
+shown (done (g ∷ gs)) = (0 ∷ map (λ claim. claim .row .start) (g .rows)) ∷ shown (done gs)
 shown (stopped [] x) = (tell 0 x .number ∷ tell 0 x .namespace ∷ tell 0 x .owner ∷ tell 0 x .detail ∷ []) ∷ []
-shown (stopped (g ∷ gs) x) = (0 ∷ map (λ c. c .row .start) (g .rows)) ∷ shown (stopped gs x)
+shown (stopped (g ∷ gs) x) = (0 ∷ map (λ claim. claim .row .start) (g .rows)) ∷ shown (stopped gs x)
 
 abbrev asking : Want → Request
 asking w = record { requester = 3; slot = 1; want = w }
 
 pub outcome : Case → List (List ℕ)
 unfolding made shown
-outcome c = shown (planRun (map asking (c .wants)) (serve kinds start (made (c .calls) fresh)) (replicate 18 0))
+outcome stand = shown (planRun (map asking (stand .wants)) (serve kinds start (made (stand .calls) fresh)) (replicate 18 0))
 
 abbrev two64 : ℕ
 two64 = 2 ^ 64
@@ -75,6 +75,6 @@ cases =
     ∷ case (msi9 []) (msiWant 0 0 2 auto auto auto ∷ msiWant 0 0 2 auto auto auto ∷ []) ((0 ∷ 8 ∷ 0 ∷ 8192 ∷ []) ∷ (0 ∷ 9 ∷ 0 ∷ 8194 ∷ []) ∷ [])
     ∷ []
 
-pub stand-cases : map outcome cases ≡ map (λ c. c .answers) cases
+pub stand-cases : map outcome cases ≡ map (λ stand. stand .answers) cases
 unfolding cases outcome anyOf allOf pairsOf firstOf lower leastOf sameKind sameDom within sameSpan sameRow overlap meets joins clash require tidy fits fitsSpan goodRow goodSpan begins inOrder soundTable insert unlessThere addRange rowsOf _⊕_ room unreserved allUnreserved reserve onesIn goodChoice oneBit goodWant goodRequest rowAt aligned holds free alignUp candidates lowest allowed unjoined obstacle detail found unopposed place claims resolve givenAt soundAt given sound pushAll addAll serve run roomy planRun made shown
 stand-cases = refl

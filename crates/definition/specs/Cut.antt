@@ -14,4 +14,4 @@ unfoldable pub cutTo : {A : Type 0} → ℕ → A → Table A → Table A  -- th
 cutTo m b t = record { count = m; rows = wiped m (t .count) b (t .rows) }
 
 abbrev pub cutting : (Kind → ℕ) → State → State  -- each owner table cut back to a count; pools, reservations and the answer stay
-cutting m s = state (s .pools) (s .held) (λ k. cutTo (m k) (blankRow k) (s .owners k)) (s .said)
+cutting counts s = state (s .pools) (s .held) (λ k. cutTo (counts k) (blankRow k) (s .owners k)) (s .said)

@@ -20,7 +20,7 @@ made [] s = s
 made (c ∷ cs) s = made cs (serve kinds c s)
 
 abbrev line : ℕ → Want → Request
-line s w = record { requester = 3; slot = s; want = w }
+line slot w = record { requester = 3; slot = slot; want = w }
 
 -- the same ranges for automatic and for fixed requests; firmware holds some memory, and input 32 as Shared
 abbrev both : Use → List Call → List Call

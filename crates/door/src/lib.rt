@@ -38,7 +38,7 @@ pub fn wanted(c: Call) -> Request
         Call::Pool(_, _) => no_request(),
         Call::Hold(_, _) => no_request(),
         Call::Start => no_request(),
-        Call::Want(r) => r,
+        Call::Want(request) => request,
         Call::Bad => no_request(),
     }
 }
@@ -91,8 +91,8 @@ pub fn serve(s: &mut State, c: Call)
     ensures { λ _. ⌜ stateView (now (s .exit)) ≡ serveOf (callOf c) (stateView (now (s .entry))) ⌝ }
 {
     if wants(c) {
-        let r = wanted(c);
-        plan::allocate(s, r);
+        let request = wanted(c);
+        plan::allocate(s, request);
         return;
     }
     let given = sound::lent::given(s);

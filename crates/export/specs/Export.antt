@@ -55,7 +55,7 @@ counted n v = answered v (filledIn (v .state) n)
 
 -- a state of another size: nothing is touched, and the answer is 1
 unfoldable pub sized : ℕ → Given → List ℕ → Answered → Answered
-sized size s out a = elim (eqb size stateSize) [ true ↦ a | false ↦ answered (lent s out) 1 ]
+sized size given out a = elim (eqb size stateSize) [ true ↦ a | false ↦ answered (lent given out) 1 ]
 
 unfoldable pub sizedRead : ℕ → List ℕ → Told → Told
 sizedRead size out w = elim (eqb size stateSize) [ true ↦ w | false ↦ told 1 out ]
@@ -73,4 +73,4 @@ sizedFresh size s = elim (eqb size stateSize) [ true ↦ begun freshState 0 | fa
 
 -- the text call answers with how many bytes it has written
 abbrev pub bytesTold : Replied → Told
-bytesTold w = told (w .bytes) (w .buffer)
+bytesTold replied = told (replied .bytes) (replied .buffer)

@@ -107,14 +107,14 @@ pub fn peek(s: &State) -> Marks
 }
 
 // The owner tables as long as they were: each table goes out by value, is cut, and is stored back.
-pub fn restore(s: &mut State, m: Marks)
-    ensures { λ _. ⌜ now (s .exit) ≡ restored m (now (s .entry)) ⌝ }
+pub fn restore(s: &mut State, marks: Marks)
+    ensures { λ _. ⌜ now (s .exit) ≡ restored marks (now (s .entry)) ⌝ }
 {
-    s.owners.mmio = ranges_to(s.owners.mmio, m.mmio);
-    s.owners.pio = ranges_to(s.owners.pio, m.pio);
-    s.owners.input = inputs_to(s.owners.input, m.input);
-    s.owners.host = ranges_to(s.owners.host, m.host);
-    s.owners.device = ranges_to(s.owners.device, m.device);
-    s.owners.event = ranges_to(s.owners.event, m.event);
-    s.owners.lpi = ranges_to(s.owners.lpi, m.lpi);
+    s.owners.mmio = ranges_to(s.owners.mmio, marks.mmio);
+    s.owners.pio = ranges_to(s.owners.pio, marks.pio);
+    s.owners.input = inputs_to(s.owners.input, marks.input);
+    s.owners.host = ranges_to(s.owners.host, marks.host);
+    s.owners.device = ranges_to(s.owners.device, marks.device);
+    s.owners.event = ranges_to(s.owners.event, marks.event);
+    s.owners.lpi = ranges_to(s.owners.lpi, marks.lpi);
 }

@@ -14,8 +14,8 @@ use Rattle.insert.specs.declared.Inserted.{Inserted}
 
 -- the five numbers of an answer
 abbrev pub telling : {A : Type 0} → Answer A → Said
-telling (accepted a) = silence
-telling (refused r) = tell 0 r
+telling (accepted given) = silence
+telling (refused y) = tell 0 y
 
 -- .. and of a reply
 abbrev pub heard : Reply → Said
@@ -24,17 +24,17 @@ heard a = says 0 (a .number) 0 (a .owner) 0
 -- a pool table after an answer: other used rows, or none
 abbrev pub storedOr : Table Span → Answer (List Span) → Table Span
 storedOr t (accepted ps) = stored ps
-storedOr t (refused r) = t
+storedOr t (refused y) = t
 
 -- a reservation table after an answer: the rows of claims pushed, or none
 abbrev pub pushedOr : Kind → Table Row → Answer (List Claim) → Table Row
 pushedOr k t (accepted cs) = pushAll t (rowsOf k cs)
-pushedOr k t (refused r) = t
+pushedOr k t (refused y) = t
 
 -- the pool table t after an answer, and its number
-pub record Entered (a : Answer (List Span)) (t : Table Span) (x : Inserted) : Type 0 where
-  pub rows : poolView (x .pool) ≡ storedOr t a
-  pub said : says 0 (x .number) 0 0 0 ≡ telling a
+pub record Entered (answer : Answer (List Span)) (t : Table Span) (x : Inserted) : Type 0 where
+  pub rows : poolView (x .pool) ≡ storedOr t answer
+  pub said : says 0 (x .number) 0 0 0 ≡ telling answer
 
 -- what adding a range answers whatever its kind: a kind limits its numbers and decides nothing else
 unfoldable pub addAny : Span → List Span → Answer (List Span)

@@ -72,14 +72,21 @@ pub fn earlier(a: Reply, b: Reply) -> Reply
 
 // ---- pool ranges
 
-// Whether a new row `r` stops at row `x`: it is its exact duplicate, or (not `exact`) it goes before it, one of its domain that starts later.
-fn row_stops(exact: bool, r: PoolRow, x: PoolRow) -> bool
-    ensures { λ b. ⌜ b ≡ stops exact (spanOf r) (spanOf x) ⌝ }
+// Whether a new row `r` stops at row `other`: it is its exact duplicate, or (not `exact`) it goes before it, one of its domain that starts later.
+fn row_stops(exact: bool, r: PoolRow, other: PoolRow) -> bool
+    ensures { λ b. ⌜ b ≡ stops exact (spanOf r) (spanOf other) ⌝ }
 {
     if exact {
-        return table_tests::pool::same_row(r, x);
+        return table_tests::pool::same_row(r, other);
     }
-    bases::starts_before(r.controller, r.its, r.start, x.controller, x.its, x.start)
+    bases::starts_before(
+        r.controller,
+        r.its,
+        r.start,
+        other.controller,
+        other.its,
+        other.start,
+    )
 }
 
 // The first of `n` rows at which `r` stops.

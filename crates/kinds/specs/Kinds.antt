@@ -30,15 +30,15 @@ use Rattle.kinds.specs.declared.InputAnswer.{InputAnswer}
 -- ---- a state with tables of one kind
 
 abbrev pub onlyAt : {A : Type 0} → Kind → Kind → A → A → A
-onlyAt k j x y = elim (eqb (nature k .number) (nature j .number)) [ true ↦ x | false ↦ y ]
+onlyAt k j there elsewhere = elim (eqb (nature k .number) (nature j .number)) [ true ↦ there | false ↦ elsewhere ]
 
 abbrev pub poolAs : Table Span → Table Span → Use → Table Span
-poolAs a f automatic = a
-poolAs a f fixed = f
+poolAs p f automatic = p
+poolAs p f fixed = f
 
 abbrev pub tablesAt : Kind → Table Span → Table Span → Table Row → Table Row → Said → State
-tablesAt k a f h o w =
-    state (λ u j. onlyAt k j (poolAs a f u) (zeros poolLimit blankSpan)) (λ j. onlyAt k j h (zeros rowLimit (blankRow j)))
+tablesAt k p f h o w =
+    state (λ u j. onlyAt k j (poolAs p f u) (zeros poolLimit blankSpan)) (λ j. onlyAt k j h (zeros rowLimit (blankRow j)))
     (λ j. onlyAt k j o (zeros rowLimit (blankRow j))) w
 
 abbrev pub rangeState : Kind → RangeTables → Said → State
@@ -50,7 +50,7 @@ inputState t w = tablesAt input (poolView (t .auto)) (poolView (t .fixed)) (inpu
 -- ---- the answer of a call that judges the tables of ks
 
 abbrev pub answerOf : List Kind → R.Request → State → Answer (List Claim)
-answerOf ks r v = require (sound ks v) malformed (resolve (poolsOf v) (ownersOf v) r)
+answerOf ks request v = require (sound ks v) malformed (resolve (poolsOf v) (ownersOf v) request)
 
 abbrev pub asked : ℕ → ℕ → R.Want → R.Request
 asked q slot wanted = record { requester = q; slot = slot; want = wanted }
@@ -58,22 +58,22 @@ asked q slot wanted = record { requester = q; slot = slot; want = wanted }
 -- the five numbers of an answer
 abbrev pub saidBy : Chosen → Said
 saidBy (Stands b e) = silence
-saidBy (Refused y) = tell 0 (refusalOf y)
+saidBy (Refused z) = tell 0 (refusalOf z)
 
 -- the first number of the row that an accepted answer was granted, and its end, say which row it is
 abbrev pub rowsSaid : Answer (List Claim) → Chosen → Type 0
-rowsSaid (accepted []) c = ⊥
-rowsSaid (accepted (x ∷ cs)) c = c ≡ Stands (x .row .start) (x .row .end)
+rowsSaid (accepted []) chosen = ⊥
+rowsSaid (accepted (x ∷ cs)) chosen = chosen ≡ Stands (x .row .start) (x .row .end)
 rowsSaid (refused y) (Stands b e) = ⊥
 rowsSaid (refused y) (Refused z) = refusalOf z ≡ y
 
-pub record ServesRange (k : Kind) (t : RangeTables) (q s : ℕ) (w : R.Want) (r : RangeAnswer) : Type 0 where
-  pub tables : (i : Said) → rangeState k (r .tables) (saidBy (r .chosen)) ≡ serve (k ∷ []) (want (asked q s w)) (rangeState k t i)
-  pub answer : (i : Said) → rowsSaid (answerOf (k ∷ []) (asked q s w) (rangeState k t i)) (r .chosen)
+pub record ServesRange (k : Kind) (t : RangeTables) (q slot : ℕ) (wanted : R.Want) (r : RangeAnswer) : Type 0 where
+  pub tables : (i : Said) → rangeState k (r .tables) (saidBy (r .chosen)) ≡ serve (k ∷ []) (want (asked q slot wanted)) (rangeState k t i)
+  pub answer : (i : Said) → rowsSaid (answerOf (k ∷ []) (asked q slot wanted) (rangeState k t i)) (r .chosen)
 
-pub record ServesInput (t : InputTables) (q s : ℕ) (w : R.Want) (r : InputAnswer) : Type 0 where
-  pub tables : (i : Said) → inputState (r .tables) (saidBy (r .chosen)) ≡ serve (input ∷ []) (want (asked q s w)) (inputState t i)
-  pub answer : (i : Said) → rowsSaid (answerOf (input ∷ []) (asked q s w) (inputState t i)) (r .chosen)
+pub record ServesInput (t : InputTables) (q slot : ℕ) (wanted : R.Want) (r : InputAnswer) : Type 0 where
+  pub tables : (i : Said) → inputState (r .tables) (saidBy (r .chosen)) ≡ serve (input ∷ []) (want (asked q slot wanted)) (inputState t i)
+  pub answer : (i : Said) → rowsSaid (answerOf (input ∷ []) (asked q slot wanted) (inputState t i)) (r .chosen)
 
 -- ---- the core under them
 
@@ -94,12 +94,12 @@ pub record RangeServed (t : RangeTables) (good : Bool) (n : Need) (c : Choice) (
   pub held : r .tables .held ≡ t .held
   pub owners : rangesView (r .tables .owners) ≡ pushAll (rangesView (t .owners)) (rowGot (told (needOf n) (r .chosen)))
 
-pub record InputServed (t : InputTables) (good : Bool) (w : InputNeed) (c : Choice) (r : InputAnswer) : Type 0 where
+pub record InputServed (t : InputTables) (good : Bool) (n : InputNeed) (c : Choice) (r : InputAnswer) : Type 0 where
   pub answer :
-      told (inputAsked w) (r .chosen)
+      told (inputAsked n) (r .chosen)
       ≡ require (setInputs (t .auto) (t .fixed) (t .held) (t .owners)) malformed
-      (require good badInput (chosenIn (used (poolView (t .auto))) (used (poolView (t .fixed))) (used (inputsView (t .owners))) (inputAsked w) (choiceOf c)))
+      (require good badInput (chosenIn (used (poolView (t .auto))) (used (poolView (t .fixed))) (used (inputsView (t .owners))) (inputAsked n) (choiceOf c)))
   pub auto : r .tables .auto ≡ t .auto
   pub fixed : r .tables .fixed ≡ t .fixed
   pub held : r .tables .held ≡ t .held
-  pub owners : inputsView (r .tables .owners) ≡ pushAll (inputsView (t .owners)) (rowGot (told (inputAsked w) (r .chosen)))
+  pub owners : inputsView (r .tables .owners) ≡ pushAll (inputsView (t .owners)) (rowGot (told (inputAsked n) (r .chosen)))

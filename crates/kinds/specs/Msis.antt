@@ -35,13 +35,13 @@ setMsi t = setOf device (t .device) && (setOf event (t .event) && setOf lpi (t .
 
 -- a state with tables of the three kinds
 abbrev pub amongThree : {A : Type 0} → A → A → A → (Kind → A) → Kind → A
-amongThree d e l z mmio = z mmio
-amongThree d e l z pio = z pio
-amongThree d e l z input = z input
-amongThree d e l z host = z host
-amongThree d e l z device = d
-amongThree d e l z event = e
-amongThree d e l z lpi = l
+amongThree d e l rest mmio = rest mmio
+amongThree d e l rest pio = rest pio
+amongThree d e l rest input = rest input
+amongThree d e l rest host = rest host
+amongThree d e l rest device = d
+amongThree d e l rest event = e
+amongThree d e l rest lpi = l
 
 abbrev pub msiState : MsiTables → Said → State
 msiState t w =
@@ -56,18 +56,18 @@ three = device ∷ event ∷ lpi ∷ []
 
 abbrev pub saidMsi : MsiChosen → Said
 saidMsi (Stands d e l) = silence
-saidMsi (Refused y) = tell 0 (refusalOf y)
+saidMsi (Refused z) = tell 0 (refusalOf z)
 
 -- the first numbers of the three rows that an accepted answer was granted; the refusal of a refused one
 abbrev pub basesSaid : Answer (List Claim) → MsiChosen → Type 0
 basesSaid (accepted cs) (Stands d e l) = (d .0 ≡ baseAt 0 cs) × (e .0 ≡ baseAt 1 cs) × (l .0 ≡ baseAt 2 cs)
-basesSaid (accepted cs) (Refused y) = ⊥
+basesSaid (accepted cs) (Refused z) = ⊥
 basesSaid (refused y) (Stands d e l) = ⊥
 basesSaid (refused y) (Refused z) = refusalOf z ≡ y
 
-pub record ServesMsi (t : MsiTables) (q s : ℕ) (w : R.Want) (r : MsiAnswer) : Type 0 where
-  pub tables : (i : Said) → msiState (r .tables) (saidMsi (r .chosen)) ≡ serve three (want (asked q s w)) (msiState t i)
-  pub answer : (i : Said) → basesSaid (answerOf three (asked q s w) (msiState t i)) (r .chosen)
+pub record ServesMsi (t : MsiTables) (q slot : ℕ) (wanted : R.Want) (r : MsiAnswer) : Type 0 where
+  pub tables : (i : Said) → msiState (r .tables) (saidMsi (r .chosen)) ≡ serve three (want (asked q slot wanted)) (msiState t i)
+  pub answer : (i : Said) → basesSaid (answerOf three (asked q slot wanted) (msiState t i)) (r .chosen)
 
 -- ---- the core under it
 

@@ -147,18 +147,18 @@ pub fn choose_msi(
     requires { ⌜ (ReadyDevice da (df .n) (devices .n)) × (ReadyEvent ea (ef .n) (events .n)) × (ReadyLpi la (lf .n) (lpis .n)) × (0 < m .count) ⌝ }
     ensures { λ c. ⌜ MsiDecides devices events lpis da df ea ef la lf m c ⌝ }
 {
-    let a = ask::device_of(m);
-    let device = value::see_range(da, df, devices, a);
-    let d = device.chosen;
-    let first = msi::device(d);
-    let a = ask::event_of(m, first);
-    let event = value::see_range(ea, ef, events, a);
-    let e = event.chosen;
-    let second = msi::event(e);
-    let a = ask::lpi_of(m, second);
-    let lpi = value::see_range(la, lf, lpis, a);
-    let l = lpi.chosen;
-    let third = msi::lpi(l);
+    let asked = ask::device_of(m);
+    let device = value::see_range(da, df, devices, asked);
+    let chosen = device.chosen;
+    let first = msi::device(chosen);
+    let asked = ask::event_of(m, first);
+    let event = value::see_range(ea, ef, events, asked);
+    let chosen = event.chosen;
+    let second = msi::event(chosen);
+    let asked = ask::lpi_of(m, second);
+    let lpi = value::see_range(la, lf, lpis, asked);
+    let chosen = lpi.chosen;
+    let third = msi::lpi(chosen);
     msi::chain(first, second, third, device.at, event.at, lpi.at)
 }
 
@@ -188,13 +188,13 @@ pub fn grant_msi(
         },
         MsiChosen::Stands(device, event, lpi) => {
             let rows = msi::rows(m, device, event, lpi);
-            let d = record_range(devices, rows.device);
-            let e = record_range(events, rows.event);
-            let l = record_range(lpis, rows.lpi);
+            let devices = record_range(devices, rows.device);
+            let events = record_range(events, rows.event);
+            let lpis = record_range(lpis, rows.lpi);
             MsiGrant {
-                devices: d,
-                events: e,
-                lpis: l,
+                devices,
+                events,
+                lpis,
                 chosen: MsiChosen::Stands(device, event, lpi),
             }
         }

@@ -17,7 +17,7 @@ first c [] = 0
 first c (x ∷ xs) = pick (eqb x c) 0 (suc (first c xs))
 
 abbrev pub numberSays : Number → Option ℕ
-numberSays (Value v) = some v
+numberSays (Value m) = some m
 numberSays Not = none
 
 -- a row's numbers

@@ -99,7 +99,7 @@ badLines =
 
 abbrev missing : Option Call → Bool
 missing none = true
-missing (some c) = false
+missing (some call) = false
 
 none-says-a-call : map (λ l. missing (readLine (bytes l))) badLines ≡ map (λ l. true) badLines
 unfolding allOf same grow split when _andThen_ _orElse_ valueFrom plain number entry numbers form _gives_ poolOf poolLine holdIts holdOf holdLine wantAtOf wantAt wantOf wantLine useOf behindPool behindHold behindWant byWord byFields readLine

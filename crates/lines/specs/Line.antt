@@ -62,7 +62,7 @@ infixl 30 _gives_
 
 module _ (k : List ℕ) (fs : List (List ℕ)) where
   abbrev like : String → List ℕ → Option (List ℕ)
-  like w ms = form (bytes w) ms k fs
+  like word ms = form (bytes word) ms k fs
 
   -- `pool auto|fixed` then `mmio|pio|host start end`, `input controller start end`, or `msi controller its` and six bounds
   unfoldable pub poolOf : Use → Option Call

@@ -51,11 +51,11 @@ pub fn read_numbers(rest: &[u8], most: &[u64]) -> Row
     requires { ⌜ length (now most) ≤ rowSize ⌝ }
     ensures { λ r. ⌜ r ≡ rowOf (numbers (now (most .entry)) (split tab (now (rest .entry)))) ⌝ }
 {
-    let m = most.len();
+    let count = most.len();
     let mut n = [0u64; 8];
     let mut i: usize = 0;
     let mut at: usize = 0;
-    while i < m {
+    while i < count {
         let e = crate::parts::find(rest, at, 9);
         let x = read_entry(&rest[at..e], most[i]);
         let Number::Value(v) = x else {
@@ -64,7 +64,7 @@ pub fn read_numbers(rest: &[u8], most: &[u64]) -> Row
         n[i] = v;
         i += 1;
         if rest.len() <= e {
-            if i == m {
+            if i == count {
                 return Row { n, good: true };
             }
             return bad_row();

@@ -84,37 +84,37 @@ pub fn base(turn: u32, fixed: u64, next: u64) -> u64 {
 
 // The nine numbers of a request's record. An automatic MSI request has a device of its own, so that its events begin at 0.
 pub fn record(turn: u32) -> [u64; RECORD] {
-    let t = turn as u64;
+    let k = turn as u64;
     let kind = turn % 5;
     let mut r = [0u64; RECORD];
     r[0] = kind as u64 + 1;
-    r[1] = t + 1;
-    r[2] = t;
+    r[1] = k + 1;
+    r[2] = k;
     if kind == 0 {
-        r[3] = base(turn, 2147483648 + 4096 * t, 4096 + 4096 * (t / 10));
+        r[3] = base(turn, 2147483648 + 4096 * k, 4096 + 4096 * (k / 10));
         r[4] = 4096;
         return r;
     }
     if kind == 1 {
-        r[3] = base(turn, 32768 + 16 * t, 16 * (t / 10));
+        r[3] = base(turn, 32768 + 16 * k, 16 * (k / 10));
         r[4] = 16;
         return r;
     }
     if kind == 2 {
         r[3] = 1;
-        r[4] = base(turn, 4096 + t, t / 10);
+        r[4] = base(turn, 4096 + k, k / 10);
         r[5] = 1;
         return r;
     }
     if kind == 3 {
-        r[3] = base(turn, 4096 + t, t / 10);
+        r[3] = base(turn, 4096 + k, k / 10);
         return r;
     }
     r[3] = 1;
     r[4] = 2;
-    r[5] = base(turn, 4096 + 4 * t, t / 10);
-    r[6] = base(turn, 4096 + 4 * t, 0);
-    r[7] = base(turn, 4096 + 4 * t, 4 * (t / 10));
+    r[5] = base(turn, 4096 + 4 * k, k / 10);
+    r[6] = base(turn, 4096 + 4 * k, 0);
+    r[7] = base(turn, 4096 + 4 * k, 4 * (k / 10));
     r[8] = 4;
     r
 }

@@ -144,20 +144,20 @@ pub fn msi(turn: u32, n: u32) -> Want {
 }
 
 pub fn want(turn: u32) -> Want {
-    let t = turn as u64;
+    let k = turn as u64;
     let kind = turn % 5;
     if kind == 0 {
         return Want::Mmio {
             size: 4096,
             alignment: 4096,
-            choice: chosen(turn, 2147483648 + 4096 * t),
+            choice: chosen(turn, 2147483648 + 4096 * k),
         };
     }
     if kind == 1 {
         return Want::Pio {
             size: 16,
             alignment: 16,
-            choice: chosen(turn, 32768 + 16 * t),
+            choice: chosen(turn, 32768 + 16 * k),
         };
     }
     if kind == 2 {
@@ -165,12 +165,12 @@ pub fn want(turn: u32) -> Want {
             controller: 1,
             trigger: 1,
             sharing: 0,
-            choice: chosen(turn, 4096 + t),
+            choice: chosen(turn, 4096 + k),
         };
     }
     if kind == 3 {
         return Want::Host {
-            choice: chosen(turn, 4096 + t),
+            choice: chosen(turn, 4096 + k),
         };
     }
     msi(turn, 4096 + 4 * (turn % 256))

@@ -72,18 +72,18 @@ pub fn read_call(numbers: &[u64]) -> Reading
     let size = call_size(first, kind);
     if size <= numbers.len() {
         if first == 4 {
-            let r = flat::request_at(&numbers[1..], 0);
+            let request = flat::request_at(&numbers[1..], 0);
             return Reading {
                 whole: true,
                 asks: true,
-                call: Call::Want(r),
+                call: Call::Want(request),
             };
         }
-        let c = adding_at(numbers);
+        let call = adding_at(numbers);
         return Reading {
             whole: true,
             asks: false,
-            call: c,
+            call,
         };
     }
     Reading {
@@ -106,7 +106,7 @@ pub fn is_asked(k: Reading) -> bool
 }
 
 pub fn call_of(k: Reading) -> Call
-    ensures { λ c. ⌜ c ≡ k .call ⌝ }
+    ensures { λ r. ⌜ r ≡ k .call ⌝ }
 {
     k.call
 }
@@ -128,8 +128,8 @@ pub fn serve_as(s: &mut State, k: Reading)
     ensures { λ _. ⌜ stateView (now (s .exit)) ≡ servedAs k (stateView (now (s .entry))) ⌝ }
 {
     if is_whole(k) {
-        let c = call_of(k);
-        door::serve(s, c);
+        let call = call_of(k);
+        door::serve(s, call);
         return;
     }
     if is_asked(k) {

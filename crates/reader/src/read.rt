@@ -34,8 +34,8 @@ pub fn read_pools(word: &[u8], kind: &[u8], rest: &[u8]) -> Call
 pub fn read_holds(owner: &[u8], kind: &[u8], rest: &[u8]) -> Call
     ensures { λ r. ⌜ callOf r ≡ behindHold (now (owner .entry)) (now (kind .entry)) (split tab (now (rest .entry))) ⌝ }
 {
-    let x = read_number(owner, N32);
-    let Number::Value(o) = x else {
+    let number = read_number(owner, N32);
+    let Number::Value(o) = number else {
         return Call::Bad;
     };
     read_hold(o as u32, kind, rest)
@@ -49,16 +49,16 @@ pub fn read_wants(requester: &[u8], slot: &[u8], rest: &[u8]) -> Call
     if rest.len() <= e {
         return Call::Bad;
     }
-    let x = read_number(requester, N32);
-    let Number::Value(q) = x else {
+    let first = read_number(requester, N32);
+    let Number::Value(q) = first else {
         return Call::Bad;
     };
-    let y = read_number(slot, N32);
-    let Number::Value(s) = y else {
+    let second = read_number(slot, N32);
+    let Number::Value(s) = second else {
         return Call::Bad;
     };
-    let b = e + 1;
-    read_want(q as u32, s as u32, &rest[..e], &rest[b..])
+    let behind = e + 1;
+    read_want(q as u32, s as u32, &rest[..e], &rest[behind..])
 }
 
 // A line by its first word w, the fields x and y behind it, and the rest.

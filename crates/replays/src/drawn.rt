@@ -170,9 +170,9 @@ pub fn shuffle(seed: u32, n: usize, order: &mut [u64])
 {
     let mut i: usize = 0;
     while i < n {
-        let j = place(draw(seed, 1002, i as u64) as usize, i);
-        order[i] = order[j];
-        order[j] = i as u64;
+        let to = place(draw(seed, 1002, i as u64) as usize, i);
+        order[i] = order[to];
+        order[to] = i as u64;
         i += 1;
     }
 }

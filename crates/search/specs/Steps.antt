@@ -10,12 +10,12 @@ use Rattle.bases.specs.Bases.{Up}
 use Rattle.search.specs.declared.Step.{Step}
 use Rattle.search.specs.declared.Step.the-variants.{To, Stay}
 
--- the bases of a pool row: below r it is of the domain and the whole run ends in it, and no base that the row holds is r or more
-pub record Bases (n : Need) (p : Span) (r : ℕ) : Type 0 where
-  pub own : (b : ℕ) → b < r → T (sameDom (poolDom (n .dom)) (p .dom))
-  pub each : (b : ℕ) → b < r → b + n .size ≤ p .end
-  pub all : (b : ℕ) → T (holds n b p) → b < r
-  pub fits : (b : ℕ) → b < r → b + n .size < 2 ^ 64
+-- the bases of a pool row: below the bound it is of the domain and the whole run ends in it, and no base that the row holds is the bound or more
+pub record Bases (n : Need) (p : Span) (bound : ℕ) : Type 0 where
+  pub own : (b : ℕ) → b < bound → T (sameDom (poolDom (n .dom)) (p .dom))
+  pub each : (b : ℕ) → b < bound → b + n .size ≤ p .end
+  pub all : (b : ℕ) → T (holds n b p) → b < bound
+  pub fits : (b : ℕ) → b < bound → b + n .size < 2 ^ 64
 
 -- the run at x meets none of the first `on` rows
 abbrev pub Free : (ℕ → Row) → ℕ → Need → ℕ → Type 0

@@ -128,13 +128,13 @@ pub fn find_input<'a>(
             break 'pools Found::Nothing;
         }
         let stop = bases_of(pc, pi, ps, pe, i, need);
-        let mut c = ps[i];
-        'inputs: while c < stop {
-            let step = next_input(oc, ox, on, controller, c, stop);
+        let mut x = ps[i];
+        'inputs: while x < stop {
+            let step = next_input(oc, ox, on, controller, x, stop);
             match step {
-                Step::Stay => break 'pools Found::At(c),
+                Step::Stay => break 'pools Found::At(x),
                 Step::To(next) => {
-                    c = next;
+                    x = next;
                 }
             }
         }

@@ -49,16 +49,23 @@ pub fn one_bit(a: u64) -> bool
     u64::count_ones(a) == 1
 }
 
-pub fn same_domain(controller: u32, its: u32, device: u32, c: u32, i: u32, d: u32) -> bool
-    ensures { λ r. ⌜ r ≡ sameDom (dom controller its device) (dom c i d) ⌝ }
+pub fn same_domain(
+    controller: u32,
+    its: u32,
+    device: u32,
+    controller2: u32,
+    its2: u32,
+    device2: u32,
+) -> bool
+    ensures { λ r. ⌜ r ≡ sameDom (dom controller its device) (dom controller2 its2 device2) ⌝ }
 {
-    if controller != c {
+    if controller != controller2 {
         return false;
     }
-    if its != i {
+    if its != its2 {
         return false;
     }
-    device == d
+    device == device2
 }
 
 // The first row, in table order, of the domain that overlaps lo..hi. Numbers are compared before domains: most rows end there.

@@ -252,12 +252,12 @@ pub fn begins_with<'a>(
 ) -> bool
     ensures { λ r. ⌜ r ≡ begins (used (inputsView (inputs m (now (controller .entry)) (now (input .entry)) (now (trigger .entry)) (now (sharing .entry)) (now (owner .entry))))) (used (inputsView (inputs n (now (controller2 .entry)) (now (input2 .entry)) (now (trigger2 .entry)) (now (sharing2 .entry)) (now (owner2 .entry))))) ⌝ }
 {
-    let k = capped(m);
-    if capped(n) < k {
+    let count = capped(m);
+    if capped(n) < count {
         return false;
     }
     rows_same(
-        k,
+        count,
         controller,
         input,
         trigger,

@@ -14,12 +14,12 @@ use Rattle.table_tests.specs.declared.limits.Limits.{Limits}
 -- ---- limits
 
 abbrev pub limitsOf : Kind → Limits
-limitsOf k =
+limitsOf kind =
     record {
-      top = nature k .top;
-      controller = nature k .domTop .controller;
-      its = nature k .domTop .its;
-      device = nature k .domTop .device;
+      top = nature kind .top;
+      controller = nature kind .domTop .controller;
+      its = nature kind .domTop .its;
+      device = nature kind .domTop .device;
     }
 
 -- no number of the first so many rows of a column is above h

@@ -293,12 +293,12 @@ pub fn begins_with<'a>(
 ) -> bool
     ensures { λ r. ⌜ r ≡ begins (used (rangesView (ranges m (now (controller .entry)) (now (its .entry)) (now (device .entry)) (now (start .entry)) (now (end .entry)) (now (owner .entry))))) (used (rangesView (ranges n (now (controller2 .entry)) (now (its2 .entry)) (now (device2 .entry)) (now (start2 .entry)) (now (end2 .entry)) (now (owner2 .entry))))) ⌝ }
 {
-    let k = capped(m);
-    if capped(n) < k {
+    let count = capped(m);
+    if capped(n) < count {
         return false;
     }
     rows_same(
-        k,
+        count,
         controller,
         its,
         device,

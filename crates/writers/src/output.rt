@@ -69,8 +69,8 @@ pub fn put_got(out: &mut [u8], at: usize, r: &[u64]) -> usize
     let a = put_bytes(out, at, b"got");
     let b = put_numbers(out, a, &r[1..3]);
     let c = put_kind(out, b, k);
-    let n = 3 + carried(k);
-    let d = put_numbers(out, c, &r[3..n]);
+    let past = 3 + carried(k);
+    let d = put_numbers(out, c, &r[3..past]);
     out[d] = 10;
     d + 1
 }

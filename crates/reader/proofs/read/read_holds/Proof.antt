@@ -13,11 +13,11 @@ unfolding behindHold _andThen_
 returns c = rw (sym (rw (c .enum-told .given .1) at (c .before .before .read-number .ensures)), _andThen_)
 
 cast-read-hold : tie.Need-cast-read-hold
-cast-read-hold c = omega (arith, number-within n32 (c .before .before .before .before .before .before .before .args .owner .now) (c .before .x .given .0 .0) (sym (rw (c .before .x .given .1) at (c .before .before .before .read-number .ensures))))
+cast-read-hold c = omega (arith, number-within n32 (c .before .before .before .before .before .before .before .args .owner .now) (c .before .number .given .0 .0) (sym (rw (c .before .number .given .1) at (c .before .before .before .read-number .ensures))))
 
 returns-2 : tie.Need-returns-2
 unfolding behindHold _andThen_
-returns-2 c = rw (sym (rw (c .before .before .x .given .1) at (c .before .before .before .before .read-number .ensures)), _andThen_) (c .read-hold .ensures)
+returns-2 c = rw (sym (rw (c .before .before .number .given .1) at (c .before .before .before .before .read-number .ensures)), _andThen_) (c .read-hold .ensures)
 
 pub read-holds-spec : {M : Type 1} → statement M
 read-holds-spec = tie.close (tie.spec (λ c κs. search needs) (λ c. search needs) (λ c. search needs) returns cast-read-hold (λ c κs. search needs) returns-2)

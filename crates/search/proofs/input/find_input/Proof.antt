@@ -36,11 +36,11 @@ pools-holds c = (omega arith, λ k h. absurd (omega arith))
 bases-of-requires : tie.Need-bases-of-requires Inv-inputs μ-inputs Inv-pools μ-pools
 bases-of-requires c κs = let p = c .before .before .before .pre in (omega (arith, p .0 .count), rw (c .before .before .one-input .ensures) (omega arith))
 
-mul-c : tie.Need-mul-c Inv-inputs μ-inputs Inv-pools μ-pools
-mul-c c = omega (arith, c .before .before .before .before .pre .0 .count)
+mul-x : tie.Need-mul-x Inv-inputs μ-inputs Inv-pools μ-pools
+mul-x c = omega (arith, c .before .before .before .before .pre .0 .count)
 
-element-copy-out-c : tie.Need-element-copy-out-c Inv-inputs μ-inputs Inv-pools μ-pools
-element-copy-out-c c = omega (arith, c .before .before .before .before .pre .0 .count)
+element-copy-out-x : tie.Need-element-copy-out-x Inv-inputs μ-inputs Inv-pools μ-pools
+element-copy-out-x c = omega (arith, c .before .before .before .before .pre .0 .count)
 
 inputs-holds : tie.Need-inputs-holds Inv-inputs μ-inputs Inv-pools μ-pools
 inputs-holds c = (omega arith, tried-none _ _ _ _)
@@ -90,11 +90,11 @@ returns-2 c =
     record {
       is = λ g s o. found-inputs (pool (a .pn) (a .pc .now) (a .pi .now) (a .ps .now) (a .pe .now)) (inputs (a .on) (a .oc .now) (a .ox .now) g s o) (bareInput (a .controller)) _ (p .0) (p .1) (sym (input-lowest (a .controller) _ _ 0 0 0)
           ∙ lowest-here (spanAt (pool (a .pn) (a .pc .now) (a .pi .now) (a .ps .now) (a .pe .now))) (inputIn (inputs (a .on) (a .oc .now) (a .ox .now) g s o)) (a .on) (needOf (oneInput (a .controller))) (a .pn) (omega arith) _ _ (order-used (pool (a .pn) (a .pc .now) (a .pi .now) (a .ps .now) (a .pe .now)) (p .0)) (omega arith)
-          (c .before .before .before .before .before .before .before .before .pools .inv .1) (v .1) (bases-hold _ _ _ _ u (v .0) t) (mod-one (c .before .before .before .before .inputs .c)) f);
-      ends = u .fits (c .before .before .before .before .inputs .c) t;
+          (c .before .before .before .before .before .before .before .before .pools .inv .1) (v .1) (bases-hold _ _ _ _ u (v .0) t) (mod-one (c .before .before .before .before .inputs .x)) f);
+      ends = u .fits (c .before .before .before .before .inputs .x) t;
     }
 
 pub find-input-spec : {M : Type 1} → statement M
 find-input-spec =
-    tie.close (tie.spec Inv-inputs μ-inputs Inv-pools μ-pools (λ c κs. search needs) pools-holds bases-of-requires mul-c element-copy-out-c inputs-holds
+    tie.close (tie.spec Inv-inputs μ-inputs Inv-pools μ-pools (λ c κs. search needs) pools-holds bases-of-requires mul-x element-copy-out-x inputs-holds
     next-input-requires (λ c. search needs) (λ c. search needs) inputs-less inputs-again (λ c. omega arith) (λ c. omega arith) pools-again returns returns-2)

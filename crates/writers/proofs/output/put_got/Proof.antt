@@ -17,8 +17,8 @@ put-numbers-requires c κs = omega (arith, c .before .before .before .before .be
 put-kind-requires : tie.Need-put-kind-requires
 put-kind-requires c κs = omega (arith, c .before .before .before .before .before .before .before .before .before .before .before .before .before .before .pre .1, got-length (c .before .before .before .before .before .before .before .before .before .before .before .before .before .before .args .r .now) (omega arith), c .before .before .before .before .before .before .before .before .put-bytes .ensures .0, c .before .before .before .before .before .before .before .before .put-bytes .kept .0, c .before .before .before .put-numbers .ensures .0, c .before .before .before .put-numbers .kept .0)
 
-add-n : tie.Need-add-n
-add-n c = omega (arith, c .carried .ensures, carried-few (getD (c .before .before .before .before .before .before .before .before .before .before .before .before .before .before .before .before .before .before .args .r .now) 0 0))
+add-past : tie.Need-add-past
+add-past c = omega (arith, c .carried .ensures, carried-few (getD (c .before .before .before .before .before .before .before .before .before .before .before .before .before .before .before .before .before .before .args .r .now) 0 0))
 
 part-put-numbers-end-2 : tie.Need-part-put-numbers-end-2
 part-put-numbers-end-2 c = let h : 3 + c .before .carried .result ≤ length (c .before .before .before .before .before .before .before .before .before .before .before .before .before .before .before .before .before .before .before .args .r .now) = omega (arith, c .before .before .before .before .before .before .before .before .before .before .before .before .before .before .before .before .before .before .before .pre .0, c .before .carried .ensures, carried-few (getD (c .before .before .before .before .before .before .before .before .before .before .before .before .before .before .before .before .before .before .before .args .r .now) 0 0)) in search needs
@@ -44,5 +44,5 @@ returns c =
 pub put-got-spec : {M : Type 1} → statement M
 put-got-spec =
     tie.close (tie.spec (λ c. search needs) (λ c. search needs) put-bytes-requires (λ c. search needs) (λ c. search needs) (λ c. search needs)
-    put-numbers-requires put-kind-requires (λ c κs. search needs) add-n (λ c. omega arith) (λ c. search needs) part-put-numbers-end-2 put-numbers-requires-2
+    put-numbers-requires put-kind-requires (λ c κs. search needs) add-past (λ c. omega arith) (λ c. search needs) part-put-numbers-end-2 put-numbers-requires-2
     slice-write-out add-result same-length returns)
