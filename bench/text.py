@@ -1,5 +1,6 @@
 #!/usr/bin/env python3
-"""Writes the text that `textspeed` is timed on: 1,110 `pool` and `hold` lines, most pool lines repeated, and 128 `want` lines of all kinds, 32,768 bytes at most.
+"""Writes the text that `textspeed` is timed on: 1,110 `pool` and `hold` lines, most pool lines repeated, and 128 `want` lines of all kinds, half of them automatic. It has
+32,768 bytes at most once it is pinned.
 
 100 reservations in each of four tables stand behind the last rows that an automatic request tries; with `crowded` they fill its first ones.
 """
@@ -8,6 +9,7 @@ import sys
 
 CROWDED = "crowded" in sys.argv[1:]
 BODY, LIMIT = 1110, 32768
+GROWS = 64  # by no more bytes than these, once numbers stand for `auto`
 
 
 def pools(use):
@@ -58,7 +60,7 @@ first = len(body)
 body += [random.choice(ranges) for _ in range(BODY - first)]
 asked = [*wants()]
 short = [line for line in ranges if len(line) < 23]
-while size(body) + size(asked) > LIMIT:
+while size(body) + size(asked) > LIMIT - GROWS:
     longest = max(range(first, BODY), key=lambda i: len(body[i]))
     body[longest] = random.choice(short)
 sys.stdout.write("".join(line.replace(" ", "\t") + "\n" for line in body + asked))

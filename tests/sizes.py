@@ -23,7 +23,7 @@ AGAIN = {
     "requests of a plan": ("bindings/c/planner.h PLANNER_MOST", "bindings/rust/src/sizes.rs MOST", "oracle/src/added.rs PLAN_REQUESTS", "tools/explain.py WANTS"),
     "numbers of a record": ("bindings/c/planner.h PLANNER_RECORD", "bindings/rust/src/sizes.rs RECORD", "oracle/src/added.rs RECORD"),
     "numbers of a request": ("bindings/c/planner.h PLANNER_REQUEST", "bindings/rust/src/sizes.rs REQUEST"),
-    "bytes of a text": ("oracle/src/text.rs TEXT", "tools/explain.py TEXT"),
+    "bytes of a text": ("bindings/c/planner.h PLANNER_TEXT", "bindings/rust/src/sizes.rs TEXT", "oracle/src/text.rs TEXT", "tools/explain.py TEXT"),
     "bytes of a line": ("oracle/src/text.rs LINE", "tools/explain.py LONGEST"),
 }
 

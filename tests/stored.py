@@ -1,7 +1,10 @@
 #!/usr/bin/env python3
-"""The stored texts with the original's answers (oracle/cases), for tests; with a folder named, lays each out there as a file, NUMBER.i, beside its output, NUMBER.o."""
+"""The stored texts with the original's answers (oracle/cases), for tests; with a folder named, lays each out there as a file, NUMBER.i, beside what the programs are to
+print: NUMBER.planner and NUMBER.pinner."""
 import pathlib
 import sys
+
+import pinned
 
 CASES = pathlib.Path(__file__).resolve().parent.parent / "oracle/cases"
 
@@ -24,4 +27,5 @@ if __name__ == "__main__":
     folder.mkdir(exist_ok=True)
     for number, (text, output) in enumerate(texts()):
         (folder / f"{number:03}.i").write_bytes(text)
-        (folder / f"{number:03}.o").write_bytes(output)
+        (folder / f"{number:03}.planner").write_bytes(output)
+        (folder / f"{number:03}.pinner").write_bytes(pinned.pinned(text, output))

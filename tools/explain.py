@@ -1,6 +1,6 @@
 """Says a plan's refusal in words: the answer goes through unchanged, and below it stand the line, what was asked, and who is in the way.
 
-Reads the answer on standard input and the plan from the file that is named. Every word comes from the tables below.
+Reads the answer, or the pinned plan, on standard input and the plan from the file that is named. Every word comes from the tables below.
 """
 import os
 import sys
@@ -35,7 +35,8 @@ DETAILS = {
 }
 # the words of the lines that can hold numbers of a namespace
 HOLDERS = {1: ["mmio"], 2: ["pio"], 3: ["input"], 4: ["host"], 5: ["device", "event", "msi"], 6: ["lpi", "msi"]}
-TOO_LONG = f"the text is longer than {TEXT:,} bytes"
+# what is refused at no line: the text as it is read, and as it would be written back
+TOO_LONG = {10: f"the text is longer than {TEXT:,} bytes", 11: f"with what was granted in it the text is longer than {TEXT:,} bytes"}
 OPEN = "the last line has no newline"
 
 
@@ -67,7 +68,7 @@ def explained(answer, text):
     line, number, namespace, owner, detail = (int(f) for f in fields[1:])
     name, words = REFUSALS[number]
     if line == 0:
-        return [f"refused with {number} ({name}): {TOO_LONG}"]
+        return [f"refused with {number} ({name}): {TOO_LONG[number]}"]
     lines = text.split(b"\n")
     words = words.format(owner=owner, namespace=NAMESPACES[namespace], detail=DETAILS[detail])
     if number == 10 and line == len(lines):

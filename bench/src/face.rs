@@ -18,6 +18,7 @@ mod exported {
         pub fn planner_read(s: *const State, size: u64, what: *const u64, n: usize, out: *mut u64, m: usize) -> u64;
         pub fn planner_pin(requests: *mut u64, n: usize, results: *const u64, m: usize);
         pub fn planner_text(text: *const u8, n: usize, out: *mut u8, m: usize) -> u64;
+        pub fn planner_pin_text(text: *const u8, n: usize, out: *mut u8, m: usize, answer: *mut u64, k: usize) -> u64;
     }
 }
 
@@ -120,4 +121,12 @@ pub fn pin(requests: &mut [Flat], results: &[u64]) {
 pub fn text(text: &[u8], out: &mut [u8]) -> u64 {
     // SAFETY: whole lists.
     unsafe { exported::planner_text(text.as_ptr(), text.len(), out.as_mut_ptr(), out.len()) }
+}
+
+pub fn pin_text(text: &[u8], out: &mut [u8]) -> u64 {
+    let (mut answer, m) = ([0; 5], out.len());
+    // SAFETY: whole lists.
+    unsafe {
+        exported::planner_pin_text(text.as_ptr(), text.len(), out.as_mut_ptr(), m, answer.as_mut_ptr(), answer.len())
+    }
 }

@@ -1,7 +1,7 @@
 // 01's forms by value, which nothing that ships leans on: one request over the whole state, and over the tables of its kind.
 
 use crate::face::Flat;
-use crate::tables::{MsiSet, Ranges, Set, State, Inputs};
+use crate::tables::{Inputs, MsiSet, Ranges, Set, State};
 
 mod symbols {
     use super::*;

@@ -43,6 +43,21 @@ fn main() {
     stacks(&inputs[1]);
 }
 
+/// A text whose stack is measured: a line of each sort and a want of each kind, with blanks for tabs.
+const TEXT: &str = "pool auto mmio 0 4096
+pool auto pio 0 64
+pool auto input 0 0 8
+pool auto host 0 8
+pool auto msi 0 0 0 8 0 8 8192 8200
+hold 7 mmio 0 16
+hold 7 input 0 0 0 0
+want 1 0 mmio 16 16 auto
+want 1 1 pio 8 8 auto
+want 1 2 input 0 0 0 auto
+want 1 3 host auto
+want 1 4 msi 0 0 4 auto
+";
+
 /// Each kind, automatic and fixed.
 fn singles() -> impl Iterator<Item = (usize, bool)> {
     (1..=5).flat_map(|kind| [(kind, false), (kind, true)])
@@ -175,8 +190,9 @@ fn stacks(input: &Input) {
     }
     row("`planner_read`", seen(|| face::read(&state, &[4, 1, 0])));
     row("`planner_pin`", seen(|| face::pin(&mut numbers.clone(), &lent.results)));
-    let (text, mut out) = (b"pool\tauto\tmmio\t0\t4096\n".to_vec(), vec![0; 1 << 16]);
-    row("`planner_text`", seen(|| face::text(&text, &mut out)));
+    let (text, mut out) = (TEXT.replace(' ', "\t").into_bytes(), vec![0; 1 << 16]);
+    row("`planner_text`", seen(|| assert!(face::text(&text, &mut out) > 0)));
+    row("`planner_pin_text`", seen(|| assert!(face::pin_text(&text, &mut out) > 0)));
     let mut listed = Lent::of(&state);
     row("`plan::list::plan_in`", seen(|| listed.list_in(&list)));
     let mut handed = Lent::of(&state);

@@ -50,20 +50,22 @@
  * Answers
  * -------
  * An answer is five numbers: number, index (of the refused request of a plan, from 0), namespace, owner, detail; what is not named is 0.
+ * That of planner_pin_text has the order of the program's `no` line: LINE (from 1; 0 where no line is to blame), number, namespace, owner, detail.
  *      0 accepted
  *      1 malformed: the tables are not sound, or a state of another size, or (helpers) a null pointer or another library than this header's
  *      2 bad input: size, count or requester 0, no such alignment, an unknown code or kind, a number too large for its field
  *      3 bad owner: owner 0                                4 empty range: start is not below end
  *      5 reserved: overlaps a reservation of `owner`       6 fixed not allowed: no fixed pool of `namespace` holds it, or not aligned
  *      7 exhausted: nothing in `namespace` fits            8 conflict: `owner` is in the way in `namespace`, as `detail` says
- *      9 full: a table needs a row and has none            10 bad line (in a text)
- *     11 short: a list is too short, or a plan longer than PLANNER_MOST requests
- * Where more than one applies the order is 1, 11, 2, 3, 4, then 5, 6 or 7, then 8, then 9.
+ *      9 full: a table needs a row and has none            10 bad line: a line that cannot be read, or a text over PLANNER_TEXT bytes
+ *     11 short: a list is too short, or a plan longer than PLANNER_MOST requests, or a pinned text longer than its buffer or than PLANNER_TEXT bytes
+ * Where more than one applies the order is 1, 11, 2, 3, 4, then 5, 6 or 7, then 8, then 9; a text's own refusal comes before the 11 of its pinned text.
  * Namespaces: 1 MMIO, 2 PIO, 3 input of a controller, 4 host IRQ, 5 an ITS of a controller (device, event), 6 LPI of a controller.
  * Details: 1 address ranges overlap, 2 trigger differs, 3 not shareable, 4 host IRQ taken, 5 device taken, 6 events overlap, 7 LPIs overlap.
  *
  * A refused call changes no table (of an MSI pool the ranges before the refused one stay), and no number of a list: a record is not
- * written; of a plan the records before the refused request stand in front of the results, with 1 or 11 none, and the rest is as it was.
+ * written; of a plan the records before the refused request stand in front of the results, with 1 or 11 none, and the rest is as it was;
+ * of a pinned text no byte is written.
  *
  * Lists and pointers
  * ------------------
@@ -74,7 +76,7 @@
  * tested. Null is tested by the helpers below alone.
  *
  * Stack, as measured (docs/SPEED.md): planner_call 4 KB, planner_allocate and planner_plan 12 KB, planner_read and planner_pin less than
- * 1 KB; planner_text 80 KB, a state among it: give a thread that makes it 144 KB. */
+ * 1 KB; planner_text 80 KB, a state among it: give a thread that makes it 144 KB; planner_pin_text as planner_text. */
 #ifndef PLANNER_H
 #define PLANNER_H
 
@@ -92,6 +94,7 @@ extern "C" {
 #define PLANNER_RECORD 9u     /* numbers of a record */
 #define PLANNER_ANSWER 5u     /* numbers of an answer */
 #define PLANNER_ROW 9u        /* numbers of a row: the table's count, controller, ITS, device, start, end, trigger, sharing, owner */
+#define PLANNER_TEXT 32768u   /* bytes of a text, read or pinned */
 
 /* The words of a state: twice seven pool tables, twice seven tables of rows that are held (one of inputs among them), the last answer. Each table is
  * its count and its columns; two 32-bit numbers share a word. */
@@ -135,7 +138,7 @@ uint64_t planner_plan(uint64_t *state, uint64_t size, const uint64_t *requests, 
 /* Writes granted records back into their requests, in order: what was automatic then asks for the number that it was given. Lend it the
  * filled front part of the results and no more. Any selection of the requests of a plan that was accepted from a fresh start, written back,
  * gets the same numbers again, in any order, from a fresh start on the same pools and reservations, provided that each automatic pool range
- * lies inside a fixed one. */
+ * lies inside a fixed one. For a plan that is a text there is planner_pin_text. */
 void planner_pin(uint64_t *requests, size_t n, const uint64_t *results, size_t m);
 
 /* Reading back. `what` is 0: the last answer's five numbers; or part, kind, row: the nine numbers of a row, used or not, as it is stored. What a
@@ -143,13 +146,25 @@ void planner_pin(uint64_t *requests, size_t n, const uint64_t *results, size_t m
 uint64_t planner_read(const uint64_t *state, uint64_t size, const uint64_t *what, size_t n, uint64_t *out, size_t m);
 
 /* What the planner's program answers to a text of lines, in front of `out`. It answers with how many bytes it wrote: 0 where `out` has fewer than
- * PLANNER_TEXT_OUTPUT bytes, and nothing is written then. */
+ * PLANNER_TEXT_OUTPUT bytes, and nothing is written then. To write the text itself back with its answers there is planner_pin_text. */
 uint64_t planner_text(const uint8_t *text, size_t n, uint8_t *out, size_t m);
+
+/* The same text pinned, to be kept and run again: it is read and planned on fresh tables of its own, as planner_text does, and stands in front of
+ * `out` with the number granted in place of the `auto` that a `want` line ends in, of MSI the three numbers device, event, LPI; every other byte is
+ * as it was read. It answers with how many bytes it wrote. Where `answer` has room for five numbers it tells them, LINE FIRST: line, number,
+ * namespace, owner, detail, five zeros where the text was written; a shorter list is left alone.
+ * The text's own refusal comes first, with its line: 10 at line 0 where it is over PLANNER_TEXT bytes. Then 11 at line 0, where the pinned text is
+ * longer than `out` or than PLANNER_TEXT bytes: numbers may be longer than `auto`. A buffer of PLANNER_TEXT bytes is never too short. Refused it
+ * writes 0 bytes, and none of `out` changes; else none behind those written. An empty text is accepted: 0 bytes, also where `out` has none.
+ * The `pool` and `hold` lines of a pinned text, then any of its wants, each at most once, in any order: such a text gets the same `got` lines from
+ * planner_text as these wants got before, provided that each automatic pool range lies inside a fixed one. */
+uint64_t planner_pin_text(const uint8_t *text, size_t n, uint8_t *out, size_t m, uint64_t *answer, size_t k);
 
 /* ---- helpers
  *
  * Each answers with the answer's number, and refuses null pointers with 1 (planner_respond: the bytes written, and 0). None takes the library's
- * word alone for an accepted call: the answer in the state is 1 before it, and a library that writes none (one of another build) has refused. */
+ * word alone for an accepted call: the answer, in the state or of a pinned text, is 1 before it, and a library that writes none (one of another
+ * build) has refused. */
 
 /* Whether memory of so many bytes can be a state: not null, aligned, and of the one size that this header and the library both have. */
 static inline int planner_fits(const void *memory, size_t bytes) {
@@ -238,6 +253,28 @@ static inline size_t planner_respond(const char *text, size_t n, char *out, size
     out[0] = 0; /* no answer begins so: a library that writes nothing is seen */
     uint64_t written = planner_text((const uint8_t *)text, n, (uint8_t *)out, m);
     return out[0] != 0 && written <= PLANNER_TEXT_OUTPUT ? (size_t)written : 0;
+}
+
+/* No answer of a text yet: line 0, and 1. */
+static inline void planner_unsay_line(uint64_t answer[PLANNER_ANSWER]) {
+    for (size_t i = 0; i < PLANNER_ANSWER; i++) answer[i] = i == 1;
+}
+
+/* A text pinned, in front of `out`, for which PLANNER_TEXT bytes are never too few. `written` is how many bytes they are, 0 where it is refused; the
+ * answer's five numbers, LINE FIRST (its number is answer[1]), are written whatever comes of it. */
+static inline uint64_t planner_write_text(const char *text, size_t n, char *out, size_t m, size_t *written, uint64_t answer[PLANNER_ANSWER]) {
+    if (written) *written = 0;
+    if (!answer) return 1;
+    planner_unsay_line(answer);
+    if (!text || !out || !written) return 1;
+    uint64_t bytes = planner_pin_text((const uint8_t *)text, n, (uint8_t *)out, m, answer, PLANNER_ANSWER);
+    /* a refusal writes nothing, an empty text alone is written as nothing, and no text is longer than its buffer or than a text may be */
+    if (answer[1] ? bytes == 0 : (bytes == 0) == (n == 0) && bytes <= m && bytes <= PLANNER_TEXT) {
+        *written = (size_t)bytes;
+        return answer[1];
+    }
+    planner_unsay_line(answer);
+    return 1;
 }
 
 /* Starts: the owners become the reservations, and all grants are forgotten. */

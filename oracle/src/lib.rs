@@ -20,4 +20,5 @@ pub mod gen;
 pub mod judge;
 #[cfg(feature = "ours")]
 pub mod ours;
+pub mod pinned;
 pub mod text;

@@ -6,6 +6,9 @@ use crate::added::{HELD_ROWS as ROWS, POOL_ROWS};
 use crate::calls::{Kind, Place, Row, Tables};
 use crate::compare::face::{Face, Said, LENT};
 use crate::compare::flat::Step;
+use crate::pinned::Pinned;
+#[cfg(feature = "ours-text")]
+use crate::pinned::BYTE;
 
 /// One call in so many is followed by the calls that read back.
 const LOOK: u64 = 31;
@@ -101,6 +104,38 @@ extern "C" {
     ) -> u64;
     #[cfg(feature = "ours-text")]
     fn planner_text(text: *const u8, length: usize, out: *mut u8, out_length: usize) -> u64;
+    #[cfg(feature = "ours-text")]
+    fn planner_pin_text(
+        text: *const u8,
+        length: usize,
+        out: *mut u8,
+        out_length: usize,
+        answer: *mut u64,
+        answer_length: usize,
+    ) -> u64;
+}
+
+/// Bytes that hold any output of the text call.
+#[cfg(feature = "ours-text")]
+pub const OUTPUT: usize = 22_553;
+
+/// The bytes behind a lent buffer that are looked at.
+#[cfg(feature = "ours-text")]
+const BEHIND: usize = 8;
+
+/// The text call as it is.
+#[cfg(feature = "ours-text")]
+pub fn text_into(text: &[u8], out: &mut [u8]) -> usize {
+    // SAFETY: both lists have their lengths.
+    unsafe { planner_text(text.as_ptr(), text.len(), out.as_mut_ptr(), out.len()) as usize }
+}
+
+/// The call that writes a text back, as it is.
+#[cfg(feature = "ours-text")]
+pub fn pin_into(text: &[u8], out: &mut [u8], answer: &mut [u64]) -> usize {
+    let (room, told) = (out.len(), answer.len());
+    // SAFETY: each list has its length.
+    unsafe { planner_pin_text(text.as_ptr(), text.len(), out.as_mut_ptr(), room, answer.as_mut_ptr(), told) as usize }
 }
 
 /// A state of the library's own.
@@ -212,21 +247,39 @@ impl Face for Library {
 
     #[cfg(feature = "ours-text")]
     fn text(&mut self, text: &[u8]) -> Vec<u8> {
-        /// Bytes that hold any output.
-        const OUTPUT: usize = 22_553;
-        /// What every lent byte holds beforehand.
-        const BYTE: u8 = 0xA5;
-        let mut out = vec![BYTE; OUTPUT + 8];
-        // SAFETY: both lists have their lengths.
-        let length = unsafe { planner_text(text.as_ptr(), text.len(), out.as_mut_ptr(), OUTPUT) } as usize;
+        let mut out = vec![BYTE; OUTPUT + BEHIND];
+        let length = text_into(text, &mut out[..OUTPUT]);
         assert!(length <= OUTPUT, "an output of {length} bytes");
         assert!(out[length..].iter().all(|byte| *byte == BYTE), "bytes behind the output are written");
         out.truncate(length);
         out
     }
 
+    /// Now and then without room for the answer: it is then not told, and all else is the same.
+    #[cfg(feature = "ours-text")]
+    fn pin(&mut self, text: &[u8], room: usize) -> Pinned {
+        let (mut out, mut told) = (vec![BYTE; room + BEHIND], [LENT; 6]);
+        let length = pin_into(text, &mut out[..room], &mut told);
+        assert_eq!(out[room..], [BYTE; BEHIND], "bytes behind the buffer are written");
+        let [answer @ .., sixth] = told;
+        assert_eq!(sixth, LENT, "a number behind the answer is written");
+        out.truncate(room);
+        self.calls += 1;
+        if self.calls.is_multiple_of(LOOK) {
+            let (mut other, mut short) = (vec![BYTE; room], [LENT; 4]);
+            assert_eq!(pin_into(text, &mut other, &mut short), length, "the count without room for the answer");
+            assert!((&other, short) == (&out, [LENT; 4]), "what is written without room for the answer");
+        }
+        Pinned { answer, length, lent: out }
+    }
+
     #[cfg(not(feature = "ours-text"))]
     fn text(&mut self, _text: &[u8]) -> Vec<u8> {
+        unreachable!("this library has no text call")
+    }
+
+    #[cfg(not(feature = "ours-text"))]
+    fn pin(&mut self, _text: &[u8], _room: usize) -> Pinned {
         unreachable!("this library has no text call")
     }
 }

@@ -16,6 +16,15 @@ pub enum Line {
     Want(Request),
 }
 
+/// What a text came to.
+#[derive(Clone, Debug, PartialEq, Eq)]
+pub enum Ran {
+    /// At this line; 0 is the text as a whole.
+    Refused { line: usize, refusal: Refusal },
+    /// What its wants were granted, in order.
+    Granted(Vec<Record>),
+}
+
 /// Why a text was not answered: the original stopped with a panic at a line.
 #[derive(Debug)]
 pub struct Stopped {
@@ -25,28 +34,43 @@ pub struct Stopped {
 
 /// The whole output for a text.
 pub fn run(text: &[u8]) -> Result<Vec<u8>, Stopped> {
-    run_seen(text, &mut |_, _| {})
+    run_seen(text, &mut |_, _| {}).map(|ran| ran.output())
 }
 
-/// The same; each call that a line comes to is shown beforehand, with the tables that it meets.
-pub fn run_seen(text: &[u8], see: &mut dyn FnMut(&Tables, &Call)) -> Result<Vec<u8>, Stopped> {
+/// What a text comes to; each call that a line comes to is shown beforehand, with the tables that it meets.
+pub fn run_seen(text: &[u8], see: &mut dyn FnMut(&Tables, &Call)) -> Result<Ran, Stopped> {
     if text.len() > TEXT {
-        return Ok(refused(0, &Refusal::plain(no::BAD_LINE)));
+        return Ok(Ran::Refused { line: 0, refusal: Refusal::plain(no::BAD_LINE) });
     }
     let mut lines: Vec<&[u8]> = text.split(|byte| *byte == b'\n').collect();
     let unfinished = lines.pop().unwrap_or_default();
     let mut reader = Reader::new();
     for (index, line) in lines.iter().enumerate() {
         match reader.step_seen(line, see) {
-            Answer::Refused(refusal) => return Ok(refused(index + 1, &refusal)),
+            Answer::Refused(refusal) => return Ok(Ran::Refused { line: index + 1, refusal }),
             Answer::Panicked(message) => return Err(Stopped { line: index + 1, message }),
             Answer::Accepted | Answer::Granted(_) => {}
         }
     }
     if !unfinished.is_empty() {
-        return Ok(refused(lines.len() + 1, &Refusal::plain(no::BAD_LINE)));
+        return Ok(Ran::Refused { line: lines.len() + 1, refusal: Refusal::plain(no::BAD_LINE) });
     }
-    Ok(reader.finish())
+    Ok(Ran::Granted(reader.granted))
+}
+
+impl Ran {
+    /// The program's output.
+    pub fn output(&self) -> Vec<u8> {
+        match self {
+            Ran::Refused { line, refusal: Refusal { number, namespace, owner, detail } } => {
+                format!("no\t{line}\t{number}\t{namespace}\t{owner}\t{detail}\n").into_bytes()
+            }
+            Ran::Granted(records) => {
+                let got: String = records.iter().map(got).collect();
+                format!("{got}end\t{}\n", records.len()).into_bytes()
+            }
+        }
+    }
 }
 
 /// The state between two lines.
@@ -84,27 +108,12 @@ impl Reader {
         }
         answer
     }
-
-    /// The output of a text whose lines were all accepted.
-    pub fn finish(&self) -> Vec<u8> {
-        let mut out = String::new();
-        for record in &self.granted {
-            out.push_str(&got(record));
-        }
-        out.push_str(&format!("end\t{}\n", self.granted.len()));
-        out.into_bytes()
-    }
 }
 
 impl Default for Reader {
     fn default() -> Self {
         Self::new()
     }
-}
-
-fn refused(line: usize, refusal: &Refusal) -> Vec<u8> {
-    let Refusal { number, namespace, owner, detail } = refusal;
-    format!("no\t{line}\t{number}\t{namespace}\t{owner}\t{detail}\n").into_bytes()
 }
 
 /// A record's line: the kind's word behind the slot, and as many numbers as the kind has.

@@ -38,4 +38,12 @@ extern "C" {
     ) -> u64;
     pub fn planner_pin(requests: *mut u64, n: usize, results: *const u64, m: usize);
     pub fn planner_text(text: *const u8, n: usize, out: *mut u8, m: usize) -> u64;
+    pub fn planner_pin_text(
+        text: *const u8,
+        n: usize,
+        out: *mut u8,
+        m: usize,
+        answer: *mut u64,
+        k: usize,
+    ) -> u64;
 }

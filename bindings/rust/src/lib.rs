@@ -34,11 +34,13 @@ mod plan;
 mod raw;
 mod refusal;
 mod sizes;
+mod texts;
 
 pub use ask::{Choice, DeviceId, EventId, Hold, Lpi, Pool, Request, Use, Want};
 pub use plan::{Granted, Plan, PlanRefusal};
 pub use refusal::Refusal;
-pub use sizes::{ANSWER, MOST, POOL_ROWS, RECORD, REQUEST, ROWS, STATE_SIZE, TEXT_OUTPUT};
+pub use sizes::{ANSWER, MOST, POOL_ROWS, RECORD, REQUEST, ROWS, STATE_SIZE, TEXT, TEXT_OUTPUT};
+pub use texts::{pin_text, text, TextRefusal};
 
 use sizes::ROW;
 
@@ -88,7 +90,7 @@ pub struct Row {
     pub owner: u64,
 }
 
-/// The planner with its tables: [`STATE_SIZE`] bytes, on the stack unless it is put elsewhere. Requests, plans, the calls that add or start and reading back run on a stack of 64 KB; the text takes 80 KB, as measured: give a thread that makes it 144 KB.
+/// The planner with its tables: [`STATE_SIZE`] bytes, on the stack unless it is put elsewhere. Requests, plans, the calls that add or start and reading back run on a stack of 64 KB; [`text`] and [`pin_text`] take 80 KB, as measured: give a thread that makes them 144 KB.
 #[derive(Clone)]
 pub struct Planner {
     state: [u64; WORDS],
@@ -254,24 +256,4 @@ impl Planner {
             .min(part.rows());
         (0..used).filter_map(move |i| self.row(part, kind, i))
     }
-}
-
-/// What the planner's program answers to a text of lines. The buffer is at least [`TEXT_OUTPUT`] bytes long, whatever the text.
-///
-/// ```
-/// use thurgoleo::{text, Refusal, TEXT_OUTPUT};
-/// let mut out = [0; TEXT_OUTPUT];
-/// assert_eq!(text(b"", &mut out), Ok(&b"end\t0\n"[..]));
-/// assert_eq!(text(b"", &mut out[..100]), Err(Refusal::Short));
-/// ```
-pub fn text<'a>(lines: &[u8], out: &'a mut [u8]) -> Result<&'a [u8], Refusal> {
-    if out.len() < TEXT_OUTPUT {
-        return Err(Refusal::Short);
-    }
-    out[0] = 0; // no output begins so: a library that writes nothing is seen
-    let n = raw::text(lines, out) as usize;
-    if n == 0 || TEXT_OUTPUT < n || out[0] == 0 {
-        return Err(Refusal::Malformed);
-    }
-    Ok(&out[..n])
 }

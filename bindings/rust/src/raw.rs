@@ -2,8 +2,8 @@
 //! so none is null; the state has the size that is passed.
 
 use crate::exported::{
-    planner_allocate, planner_call, planner_fresh, planner_pin, planner_plan, planner_read,
-    planner_state_size, planner_text,
+    planner_allocate, planner_call, planner_fresh, planner_pin, planner_pin_text, planner_plan,
+    planner_read, planner_state_size, planner_text,
 };
 use crate::{STATE_SIZE, WORDS};
 
@@ -91,4 +91,18 @@ pub fn pin(requests: &mut [u64], results: &[u64]) {
 #[must_use]
 pub fn text(text: &[u8], out: &mut [u8]) -> u64 {
     unsafe { planner_text(text.as_ptr(), text.len(), out.as_mut_ptr(), out.len()) }
+}
+
+#[must_use]
+pub fn pin_text(text: &[u8], out: &mut [u8], answer: &mut [u64]) -> u64 {
+    unsafe {
+        planner_pin_text(
+            text.as_ptr(),
+            text.len(),
+            out.as_mut_ptr(),
+            out.len(),
+            answer.as_mut_ptr(),
+            answer.len(),
+        )
+    }
 }

@@ -27,7 +27,9 @@ pub enum Refusal {
         detail: u32,
     },
     Full,
+    /// A line that cannot be read, or a text that is too long.
     BadLine,
+    /// A list or a buffer is too short, a plan too long, or a pinned text.
     Short,
 }
 

@@ -34,6 +34,9 @@ const INPUTS: usize = 8 + narrow(1, ROWS) + 8 * ROWS + narrow(3, ROWS);
 /// The bytes of a state: twice seven pool tables, twice seven tables of rows that are held, and the last answer.
 pub const STATE_SIZE: usize = 2 * 7 * POOL + 2 * (6 * RANGES + INPUTS) + 8 * ANSWER;
 
+/// The bytes of a text, read or pinned.
+pub const TEXT: usize = 32768;
+
 /// A number behind its tab, of twenty digits at the most.
 const FIELD: usize = 21;
 

@@ -2,16 +2,21 @@
 //! accepted, and nothing is granted or pinned.
 //! The exported functions are defined here, so the linker takes none from the planner's library.
 
-use std::sync::atomic::{AtomicBool, AtomicU64, Ordering::SeqCst};
+use std::sync::{
+    atomic::{AtomicBool, AtomicU64, Ordering::SeqCst},
+    Mutex,
+};
 use thurgoleo::{
-    text, Choice, Hold, Kind, Part, Plan, PlanRefusal, Planner, Pool, Refusal, Request, Use, Want,
-    STATE_SIZE, TEXT_OUTPUT,
+    pin_text, text, Choice, Hold, Kind, Part, Plan, PlanRefusal, Planner, Pool, Refusal, Request,
+    TextRefusal, Use, Want, STATE_SIZE, TEXT, TEXT_OUTPUT,
 };
 
 static SIZE: AtomicU64 = AtomicU64::new(0);
 static ANSWER: AtomicU64 = AtomicU64::new(0);
 /// Whether an accepted answer is written into the state.
 static WRITES: AtomicBool = AtomicBool::new(false);
+/// What is written as the answer of a pinned text, if anything is.
+static SAID: Mutex<Option<[u64; 5]>> = Mutex::new(None);
 
 fn answer() -> u64 {
     ANSWER.load(SeqCst)
@@ -90,6 +95,21 @@ extern "C" fn planner_text(_: *const u8, _: usize, _: *mut u8, _: usize) -> u64 
     answer()
 }
 
+#[no_mangle]
+extern "C" fn planner_pin_text(
+    _: *const u8,
+    _: usize,
+    _: *mut u8,
+    _: usize,
+    said: *mut u64,
+    _: usize,
+) -> u64 {
+    if let Some(five) = *SAID.lock().unwrap() {
+        unsafe { said.copy_from(five.as_ptr(), 5) };
+    }
+    answer()
+}
+
 const IRQ: Request = Request {
     requester: 1,
     slot: 0,
@@ -146,4 +166,48 @@ fn whatever_it_answers() {
             assert_eq!(text(b"", &mut out), Err(Refusal::Malformed));
         }
     }
+    nothing_is_pinned();
+}
+
+/// Silence, whatever the count; a count that the text or the buffer cannot have; a refusal that writes; a line that is not there; a number that says nothing.
+fn nothing_is_pinned() {
+    let (written, refused) = (Some([0; 5]), Some([1, 10, 0, 0, 0]));
+    let mut out = [b'e'; TEXT + 9];
+    for (said, count, lines, room) in [
+        (None, 0, "", 9),
+        (None, 0, "\n", 9),
+        (None, 1, "\n", 9),
+        (None, u64::MAX, "\n", 9),
+        (written, 1, "", 9),
+        (written, 0, "\n", 9),
+        (written, 10, "\n", 9),
+        (written, TEXT as u64 + 1, "\n", TEXT + 9),
+        (written, u64::MAX, "\n", TEXT + 9),
+        (refused, 1, "\n", 9),
+        (refused, 0, "", 9),
+        (Some([2, 10, 0, 0, 0]), 0, "\n", 9),
+        (Some([0, 18, 0, 0, 0]), 0, "\n", 9),
+    ] {
+        *SAID.lock().unwrap() = said;
+        ANSWER.store(count, SeqCst);
+        let malformed = TextRefusal {
+            line: 0,
+            refusal: Refusal::Malformed,
+        };
+        let pinned = pin_text(lines.as_bytes(), &mut out[..room]);
+        assert_eq!(pinned, Err(malformed), "{said:?} {count} {lines:?}");
+    }
+    // what can be so is heard
+    *SAID.lock().unwrap() = written;
+    ANSWER.store(1, SeqCst);
+    assert_eq!(pin_text(b"\n", &mut out), Ok(&b"e"[..]));
+    *SAID.lock().unwrap() = Some([1, 8, 4, 9, 2]);
+    ANSWER.store(0, SeqCst);
+    let refusal = Refusal::Conflict {
+        namespace: 4,
+        owner: 9,
+        detail: 2,
+    };
+    let refused = TextRefusal { line: 1, refusal };
+    assert_eq!(pin_text(b"\n", &mut out), Err(refused));
 }

@@ -1,13 +1,13 @@
 //! Requests, plans, calls that add or start, and reading back on a stack of 64 KB, as a hypervisor's thread has it: through the C face the same answers, records and states as on a
-//! large one; through the wrapper what it grants. A text on a stack of 64 KB beside the state that it keeps there.
+//! large one; through the wrapper what it grants. A text, answered and pinned, on a stack of 64 KB beside the state that it keeps there.
 
 mod common;
 
 use common::{
-    mixed, numbers, on_stack, planner_allocate, planner_call, planner_pin, planner_plan,
-    planner_read, planner_text, stand,
+    mixed, numbers, on_stack, planner_allocate, planner_call, planner_pin, planner_pin_text,
+    planner_plan, planner_read, planner_text, stand,
 };
-use thurgoleo::{Plan, MOST, RECORD, REQUEST, STATE_SIZE, TEXT_OUTPUT};
+use thurgoleo::{Plan, MOST, RECORD, REQUEST, STATE_SIZE, TEXT, TEXT_OUTPUT};
 
 const SMALL: usize = 64 << 10;
 const LARGE: usize = 1 << 20;
@@ -189,16 +189,37 @@ fn the_answer_and_every_table_read_back() {
     assert_eq!(same(read, &state, &[], 9).0, 11);
 }
 
-#[test]
-fn a_text_beside_its_state() {
+/// Pools, a reservation and as many wants as a plan has.
+fn a_text() -> Vec<u8> {
     let text = "pool\tauto\tmmio\t0\t1000000\npool\tfixed\tpio\t0\t65535\npool\tauto\tmsi\t0\t0\t0\t64\t0\t64\t8192\t9000\nhold\t7\tmmio\t4096\t8192\n".to_string()
         + &"want\t3\t1\tmmio\t256\t256\tauto\nwant\t4\t0\tmsi\t0\t0\t2\tauto\n".repeat(MOST / 2);
-    let text = text.into_bytes();
+    text.into_bytes()
+}
+
+#[test]
+fn a_text_beside_its_state() {
+    let text = a_text();
     on_stack(STATE_SIZE + SMALL, move || {
         let mut out = vec![0; TEXT_OUTPUT];
         let n = unsafe { planner_text(text.as_ptr(), text.len(), out.as_mut_ptr(), out.len()) };
         let said = String::from_utf8(out[..n as usize].to_vec()).unwrap();
         let end = format!("end\t{}\n", MOST / 2 * 2);
         assert!(said.ends_with(&end), "{said}");
+    });
+}
+
+/// The same text pinned on the same stack: written, without room, refused at its last line.
+#[test]
+fn a_pinned_text_beside_its_state() {
+    let text = a_text();
+    on_stack(STATE_SIZE + SMALL, move || {
+        let refused = [&text[..], b"pool\n"].concat();
+        for (text, room, ends) in [(&text, TEXT, 0), (&text, 9, 11), (&refused, TEXT, 10)] {
+            let (mut out, mut answer) = (vec![0; room], [7; 5]);
+            let (to, five) = (out.as_mut_ptr(), answer.as_mut_ptr());
+            let n = unsafe { planner_pin_text(text.as_ptr(), text.len(), to, room, five, 5) };
+            assert_eq!((n == 0, answer[1]), (ends != 0, ends));
+            assert!(n == 0 || out[..n as usize].ends_with(b"\tmsi\t0\t0\t2\t63\t0\t8318\n"));
+        }
     });
 }

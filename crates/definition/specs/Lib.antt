@@ -23,6 +23,7 @@ pub mod RefusedLaws
 pub mod HaltLaws
 pub mod RunLaws
 pub mod ReplayLaws
+pub mod PickLaws
 pub mod PlanLaws
 pub mod WipeLaws
 pub mod CutLaws

@@ -153,25 +153,27 @@ plan-take i rs s out gs e =
 pub plan-requests : (rs : List Request) (s : State) (out : List ℕ) (gs : List Grant) → planRun rs s out ≡ done gs → map (λ g. g .request) gs ≡ rs
 plan-requests rs s out gs e = run-requests (poolsOf s) rs (ownersOf s) gs (plan-says rs s out gs e .ran)
 
-all-sounds : (s : State) → SoundFor kinds s → Sounds (ownersOf s)
+pub all-sounds : (s : State) → SoundFor kinds s → Sounds (ownersOf s)
 all-sounds s h k = (sound-ground s k (h k (every-kind k))) .1
 
-all-wide : (s : State) → SoundFor kinds s → (k : Kind) → Wide (poolsOf s) k
+pub all-wide : (s : State) → SoundFor kinds s → (k : Kind) → Wide (poolsOf s) k
 all-wide s h k = (sound-ground s k (h k (every-kind k))) .0
 
-all-fits : (s : State) → SoundFor kinds s → Fits (ownersOf s)
+pub all-fits : (s : State) → SoundFor kinds s → Fits (ownersOf s)
 unfolding Fits
 all-fits s h k = sound-fits s k (h k (every-kind k))
 
--- at the end the owner tables hold what they held, and the granted rows in order; and the state is sound
-pub plan-done : (rs : List Request) (s : State) (out : List ℕ) (gs : List Grant) → planRun rs s out ≡ done gs
+-- at the end of a run the owner tables hold what they held, and the granted rows in order; and the state is sound
+pub run-done : (rs : List Request) (s : State) (gs : List Grant) → SoundFor kinds s → run (poolsOf s) (ownersOf s) rs ≡ done gs
     → (k : Kind) → Sound (granting (allRows gs) s) k × (ownersOf (granting (allRows gs) s) k ≡ (ownersOf s ⊕ allRows gs) k)
 unfolding Fits
-plan-done rs s out gs e k =
-    let d : Done rs s out gs = plan-says rs s out gs e in
-    let h : SoundFor kinds s = sound-for kinds s (d .judged) in
-    let (rows, few) = run-kept (poolsOf s) (all-wide s h) rs (ownersOf s) gs (all-sounds s h) (all-fits s h) (d .ran) in
+run-done rs s gs h e k =
+    let (rows, few) = run-kept (poolsOf s) (all-wide s h) rs (ownersOf s) gs (all-sounds s h) (all-fits s h) e in
     granting-sound s (allRows gs) k (h k (every-kind k)) (omega (arith, few k, length-put (ownersOf s) (allRows gs) k)) (rows k)
+
+pub plan-done : (rs : List Request) (s : State) (out : List ℕ) (gs : List Grant) → planRun rs s out ≡ done gs
+    → (k : Kind) → Sound (granting (allRows gs) s) k × (ownersOf (granting (allRows gs) s) k ≡ (ownersOf s ⊕ allRows gs) k)
+plan-done rs s out gs e = let d : Done rs s out gs = plan-says rs s out gs e in run-done rs s gs (sound-for kinds s (d .judged)) (d .ran)
 
 -- a plan, accepted or refused, leaves a sound state sound
 pub plan-sound : (rs : List Request) (s : State) (out : List ℕ) → T (sound kinds s) → T (sound kinds (plan rs s out .state))

@@ -153,6 +153,7 @@ pub record Resolved (P : Pools) (S : Holders) (r : Request) (cs : List Claim) : 
   pub free-of : FreeOf S cs
   pub apart : T (pairsOf otherKind cs)
   pub goods : (c : Claim) → List·Memᴰ c cs → T (goodRow (c .kind) (c .row))
+  pub good : T (goodRequest (pinned (grant r cs)))
   pub has-room : T (room S cs)
   pub fits : Fits S → Fits (S ⊕ cs)
   pub again : AutoInFixed P → (S′ : Holders) → FreeOf S′ cs → Fits (S′ ⊕ cs) → resolve P S′ (pinned (grant r cs)) ≡ accepted cs
@@ -175,6 +176,7 @@ resolved P S r cs ground e =
       free-of = c .free-of;
       apart = c .apart;
       goods = c .goods;
+      good = g₆;
       has-room = rm;
       fits = λ h k. rw (length-put S ds k) (fits-one S k ds (h k) (c .apart) rm);
       again = λ i S′ f h. required (goodRequest (pinned (grant r ds))) badInput _ g₆ ∙ rw (c .again i S′ f) (required (room S′ ds) full (accepted ds) (fits-room S′ ds h));

@@ -11,7 +11,8 @@ use Rattle.tables.specs.Whole.{freshState}
 use Rattle.tables.specs.declared.State.{State}
 use Rattle.text.specs.Respond.{Replied}
 use Rattle.numbers.specs.Lent.{filledIn}
-use Rattle.numbers.specs.Rows.{answerSize, Told, told}
+use Rattle.lines.specs.Back.{Pinned}
+use Rattle.numbers.specs.Rows.{answerSize, Told, told, fiveTold}
 
 -- ---- the bytes of a state
 
@@ -74,3 +75,15 @@ sizedFresh size s = elim (eqb size stateSize) [ true ↦ begun freshState 0 | fa
 -- the text call answers with how many bytes it has written
 abbrev pub bytesTold : Replied → Told
 bytesTold replied = told (replied .bytes) (replied .buffer)
+
+-- .. and so does writing back, whose five numbers stand in front of a list that has room for them
+pub record TextPinned : Type 0 where
+  pub bytes : ℕ
+  pub buffer : List ℕ
+  pub answer : List ℕ
+
+abbrev pub textPinned : ℕ → List ℕ → List ℕ → TextPinned
+textPinned n out five = record { bytes = n; buffer = out; answer = five }
+
+abbrev pub pinTold : Pinned → List ℕ → TextPinned
+pinTold pinned five = textPinned (pinned .bytes) (pinned .buffer) (fiveTold (pinned .answer) five .out)

@@ -6,11 +6,13 @@ use numbers::back::filled;
 use numbers::back::tell_read;
 use numbers::back::which;
 use numbers::row::row;
+use numbers::tell_five;
 use tables::POOL_ROWS;
 use tables::ROWS;
 use tables::State;
 use tables::fresh;
 use text::respond;
+use write_back::pin_text;
 ghost use mathlib.Core.Path.{_≡_};
 ghost use lib.ListN.{length};
 ghost use Rattle.definition.specs.Plan.{lent};
@@ -20,7 +22,8 @@ ghost use Rattle.numbers.specs.Rows.{told};
 ghost use Rattle.numbers.specs.Lent.{callTold, readTold, filledBy};
 ghost use Rattle.flat.specs.Pin.{pinnedNumbers};
 ghost use Rattle.text.specs.Respond.{respondsTo};
-ghost use Rattle.export.specs.Export.{stateSize, begun, sizedFresh, answered, sized, numbered, counted, sizedRead, bytesTold};
+ghost use Rattle.lines.specs.Back.{pinsTo};
+ghost use Rattle.export.specs.Export.{stateSize, begun, sizedFresh, answered, sized, numbered, counted, sizedRead, bytesTold, textPinned, pinTold};
 
 // The bytes of a table: its count, and its rows, column by column. (Were ROWS odd, columns would be padded: `size-is` then refuses these numbers.)
 const POOL: usize = 8 + POOL_ROWS * (4 + 4 + 8 + 8);
@@ -142,4 +145,15 @@ pub extern "C" fn planner_text(text: &[u8], out: &mut [u8]) -> u64
 {
     let r = respond(text, out);
     r.length as u64
+}
+
+// A plan's text written back with its answers: the pinned text in front of `out`. It answers with how many bytes were written; the five numbers of a `no` line, line first, are
+// told where `answer` has room for them, zeros where the text was written.
+#[no_mangle]
+pub extern "C" fn planner_pin_text(text: &[u8], out: &mut [u8], answer: &mut [u64]) -> u64
+    ensures { λ r. ⌜ textPinned r (now (out .exit)) (now (answer .exit)) ≡ pinTold (pinsTo (now (text .entry)) (now (out .entry))) (now (answer .entry)) ⌝ }
+{
+    let w = pin_text(text, out);
+    let _room = tell_five(w.line, w.number, w.namespace, w.owner, w.detail, answer);
+    w.length as u64
 }

@@ -6,13 +6,13 @@ use mathlib.Core.Option.{none}
 use Prim.Native.Nat.{ℕ, _+_, _-_, _<_, _≤_}
 use native.Mathlib.Omega.{arith}
 use lib.ListN.{length, take, drop, length-drop, drop-of-length-le}
-use lib.Seq.{take-all, drop-cons}
-use lib.Dec.{ltb}
-use borrow.Author.Tests.{lt-ltb, le-ltb, ltb-true, ltb-false}
-use Rattle.lines.specs.Base.{newline, split}
+use lib.Seq.{take-all, drop-cons, length-take-le}
+use lib.Dec.{ltb, leb}
+use borrow.Author.Tests.{lt-ltb, le-ltb, ltb-true, ltb-false, le-leb, lt-leb, leb-true, leb-false}
+use Rattle.lines.specs.Base.{textLimit, newline, split}
 use Rattle.lines.specs.Line.{readLine}
 use Rattle.lines.specs.Code.{first}
-use Rattle.lines.specs.Text.{Sofar, accepts, take-line, step, fed, feedParts, feed, unfinished, closedBy, close}
+use Rattle.lines.specs.Text.{Sofar, beginning, accepts, take-line, step, fed, feedParts, feed, unfinished, closedBy, close, overlong, ended}
 use Rattle.lines.specs.Place.{endAt, callAt, nextAt}
 use Rattle.lines.proofs.PartLaws.{part-last, part-next, split-some}
 
@@ -134,3 +134,23 @@ module _ (text : List ℕ) (at e : ℕ) (end : e ≡ endAt text at) where
   pub next-open : length text ≤ e → nextAt text at ≡ length text
   unfolding nextAt
   next-open l = rw (nextAt, le-ltb (endAt text at) (length text) (omega arith))
+
+-- ---- a text within its limit, or over it
+
+pub ended-long : (text : List ℕ) → textLimit < length text → ended text ≡ overlong
+unfolding ended
+ended-long text l = rw (ended, lt-leb (length text) textLimit l)
+
+pub ended-within : (text : List ℕ) → length text ≤ textLimit → ended text ≡ close (feed step beginning text)
+unfolding ended
+ended-within text l = rw (ended, le-leb (length text) textLimit l)
+
+-- more of a text than the longest one has says as much as the whole
+pub ended-cut : (n : ℕ) (text : List ℕ) → textLimit < n → ended (take n text) ≡ ended text
+ended-cut n text l = go (leb (length text) n) refl
+  where
+    go : (b : Bool) → leb (length text) n ≡ b → ended (take n text) ≡ ended text
+    go true e = ap ended (take-all n text (leb-true (length text) n e))
+    go false e =
+        let h : n < length text = leb-false (length text) n e in
+        ended-long (take n text) (omega (arith, length-take-le n text (omega arith))) ∙ sym (ended-long text (omega arith))

@@ -14,7 +14,7 @@ use Rattle.definition.specs.Base.{allOf}
 use Rattle.lines.specs.declared.form.Row.{Row}
 use Rattle.lines.specs.Base.{bytes, tab, same, split, pick, when, _andThen_, _orElse_}
 use Rattle.lines.specs.Numbers.{digit, valueFrom, plain, number}
-use Rattle.lines.specs.Line.{entry, numbers, form, _gives_}
+use Rattle.lines.specs.Forms.{entry, numbers, form, _gives_}
 use Rattle.lines.specs.Code.{first, rowSize, rowFrom, rowOf}
 use Rattle.lines.proofs.PartLaws.{part-last, part-next, part-first, split-some}
 
@@ -81,12 +81,12 @@ row-starts o = refl
 
 -- ---- the numbers that were read keep to the form
 
-when-some : {A : Type 0} (t : Bool) (o : Option A) (v : A) → when t o ≡ some v → (t ≡ true) × (o ≡ some v)
+pub when-some : {A : Type 0} (t : Bool) (o : Option A) (v : A) → when t o ≡ some v → (t ≡ true) × (o ≡ some v)
 unfolding when
 when-some true o v e = (refl, e)
 when-some false o v e = absurd (let z : _≡_ {A = ℕ} 0 1 = cc in omega arith)
 
-and-both : (a b : Bool) → (a && b) ≡ true → (a ≡ true) × (b ≡ true)
+pub and-both : (a b : Bool) → (a && b) ≡ true → (a ≡ true) × (b ≡ true)
 and-both true b e = (refl, e)
 and-both false b e = absurd (let z : _≡_ {A = ℕ} 0 1 = cc in omega arith)
 
@@ -99,7 +99,7 @@ number-within most f v e =
     let same-value : w ≡ v = cc in
     omega (arith, leb-true w most s)
 
-entry-within : (m : ℕ) (f : List ℕ) (v : ℕ) → entry m f ≡ some v → v ≤ m
+pub entry-within : (m : ℕ) (f : List ℕ) (v : ℕ) → entry m f ≡ some v → v ≤ m
 unfolding entry
 entry-within m f v e = go (eqb m 0) e
   where

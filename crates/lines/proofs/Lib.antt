@@ -3,6 +3,15 @@ pub mod NumberLaws
 pub mod FormLaws
 pub mod DigitLaws
 pub mod RoundTrip
+pub mod SpellLaws
+pub mod FoundLaws
+pub mod FrameLaws
+pub mod InverseLaws
 pub mod FeedLaws
+pub mod TakesLaws
 pub mod WantLaws
+pub mod RunTextLaws
 pub mod Longest
+pub mod BackLaws
+pub mod ReplayTextLaws
+pub mod BackExample

@@ -15,9 +15,9 @@ use Rattle.definition.specs.Calls.{Call, pool, hold, start, want}
 use Rattle.definition.specs.Plan.{Lent, allocateInto}
 use Rattle.lines.specs.Base.{bytes, newline, textLimit, split, pick}
 use Rattle.lines.specs.Numbers.{digits}
-use Rattle.lines.specs.Line.{behind, lineOf, readLine}
+use Rattle.lines.specs.Line.{behind, lineWith, readLine}
 use Rattle.lines.specs.Output.{carries, carriedBy, gotLine, gotLines, endLine, noLine, field, gotLimit, endLimit, outputLimit}
-use Rattle.lines.specs.Text.{Sofar, beginning, accepts, refuse, setUp, opened, answered, ask, take-line, step, Fed, feedParts, feed, unfinished, closedBy, close, answer, output}
+use Rattle.lines.specs.Text.{Sofar, beginning, accepts, refuse, setUp, opened, answered, ask, take-line, step, Fed, feedParts, feed, unfinished, closedBy, close, answer, ended, output}
 use Rattle.lines.proofs.DigitLaws.{digits-length}
 
 -- ---- a line
@@ -27,8 +27,8 @@ unfolding behind
 behind-length [] = omega arith
 behind-length (x ∷ xs) = omega (arith, length-append (digits x) (behind (map digits xs)), digits-length x, behind-length xs)
 
-line-length : (w : List ℕ) (fs : List (List ℕ)) → length (lineOf w fs) ≡ length w + (length (behind fs) + 1)
-unfolding lineOf
+line-length : (w : List ℕ) (fs : List (List ℕ)) → length (lineWith w fs) ≡ length w + (length (behind fs) + 1)
+unfolding lineWith
 line-length w fs = omega (arith, length-append w (behind fs ++ (newline ∷ [])), length-append (behind fs) (newline ∷ []))
 
 -- a kind's word and numbers
@@ -75,7 +75,7 @@ end-length : (n : ℕ) → length (endLine n) ≤ endLimit
 unfolding endLine
 end-length n = omega (arith, line-length (bytes "end") (map digits (n ∷ [])), behind-length (n ∷ []))
 
-no-length : (l : ℕ) (w : Said) → length (noLine l w) ≤ outputLimit
+pub no-length : (l : ℕ) (w : Said) → length (noLine l w) ≤ outputLimit
 unfolding noLine
 no-length l w =
     let xs : List ℕ = l ∷ w .number ∷ w .namespace ∷ w .owner ∷ w .detail ∷ [] in
@@ -151,8 +151,11 @@ answer-length t f =
     (omega (arith, length-append (gotLines (t .wants) (t .records)) (endLine (t .wants)), got-lines-length (t .wants) (t .records), end-length (t .wants)))
     (no-length (t .lines) (t .said))
 
+ended-few : (text : List ℕ) → Few (ended text)
+unfolding ended
+ended-few text = either Few _ _ (leb (length text) textLimit) (wants-few text) (omega arith)
+
 -- THE THEOREM: whatever the text, the output has at most so many bytes
 pub output-length : (text : List ℕ) → length (output text) ≤ outputLimit
 unfolding output
-output-length text =
-    either Fits _ _ (leb (length text) textLimit) (answer-length (close (feed step beginning text)) (wants-few text)) (no-length 0 (tell 0 badLine))
+output-length text = answer-length (ended text) (ended-few text)

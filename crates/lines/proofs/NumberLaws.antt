@@ -16,7 +16,7 @@ use Rattle.lines.specs.Base.{when}
 use Rattle.lines.specs.Numbers.{digit, valueFrom, plain, number}
 
 -- digits never make a number smaller
-value-grows : (v : ℕ) (bs : List ℕ) → v ≤ valueFrom v bs
+pub value-grows : (v : ℕ) (bs : List ℕ) → v ≤ valueFrom v bs
 unfolding valueFrom
 value-grows v [] = omega arith
 value-grows v (b ∷ bs) = omega (arith, value-grows (v * 10 + (b - 48)) bs)

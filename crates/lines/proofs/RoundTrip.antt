@@ -19,12 +19,12 @@ unfolding valueFrom
 value-last v [] b = refl
 value-last v (x ∷ a) b = value-last (v * 10 + (x - 48)) a b
 
-all-last : (p : ℕ → Bool) (a : List ℕ) (b : ℕ) → allOf p a ≡ true → p b ≡ true → allOf p (a ++ (b ∷ [])) ≡ true
+pub all-append : {A : Type 0} (p : A → Bool) (a b : List A) → allOf p a ≡ true → allOf p b ≡ true → allOf p (a ++ b) ≡ true
 unfolding allOf
-all-last p [] b s t = rw t
-all-last p (x ∷ a) b s t = go (p x) s (all-last p a b)
+all-append p [] b s t = t
+all-append p (x ∷ a) b s t = go (p x) s (all-append p a b)
   where
-    go : (q : Bool) → (q && allOf p a) ≡ true → (allOf p a ≡ true → p b ≡ true → allOf p (a ++ (b ∷ [])) ≡ true) → (q && allOf p (a ++ (b ∷ []))) ≡ true
+    go : (q : Bool) → (q && allOf p a) ≡ true → (allOf p a ≡ true → allOf p b ≡ true → allOf p (a ++ b) ≡ true) → (q && allOf p (a ++ b)) ≡ true
     go true e f = f e t
     go false e f = e
 
@@ -49,7 +49,7 @@ digits-up-to (suc k) n = go (ltb n 10) refl (digits-up-to k (n / 10))
   where
     go : (t : Bool) → ltb n 10 ≡ t → allOf digit (digitsUpTo k (n / 10)) ≡ true → allOf digit (pick t ((48 + n) ∷ []) (digitsUpTo k (n / 10) ++ ((48 + n % 10) ∷ []))) ≡ true
     go true e h = rw (le-leb 48 (48 + n) (omega arith), le-leb (48 + n) 57 (omega (arith, ltb-true n 10 e)))
-    go false e h = all-last digit (digitsUpTo k (n / 10)) (48 + n % 10) h (rw (le-leb 48 (48 + n % 10) (omega arith), le-leb (48 + n % 10) 57 (omega (arith, mod-lt n ten))))
+    go false e h = all-append digit (digitsUpTo k (n / 10)) ((48 + n % 10) ∷ []) h (rw (le-leb 48 (48 + n % 10) (omega arith), le-leb (48 + n % 10) 57 (omega (arith, mod-lt n ten))))
 
 -- the first is no 0, but in 0 itself
 unfoldable leads : List ℕ → Bool
@@ -89,7 +89,7 @@ digits-value : (n : ℕ) → n ≤ top 64 → valueFrom 0 (digits n) ≡ n
 unfolding digits
 digits-value n l = value-up-to 19 n (omega (arith, tens-20))
 
-digits-digits : (n : ℕ) → allOf digit (digits n) ≡ true
+pub digits-digits : (n : ℕ) → allOf digit (digits n) ≡ true
 unfolding digits
 digits-digits n = digits-up-to digitLimit n
 

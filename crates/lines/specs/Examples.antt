@@ -14,9 +14,10 @@ use Rattle.definition.specs.Calls.{Call, givenAt, soundAt, given, sound, pushAl
 use Rattle.definition.specs.Plan.{recordOf, allocateInto}
 use Rattle.lines.specs.Base.{textLimit, bytes, same, grow, split, when, _andThen_, _orElse_}
 use Rattle.lines.specs.Numbers.{valueFrom, plain, number, digitsUpTo, digits}
-use Rattle.lines.specs.Line.{behind, lineOf, entry, numbers, form, poolOf, poolLine, holdIts, holdOf, holdLine, wantAtOf, wantAt, wantOf, wantLine, useOf, behindPool, behindHold, behindWant, byWord, byFields, readLine, _gives_}
+use Rattle.lines.specs.Forms.{entry, numbers, form, tries, _gives_}
+use Rattle.lines.specs.Line.{behind, lineWith, useOf, behindPool, behindHold, behindWant, byWord, byFields, readLine}
 use Rattle.lines.specs.Output.{carriedBy, gotLine, gotLines, endLine, noLine}
-use Rattle.lines.specs.Text.{setUp, opened, answered, ask, step, feedParts, feed, unfinished, close, answer, output}
+use Rattle.lines.specs.Text.{setUp, opened, answered, ask, step, feedParts, feed, unfinished, close, answer, ended, output}
 
 -- a text, and all that is written
 pub record Case : Type 0 where
@@ -71,7 +72,7 @@ cases =
     ∷ []
 
 outputs : map (λ c. output (c .text)) cases ≡ map (λ c. c .written) cases
-unfolding lib.Count.onesIn anyOf allOf pairsOf firstOf lower leastOf sameDom within sameKind sameSpan sameRow overlap meets joins clash require tidy fits fitsSpan goodRow goodSpan begins inOrder soundTable insert unlessThere addRange rowsOf room unreserved allUnreserved reserve goodChoice oneBit goodWant goodRequest rowAt aligned holds free alignUp candidates lowest allowed unjoined obstacle detail found unopposed place claims resolve givenAt soundAt given sound pushAll addAll serve recordOf allocateInto same grow split when _andThen_ _orElse_ valueFrom plain number digitsUpTo digits behind lineOf entry numbers form _gives_ poolOf poolLine holdIts holdOf holdLine wantAtOf wantAt wantOf wantLine useOf behindPool behindHold behindWant byWord byFields readLine carriedBy gotLine gotLines endLine noLine setUp opened answered ask step feedParts feed unfinished close answer output
+unfolding lib.Count.onesIn anyOf allOf pairsOf firstOf lower leastOf sameDom within sameKind sameSpan sameRow overlap meets joins clash require tidy fits fitsSpan goodRow goodSpan begins inOrder soundTable insert unlessThere addRange rowsOf room unreserved allUnreserved reserve goodChoice oneBit goodWant goodRequest rowAt aligned holds free alignUp candidates lowest allowed unjoined obstacle detail found unopposed place claims resolve givenAt soundAt given sound pushAll addAll serve recordOf allocateInto same grow split when _andThen_ _orElse_ valueFrom plain number digitsUpTo digits behind lineWith entry numbers form _gives_ tries useOf behindPool behindHold behindWant byWord byFields readLine carriedBy gotLine gotLines endLine noLine setUp opened answered ask step feedParts feed unfinished close answer ended output
 outputs = refl
 
 -- lines that are 10, each for one fault
@@ -102,5 +103,5 @@ missing none = true
 missing (some call) = false
 
 none-says-a-call : map (λ l. missing (readLine (bytes l))) badLines ≡ map (λ l. true) badLines
-unfolding allOf same grow split when _andThen_ _orElse_ valueFrom plain number entry numbers form _gives_ poolOf poolLine holdIts holdOf holdLine wantAtOf wantAt wantOf wantLine useOf behindPool behindHold behindWant byWord byFields readLine
+unfolding allOf same grow split when _andThen_ _orElse_ valueFrom plain number entry numbers form _gives_ tries useOf behindPool behindHold behindWant byWord byFields readLine
 none-says-a-call = refl

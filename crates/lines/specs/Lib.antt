@@ -1,8 +1,10 @@
 pub mod Base
 pub mod Numbers
+pub mod Forms
 pub mod Line
 pub mod Output
 pub mod Text
+pub mod Back
 pub mod Examples
 pub mod Code
 pub mod Place

@@ -8,7 +8,7 @@ use Rattle.definition.specs.Tables.{planLimit, recordSize}
 use Rattle.definition.specs.Base.{Said}
 use Rattle.lines.specs.Base.{bytes, pick}
 use Rattle.lines.specs.Numbers.{digitLimit, digits}
-use Rattle.lines.specs.Line.{lineOf}
+use Rattle.lines.specs.Line.{lineWith}
 
 -- a record's kind: its word, and how many of the record's last six numbers it carries; the others are filler
 pub record Carried : Type 0 where
@@ -29,7 +29,7 @@ carriedBy k =
 -- `got`, requester, slot, the kind's word, and the kind's numbers
 unfoldable pub gotLine : List ℕ → List ℕ
 gotLine r =
-    lineOf (bytes "got") (
+    lineWith (bytes "got") (
     digits (getD r 1 0) ∷ digits (getD r 2 0) ∷ carriedBy (getD r 0 0) .word ∷ map digits (take (carriedBy (getD r 0 0) .count) (drop 3 r)))
 
 -- one for each of n records
@@ -38,11 +38,14 @@ gotLines zero rs = []
 gotLines (suc n) rs = gotLine rs ++ gotLines n (drop recordSize rs)
 
 unfoldable pub endLine : ℕ → List ℕ
-endLine n = lineOf (bytes "end") (digits n ∷ [])
+endLine n = lineWith (bytes "end") (digits n ∷ [])
 
 -- the line's number from 1, refusal number, namespace, owner, detail
+abbrev pub noNumbers : ℕ → Said → List ℕ
+noNumbers l w = l ∷ w .number ∷ w .namespace ∷ w .owner ∷ w .detail ∷ []
+
 unfoldable pub noLine : ℕ → Said → List ℕ
-noLine l w = lineOf (bytes "no") (map digits (l ∷ w .number ∷ w .namespace ∷ w .owner ∷ w .detail ∷ []))
+noLine l w = lineWith (bytes "no") (map digits (noNumbers l w))
 
 -- ---- how long they can be: a number takes at most a tab and `digitLimit` digits
 

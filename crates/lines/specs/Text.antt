@@ -126,10 +126,18 @@ answer t =
       | false ↦ noLine (t .lines) (t .said)
     ]
 
--- THE PROGRAM: text over the total limit is 10 with line number 0, before all else
-unfoldable pub output : List ℕ → List ℕ
-output text =
+-- text over the total limit is 10 with line number 0, before all else
+abbrev pub overlong : Sofar
+overlong = sofar 0 fresh 0 [] (tell 0 badLine)
+
+-- how a text ended
+unfoldable pub ended : List ℕ → Sofar
+ended text =
     elim (leb (length text) textLimit) [
-      | true ↦ answer (close (feed step beginning text))
-      | false ↦ noLine 0 (tell 0 badLine)
+      | true ↦ close (feed step beginning text)
+      | false ↦ overlong
     ]
+
+-- THE PROGRAM: the bytes that answer a text
+unfoldable pub output : List ℕ → List ℕ
+output text = answer (ended text)

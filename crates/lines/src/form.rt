@@ -5,7 +5,7 @@ ghost use mathlib.Core.Option.{none};
 ghost use Prim.Native.Nat.{_≤_};
 ghost use lib.ListN.{length};
 ghost use Rattle.lines.specs.Base.{tab, split};
-ghost use Rattle.lines.specs.Line.{entry, numbers, form};
+ghost use Rattle.lines.specs.Forms.{entry, numbers, form};
 ghost use Rattle.lines.specs.Code.{numberSays, rowSize, rowOf};
 
 // What a field may be: the largest number of 16, 32 and 64 bits; or the word `auto`.

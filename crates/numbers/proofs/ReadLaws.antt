@@ -20,7 +20,7 @@ use Rattle.tables.specs.declared.PoolRow.{PoolRow}
 use Rattle.tables.specs.declared.RangeRow.{RangeRow}
 use Rattle.tables.specs.declared.InputRow.{InputRow}
 use Rattle.tables.proofs.ListedLaws.{listed-at}
-use Rattle.numbers.specs.Rows.{spanNumbers, rowNumbers, poolRow, holderRow, inputRow, told, answerSize, answerNumbers, answerTold}
+use Rattle.numbers.specs.Rows.{spanNumbers, rowNumbers, poolRow, holderRow, inputRow, told, answerSize, fiveTold}
 use Rattle.numbers.specs.Back.{asked, pick}
 use Rattle.numbers.specs.declared.row.Which.{Which}
 
@@ -62,16 +62,16 @@ pub passed : (b : Bool) → b ≡ false → (ys : List ℕ) (before : Option (Li
 passed false e ys before = refl
 passed true e ys before = absurd (true≢false e)
 
--- ---- the last answer
+-- ---- five numbers
 
-module _ (s : Given) (out : List ℕ) where
-  pub answer-short : length out < answerSize → told 11 out ≡ answerTold s out
-  unfolding answerTold
-  answer-short l = rw (lt-leb answerSize (length out) l, answerTold)
+module _ (five out : List ℕ) where
+  pub five-short : length out < answerSize → told 11 out ≡ fiveTold five out
+  unfolding fiveTold
+  five-short l = rw (lt-leb answerSize (length out) l, fiveTold)
 
-  pub answer-written : answerSize ≤ length out → (out′ : List ℕ) → out′ ≡ written (answerNumbers s) out → told 0 out′ ≡ answerTold s out
-  unfolding answerTold
-  answer-written l out′ w = ap (λ (z : List ℕ). told 0 z) w ∙ rw (le-leb answerSize (length out) l, answerTold)
+  pub five-written : answerSize ≤ length out → (out′ : List ℕ) → out′ ≡ written five out → told 0 out′ ≡ fiveTold five out
+  unfolding fiveTold
+  five-written l out′ w = ap (λ (z : List ℕ). told 0 z) w ∙ rw (le-leb answerSize (length out) l, fiveTold)
 
 pub five-stores : (a b c d e : ℕ) (out : List ℕ) → answerSize ≤ length out → set (set (set (set (set out 0 a) 1 b) 2 c) 3 d) 4 e ≡ written (a ∷ b ∷ c ∷ d ∷ e ∷ []) out
 five-stores a b c d e [] l = absurd (omega arith)

@@ -80,5 +80,9 @@ answerSize = 5
 abbrev pub answerNumbers : State → List ℕ
 answerNumbers s = s .said .number ∷ s .said .index ∷ s .said .namespace ∷ s .said .owner ∷ s .said .detail ∷ []
 
+-- five numbers, where the list has room for them
+unfoldable pub fiveTold : List ℕ → List ℕ → Told
+fiveTold five out = elim (leb answerSize (length out)) [ false ↦ told 11 out | true ↦ told 0 (written five out) ]
+
 unfoldable pub answerTold : State → List ℕ → Told
-answerTold s out = elim (leb answerSize (length out)) [ false ↦ told 11 out | true ↦ told 0 (written (answerNumbers s) out) ]
+answerTold s out = fiveTold (answerNumbers s) out

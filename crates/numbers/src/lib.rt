@@ -7,6 +7,7 @@ use request::Request;
 use request::call::Call;
 use tables::State;
 ghost use mathlib.Core.Path.{_≡_};
+ghost use mathlib.Core.List.{[], _∷_};
 ghost use Prim.Native.Nat.{_≤_};
 ghost use lib.ListN.{length, getD, drop};
 ghost use Rattle.definition.specs.Plan.{lent};
@@ -15,7 +16,7 @@ ghost use Rattle.request.specs.Asked.{requestOf};
 ghost use Rattle.request.specs.Calls.{callOf};
 ghost use Rattle.flat.specs.Flat.{requestAt};
 ghost use Rattle.numbers.specs.Face.{addingAt};
-ghost use Rattle.numbers.specs.Rows.{told, answerTold};
+ghost use Rattle.numbers.specs.Rows.{told, fiveTold, answerTold};
 ghost use Rattle.numbers.specs.Lent.{callTold};
 ghost use Rattle.numbers.specs.Reading.{Reads, servedAs, shortOf, toldBy};
 
@@ -143,19 +144,26 @@ pub fn serve_as(s: &mut State, k: Reading)
     door::apply::say(s, r);
 }
 
-// The five numbers that were read of a state, into a lent list: 11 where it is too short.
-pub fn tell(m: Marks, out: &mut [u64]) -> u64
-    ensures { λ r. ⌜ told r (now (out .exit)) ≡ answerTold (toldBy m) (now (out .entry)) ⌝ }
+// Five numbers, into a lent list: 11 where it is too short.
+pub fn tell_five(a: u64, b: u64, c: u64, d: u64, e: u64, out: &mut [u64]) -> u64
+    ensures { λ r. ⌜ told r (now (out .exit)) ≡ fiveTold (a ∷ b ∷ c ∷ d ∷ e ∷ []) (now (out .entry)) ⌝ }
 {
     if out.len() < ANSWER {
         return 11;
     }
-    out[0] = m.number;
-    out[1] = m.index;
-    out[2] = m.namespace;
-    out[3] = m.owner;
-    out[4] = m.detail;
+    out[0] = a;
+    out[1] = b;
+    out[2] = c;
+    out[3] = d;
+    out[4] = e;
     0
+}
+
+// The five numbers that were read of a state.
+pub fn tell(m: Marks, out: &mut [u64]) -> u64
+    ensures { λ r. ⌜ told r (now (out .exit)) ≡ answerTold (toldBy m) (now (out .entry)) ⌝ }
+{
+    tell_five(m.number, m.index, m.namespace, m.owner, m.detail, out)
 }
 
 // A call that adds or starts, or one request, from its numbers, where the state stands: 1, 11, 2 and the rest. Its answer's five numbers are told where the list has room for them.

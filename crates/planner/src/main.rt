@@ -1,4 +1,6 @@
 // The plan-reading program: a plan's text from standard input, its answer to standard output. A read that fails prints nothing.
+use standard_input::Input;
+use standard_input::read_input;
 use text::OUTPUT;
 use text::TEXT;
 use text::respond;
@@ -6,39 +8,18 @@ ghost use Prim.Native.Nat.{_≤_, _<_};
 ghost use lib.ListN.{length, take};
 ghost use Rattle.lines.specs.Base.{textLimit};
 ghost use Rattle.lines.specs.Output.{outputLimit};
-ghost use Rattle.planner.specs.Program.{Stopped, Prints};
+ghost use Rattle.lines.specs.Text.{output};
+ghost use Rattle.standard_input.specs.Reads.{Stopped, Prints};
 
 // One byte more than the longest text is read, so that a longer one is seen.
 const INPUT: usize = TEXT + 1;
-
-// How many bytes were read, and what the last read answered: a negative number where it failed, 0 at the input's end.
-struct Input {
-    n: usize,
-    last: isize,
-}
-
-// Reads until the buffer is full, the input ends or a read fails.
-fn read_input(buf: &mut [u8]) -> Input
-    ensures { λ r. ⌜ Stopped (length (now (buf .exit))) (r .n) (r .last) ⌝ }
-{
-    let mut n: usize = 0;
-    while n < buf.len() {
-        let got = libc::read(0, &mut buf[n..]);
-        if got <= 0 {
-            return Input { n, last: got };
-        }
-        n += io::count(got, &buf[n..]);
-    }
-    // full: the last read brought something
-    Input { n, last: 1 }
-}
 
 // What the program prints, in front of `out`, and how many bytes it is: all that is decided between reading and writing.
 fn printed(buf: &[u8], input: Input, out: &mut [u8]) -> usize
     requires { ⌜ textLimit < length (now buf) ⌝ }
     requires { ⌜ Stopped (length (now buf)) (input .n) (input .last) ⌝ }
     requires { ⌜ outputLimit ≤ length (now out) ⌝ }
-    ensures { λ r. ⌜ Prints (take (input .n) (now (buf .entry))) (input .last) r (now (out .exit)) ⌝ }
+    ensures { λ r. ⌜ Prints output (take (input .n) (now (buf .entry))) (input .last) r (now (out .exit)) ⌝ }
 {
     if input.last < 0 {
         return 0;

@@ -9,7 +9,8 @@ use lib.Seq.{take-all}
 use borrow.Author.Tests.{le-leb, lt-leb}
 use Rattle.lines.specs.Base.{lineLimit, tab, split, when, _andThen_}
 use Rattle.lines.specs.Numbers.{number}
-use Rattle.lines.specs.Line.{n32, wantLine, behindWant, byWord, byFields, readLine}
+use Rattle.lines.specs.Forms.{n32, wantForms, tries}
+use Rattle.lines.specs.Line.{behindWant, byWord, byFields, readLine}
 use Rattle.lines.specs.Code.{first}
 use Rattle.lines.proofs.PartLaws.{part-last, part-next, head-last, head-next, split-some}
 
@@ -65,7 +66,7 @@ module _ (x y rest : List ℕ) (e : ℕ) (end : e ≡ 0 + first tab (drop 0 rest
   want-alone h = rw (head-last tab rest e end h)
 
   module _ (more : e < length rest) where
-    want-more : behindWant x y (split tab rest) ≡ (number n32 x andThen λ q. number n32 y andThen λ s. wantLine (take e rest) (split tab (drop (e + 1) rest)) q s)
+    want-more : behindWant x y (split tab rest) ≡ (number n32 x andThen λ q. number n32 y andThen λ s. tries (wantForms q s) (take e rest) (split tab (drop (e + 1) rest)))
     unfolding behindWant
     want-more =
         let (p, ps, q) = split-some tab (drop (e + 1) rest) in
@@ -79,6 +80,6 @@ module _ (x y rest : List ℕ) (e : ℕ) (end : e ≡ 0 + first tab (drop 0 rest
     unfolding _andThen_
     want-no-slot q h k = want-more ∙ rw (h, k, _andThen_)
 
-    pub want-said : (q s : ℕ) → number n32 x ≡ some q → number n32 y ≡ some s → behindWant x y (split tab rest) ≡ wantLine (take e rest) (split tab (open-end rest (e + 1))) q s
+    pub want-said : (q s : ℕ) → number n32 x ≡ some q → number n32 y ≡ some s → behindWant x y (split tab rest) ≡ tries (wantForms q s) (take e rest) (split tab (open-end rest (e + 1)))
     unfolding _andThen_
     want-said q s h k = want-more ∙ rw (h, k, _andThen_, open-is rest (e + 1))

@@ -13,12 +13,12 @@ use tables::EventId;
 use tables::Lpi;
 ghost use mathlib.Core.Path.{_≡_};
 ghost use Rattle.lines.specs.Base.{tab, split};
-ghost use Rattle.lines.specs.Line.{holdLine, holdOf, holdIts};
+ghost use Rattle.lines.specs.Forms.{holdFormsIts, holdFormsOf, holdForms, tries};
 ghost use Rattle.request.specs.Calls.{callOf};
 
 // A hold line from its kind's word on.
 pub fn read_hold(owner: u32, kind: &[u8], rest: &[u8]) -> Call
-    ensures { λ r. ⌜ callOf r ≡ holdLine (now (kind .entry)) (split tab (now (rest .entry))) owner ⌝ }
+    ensures { λ r. ⌜ callOf r ≡ tries (holdForms owner) (now (kind .entry)) (split tab (now (rest .entry))) ⌝ }
 {
     let r = read_form(kind, b"mmio", rest, &[N64, N64]);
     if r.good {
@@ -40,7 +40,7 @@ pub fn read_hold(owner: u32, kind: &[u8], rest: &[u8]) -> Call
 
 // .. of a controller: an input, or LPIs.
 pub fn read_hold_of(owner: u32, kind: &[u8], rest: &[u8]) -> Call
-    ensures { λ r. ⌜ callOf r ≡ holdOf (now (kind .entry)) (split tab (now (rest .entry))) owner ⌝ }
+    ensures { λ r. ⌜ callOf r ≡ tries (holdFormsOf owner) (now (kind .entry)) (split tab (now (rest .entry))) ⌝ }
 {
     let r = read_form(kind, b"input", rest, &[N32, N64, N32, N32]);
     if r.good {
@@ -64,7 +64,7 @@ pub fn read_hold_of(owner: u32, kind: &[u8], rest: &[u8]) -> Call
 
 // .. of an ITS: devices, or events.
 pub fn read_hold_its(owner: u32, kind: &[u8], rest: &[u8]) -> Call
-    ensures { λ r. ⌜ callOf r ≡ holdIts (now (kind .entry)) (split tab (now (rest .entry))) owner ⌝ }
+    ensures { λ r. ⌜ callOf r ≡ tries (holdFormsIts owner) (now (kind .entry)) (split tab (now (rest .entry))) ⌝ }
 {
     let r = read_form(kind, b"device", rest, &[N32, N32, N32, N32]);
     if r.good {

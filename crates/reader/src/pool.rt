@@ -14,12 +14,12 @@ use tables::EventId;
 use tables::Lpi;
 ghost use mathlib.Core.Path.{_≡_};
 ghost use Rattle.lines.specs.Base.{tab, split};
-ghost use Rattle.lines.specs.Line.{poolLine, poolOf};
+ghost use Rattle.lines.specs.Forms.{poolFormsOf, poolForms, tries};
 ghost use Rattle.request.specs.Calls.{useOf, callOf};
 
 // A pool line from its kind's word on.
 pub fn read_pool(user: Use, kind: &[u8], rest: &[u8]) -> Call
-    ensures { λ r. ⌜ callOf r ≡ poolLine (now (kind .entry)) (split tab (now (rest .entry))) (useOf user) ⌝ }
+    ensures { λ r. ⌜ callOf r ≡ tries (poolForms (useOf user)) (now (kind .entry)) (split tab (now (rest .entry))) ⌝ }
 {
     let r = read_form(kind, b"mmio", rest, &[N64, N64]);
     if r.good {
@@ -41,7 +41,7 @@ pub fn read_pool(user: Use, kind: &[u8], rest: &[u8]) -> Call
 
 // .. of a controller.
 pub fn read_pool_of(user: Use, kind: &[u8], rest: &[u8]) -> Call
-    ensures { λ r. ⌜ callOf r ≡ poolOf (now (kind .entry)) (split tab (now (rest .entry))) (useOf user) ⌝ }
+    ensures { λ r. ⌜ callOf r ≡ tries (poolFormsOf (useOf user)) (now (kind .entry)) (split tab (now (rest .entry))) ⌝ }
 {
     let r = read_form(kind, b"input", rest, &[N32, N64, N64]);
     if r.good {

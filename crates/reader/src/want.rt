@@ -16,7 +16,7 @@ use tables::EventId;
 use tables::Lpi;
 ghost use mathlib.Core.Path.{_≡_};
 ghost use Rattle.lines.specs.Base.{tab, split};
-ghost use Rattle.lines.specs.Line.{wantLine, wantOf, wantAt, wantAtOf};
+ghost use Rattle.lines.specs.Forms.{wantFormsAtOf, wantFormsAt, wantFormsOf, wantForms, tries};
 ghost use mathlib.Core.Option.{some};
 ghost use Rattle.definition.specs.Calls.{want};
 ghost use Rattle.request.specs.Asked.{wantOf as meant};
@@ -35,7 +35,7 @@ fn asked(requester: u32, slot: u32, wanted: Want) -> Call
 
 // A want line from its kind's word on: first the forms that end in `auto`.
 pub fn read_want(requester: u32, slot: u32, kind: &[u8], rest: &[u8]) -> Call
-    ensures { λ r. ⌜ callOf r ≡ wantLine (now (kind .entry)) (split tab (now (rest .entry))) requester slot ⌝ }
+    ensures { λ r. ⌜ callOf r ≡ tries (wantForms requester slot) (now (kind .entry)) (split tab (now (rest .entry))) ⌝ }
 {
     let r = read_form(kind, b"mmio", rest, &[N64, N64, AUTO]);
     if r.good {
@@ -78,7 +78,7 @@ pub fn read_want(requester: u32, slot: u32, kind: &[u8], rest: &[u8]) -> Call
 
 // .. of a controller.
 pub fn read_want_of(requester: u32, slot: u32, kind: &[u8], rest: &[u8]) -> Call
-    ensures { λ r. ⌜ callOf r ≡ wantOf (now (kind .entry)) (split tab (now (rest .entry))) requester slot ⌝ }
+    ensures { λ r. ⌜ callOf r ≡ tries (wantFormsOf requester slot) (now (kind .entry)) (split tab (now (rest .entry))) ⌝ }
 {
     let r = read_form(kind, b"input", rest, &[N32, N32, N32, AUTO]);
     if r.good {
@@ -115,7 +115,7 @@ pub fn read_want_of(requester: u32, slot: u32, kind: &[u8], rest: &[u8]) -> Call
 
 // .. then the forms that end in numbers.
 pub fn read_want_at(requester: u32, slot: u32, kind: &[u8], rest: &[u8]) -> Call
-    ensures { λ r. ⌜ callOf r ≡ wantAt (now (kind .entry)) (split tab (now (rest .entry))) requester slot ⌝ }
+    ensures { λ r. ⌜ callOf r ≡ tries (wantFormsAt requester slot) (now (kind .entry)) (split tab (now (rest .entry))) ⌝ }
 {
     let r = read_form(kind, b"mmio", rest, &[N64, N64, N64]);
     if r.good {
@@ -159,7 +159,7 @@ pub fn read_want_at(requester: u32, slot: u32, kind: &[u8], rest: &[u8]) -> Call
 
 // .. of a controller.
 pub fn read_want_at_of(requester: u32, slot: u32, kind: &[u8], rest: &[u8]) -> Call
-    ensures { λ r. ⌜ callOf r ≡ wantAtOf (now (kind .entry)) (split tab (now (rest .entry))) requester slot ⌝ }
+    ensures { λ r. ⌜ callOf r ≡ tries (wantFormsAtOf requester slot) (now (kind .entry)) (split tab (now (rest .entry))) ⌝ }
 {
     let r = read_form(kind, b"input", rest, &[N32, N32, N32, N64]);
     if r.good {

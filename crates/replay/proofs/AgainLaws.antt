@@ -15,13 +15,14 @@ use Rattle.definition.specs.Request.{Request}
 use Rattle.definition.specs.Calls.{State, poolsOf, heldOf, ownersOf, start, serve, sound, settle, granting, starting}
 use Rattle.definition.specs.Plan.{Grant, done, records, written, Lent, lent, allRows, roomy, planRun, grantsOf, plan, pinned}
 use Rattle.definition.specs.ReplayLaws.{Pick, pick-length}
+use Rattle.definition.specs.PickLaws.{indices, nth, pick-nth}
 use Rattle.definition.specs.PlanLaws.{tell-number, plan-accepted, plan-says, Again, replay, replay-rows}
 use Rattle.flat.specs.Flat.{requestSize, requestsFrom, requestsOf, wholeRequests, flatPlan}
 use Rattle.flat.proofs.FlatLaws.{requests-length, flat-whole, flat-torn}
 use Rattle.flat.specs.Pin.{pinnedNumbers}
 use Rattle.flat.proofs.BackLaws.{pinned-length, grants-length, requests-pinned}
-use Rattle.replay.specs.Again.{blocks, indices, taken, rowsFor, FlatAgain, firstResults, runAgain}
-use Rattle.replay.proofs.BlockLaws.{pick-map, AllBelow, picked-below, nth, nth-all, requests-length-blocks, requests-blocks, requests-nth, blocks-records, run-told, rows-for}
+use Rattle.replay.specs.Again.{blocks, taken, rowsFor, FlatAgain, firstResults, runAgain}
+use Rattle.replay.proofs.BlockLaws.{AllBelow, picked-below, requests-length-blocks, requests-blocks, requests-nth, blocks-records, run-told, rows-for}
 
 -- ---- an accepted plan ends with a whole request
 
@@ -79,7 +80,7 @@ module _ (s t : State) (rq out is out′ : List ℕ) (a : FlatAgain s t rq out i
   again = record {
     was-accepted = number-is;
     inside = a .inside;
-    picked = subst (λ (xs : List Grant). Pick ps xs) (nth-all gs) (pick-map (nth gs) (subst (λ (n : ℕ). Pick is (indices 0 n)) (sym count) (a .picked)));
+    picked = pick-nth gs (subst (λ (n : ℕ). Pick is (indices 0 n)) (sym count) (a .picked));
     same-pools = a .same-pools;
     same-held = a .same-held;
     long = omega (arith, a .long, length-map is (nth gs));

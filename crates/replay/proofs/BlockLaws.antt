@@ -14,20 +14,13 @@ use Rattle.definition.specs.Plan.{Grant, grant, done, run, allRows, record-of, 
 use Rattle.definition.specs.RequestLaws.{not-accepted, then-accepted, require-accepted}
 use Rattle.definition.specs.RunLaws.{run-accepted, run-refused, not-done, after-done, record-length}
 use Rattle.definition.specs.ReplayLaws.{Take, now, later, Pick, stop, pick}
+use Rattle.definition.specs.PickLaws.{indices, nowhere, nth}
 use Rattle.flat.specs.Flat.{requestSize, bad, requestAt, requestsFrom, requestsOf}
 use Rattle.flat.proofs.FlatLaws.{request-reads}
 use Rattle.flat.proofs.StoreLaws.{requests-cons, first-number}
-use Rattle.replay.specs.Again.{block, blocks, indices, rowsIn, rowsTold, rowsFor}
+use Rattle.replay.specs.Again.{block, blocks, rowsIn, rowsTold, rowsFor}
 
 -- ---- picked indices
-
-take-map : {A B : Type 0} (f : A → B) {x : A} {xs ys : List A} → Take x xs ys → Take (f x) (map f xs) (map f ys)
-take-map f now = now
-take-map f (later t) = later (take-map f t)
-
-pub pick-map : {A B : Type 0} (f : A → B) {zs xs : List A} → Pick zs xs → Pick (map f zs) (map f xs)
-pick-map f stop = stop
-pick-map f (pick t p) = pick (take-map f t) (pick-map f p)
 
 -- every one of them is below n
 abbrev pub AllBelow : ℕ → List ℕ → Type 0
@@ -49,23 +42,6 @@ pick-below n (pick t p) h = let (a, b) = take-below n t h in (a, pick-below n p 
 
 pub picked-below : (n : ℕ) {is : List ℕ} → Pick is (indices 0 n) → AllBelow n is
 picked-below n p = pick-below n p (indices-below n 0 n (omega arith))
-
--- a list is its elements in order
-abbrev pub nowhere : Grant
-nowhere = grant bad []
-
-abbrev pub nth : List Grant → ℕ → Grant
-nth gs i = getD gs i nowhere
-
-map-cons : (g : Grant) (gs : List Grant) (i k : ℕ) → map (nth (g ∷ gs)) (indices (suc i) k) ≡ map (nth gs) (indices i k)
-unfolding indices
-map-cons g gs i zero = refl
-map-cons g gs i (suc k) = ap {B = List Grant} (λ xs. nth gs i ∷ xs) (map-cons g gs (suc i) k)
-
-pub nth-all : (gs : List Grant) → map (nth gs) (indices 0 (length gs)) ≡ gs
-unfolding indices
-nth-all [] = refl
-nth-all (g ∷ gs) = ap {B = List Grant} (λ xs. g ∷ xs) (map-cons g gs 0 (length gs) ∙ nth-all gs)
 
 -- ---- blocks
 

@@ -13,9 +13,10 @@ use Rattle.definition.specs.Calls.{State, fresh, poolsOf, givenAt, soundAt, giv
 use Rattle.definition.specs.Plan.{run, recordOf, records, written, lent, roomy, planRun, plan}
 use Rattle.definition.specs.RequestLaws.{AutoInFixed, insideOne, autoInFixed, inside-says}
 use Rattle.definition.specs.ReplayLaws.{now, later, Pick, stop, pick}
+use Rattle.definition.specs.PickLaws.{indices}
 use Rattle.flat.specs.Flat.{requestSize, readable, wantAt, requestIn, requestAt, requestsFrom, requestsOf, wholeRequests, flatPlan}
 use Rattle.flat.specs.Pin.{pinChoiceAt, pinChoices, tellsOf, ownRecord, pinOne, pinFrom, pinnedNumbers}
-use Rattle.replay.specs.Again.{blocks, indices, rowsFor, firstResults, runAgain}
+use Rattle.replay.specs.Again.{blocks, rowsFor, firstResults, runAgain}
 use Rattle.replay.proofs.AgainLaws.{flat-replay}
 
 unfoldable made : List Call → State → State

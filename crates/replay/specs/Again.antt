@@ -9,6 +9,7 @@ use Rattle.definition.specs.Calls.{State, poolsOf, start, serve}
 use Rattle.definition.specs.Plan.{Lent}
 use Rattle.definition.specs.RequestLaws.{AutoInFixed}
 use Rattle.definition.specs.ReplayLaws.{Pick}
+use Rattle.definition.specs.PickLaws.{indices}
 use Rattle.flat.specs.Flat.{requestSize, Form, unknown, msi, formAt, flatPlan}
 use Rattle.flat.specs.Flat as F
 use Rattle.flat.specs.Pin.{pinnedNumbers}
@@ -27,11 +28,6 @@ blocks size xs (i ∷ is) = block size xs i ++ blocks size xs is
 -- the requests of these indices, as many of their numbers as there is room for
 abbrev pub taken : ℕ → List ℕ → List ℕ → List ℕ
 taken room xs is = take room (blocks requestSize xs is)
-
--- i, i + 1 .. so many
-unfoldable pub indices : ℕ → ℕ → List ℕ
-indices i zero = []
-indices i (suc k) = i ∷ indices (suc i) k
 
 -- ---- the rows of the owner tables that a record of nine numbers tells of
 

@@ -12,9 +12,10 @@ use Rattle.definition.specs.Calls.{State, poolsOf, heldOf, ownersOf, start, ser
 use Rattle.definition.specs.Plan.{Lent, written}
 use Rattle.definition.specs.RequestLaws.{AutoInFixed}
 use Rattle.definition.specs.ReplayLaws.{Pick}
+use Rattle.definition.specs.PickLaws.{indices}
 use Rattle.flat.specs.Flat.{requestSize, flatPlan}
 use Rattle.flat.specs.Pin.{pinnedNumbers}
-use Rattle.replay.specs.Again.{blocks, indices, taken, rowsFor}
+use Rattle.replay.specs.Again.{blocks, taken, rowsFor}
 
 -- what is handed back: the state, the requests, the results of the first run and those of the second
 pub record Runs : Type 0 where

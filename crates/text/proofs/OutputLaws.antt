@@ -16,6 +16,7 @@ use Rattle.lines.specs.Base.{textLimit}
 use Rattle.lines.specs.Output.{gotLines, endLine, noLine, outputLimit}
 use Rattle.lines.specs.Text as Text
 use Rattle.lines.specs.Text.{beginning, feed, close, answer, output}
+use Rattle.lines.proofs.FeedLaws.{ended-long, ended-within}
 use Rattle.lines.proofs.Longest.{output-length}
 use Rattle.writers.specs.Put.{Put}
 use Rattle.text.specs.Sofar.{saidIn, sofarOf}
@@ -27,12 +28,12 @@ use Rattle.text.proofs.GotLaws.{gots-taken}
 -- ---- a text within its limit, or over it
 
 pub output-long : (text : List ℕ) → textLimit < length text → output text ≡ noLine 0 (tell 0 badLine)
-unfolding output
-output-long text l = rw (output, lt-leb (length text) textLimit l)
+unfolding output answer
+output-long text l = ap answer (ended-long text l)
 
 within : (text : List ℕ) → length text ≤ textLimit → output text ≡ answer (close (feed Text.step beginning text))
 unfolding output
-within text l = rw (output, le-leb (length text) textLimit l)
+within text l = ap answer (ended-within text l)
 
 -- ---- the answer, as the code comes to it
 

@@ -26,7 +26,7 @@ pub const OUTPUT: usize = PLAN * GOT + END;
 pub const TEXT: usize = 32768;
 
 // Numbers of the results of the longest plan.
-const RESULTS: usize = RECORD * PLAN;
+pub const RESULTS: usize = RECORD * PLAN;
 
 // 0 and how many bytes were written; or 11 where the buffer is too short for the longest output, and nothing written.
 pub struct Response {

@@ -11,7 +11,7 @@ use lib.Seq.{sets, sets-eq, length-sets, take-suc, length-take-le}
 use Rattle.definition.specs.Tables.{top}
 use Rattle.lines.specs.Base.{bytes, tab, newline, pick}
 use Rattle.lines.specs.Numbers.{digits}
-use Rattle.lines.specs.Line.{behind, lineOf}
+use Rattle.lines.specs.Line.{behind, lineWith}
 use Rattle.lines.specs.Output.{carries, carriedBy, gotLine}
 use Rattle.writers.specs.Put.{Put}
 use Rattle.lines.proofs.DigitLaws.{digits-more}
@@ -96,13 +96,13 @@ put-turn l at xs i p q l₁ l₂ h a b =
 
 -- ---- a word, numbers behind it, and the newline
 
-pub line-length : (w xs : List ℕ) → length (lineOf w (map digits xs)) ≡ length w + (length (tabbed xs) + 1)
-unfolding lineOf
+pub line-length : (w xs : List ℕ) → length (lineWith w (map digits xs)) ≡ length w + (length (tabbed xs) + 1)
+unfolding lineWith
 line-length w xs = omega (arith, length-append w (tabbed xs ++ (newline ∷ [])), length-append (tabbed xs) (newline ∷ []))
 
 pub put-line-parts : (l : List ℕ) (at : ℕ) (w xs : List ℕ) (p q : ℕ) (l₁ l₂ : List ℕ) → Put l at w p l₁ → Put l₁ p (tabbed xs) q l₂
-    → Put l at (lineOf w (map digits xs)) (q + 1) (set l₂ q newline)
-unfolding lineOf
+    → Put l at (lineWith w (map digits xs)) (q + 1) (set l₂ q newline)
+unfolding lineWith
 put-line-parts l at w xs p q l₁ l₂ a b =
     put-then l at w p l₁ a (tabbed xs ++ (newline ∷ [])) (q + 1) (set l₂ q newline)
     (put-then l₁ p (tabbed xs) q l₂ b (newline ∷ []) (q + 1) (set l₂ q newline) (put-one l₂ q newline))
@@ -136,7 +136,7 @@ abbrev got-parts : List ℕ → List ℕ
 got-parts r = bytes "got" ++ (tabbed (take 2 (drop 1 r)) ++ ((tab ∷ carriedBy (kind r) .word) ++ (tabbed (own r) ++ (newline ∷ []))))
 
 got-is : (r : List ℕ) → 3 ≤ length r → gotLine r ≡ got-parts r
-unfolding gotLine lineOf behind
+unfolding gotLine lineWith behind
 got-is [] l = absurd (omega arith)
 got-is (a ∷ []) l = absurd (omega arith)
 got-is (a ∷ b ∷ []) l = absurd (omega arith)

@@ -3,7 +3,7 @@ ghost use mathlib.Core.List.{map};
 ghost use Prim.Native.Nat.{_+_, _≤_};
 ghost use lib.ListN.{length};
 ghost use Rattle.lines.specs.Numbers.{digits};
-ghost use Rattle.lines.specs.Line.{behind, lineOf};
+ghost use Rattle.lines.specs.Line.{behind, lineWith};
 ghost use Rattle.writers.specs.Put.{Put};
 
 // The digits of n.
@@ -52,8 +52,8 @@ pub fn put_numbers(out: &mut [u8], at: usize, xs: &[u64]) -> usize
 
 // A word, numbers behind it, and the newline.
 pub fn put_line(out: &mut [u8], at: usize, w: &[u8], xs: &[u64]) -> usize
-    requires { ⌜ at + length (lineOf (now w) (map digits (now xs))) ≤ length (now out) ⌝ }
-    ensures { λ r. ⌜ Put (now (out .entry)) at (lineOf (now (w .entry)) (map digits (now (xs .entry)))) r (now (out .exit)) ⌝ }
+    requires { ⌜ at + length (lineWith (now w) (map digits (now xs))) ≤ length (now out) ⌝ }
+    ensures { λ r. ⌜ Put (now (out .entry)) at (lineWith (now (w .entry)) (map digits (now (xs .entry)))) r (now (out .exit)) ⌝ }
 {
     let p = put_bytes(out, at, w);
     let q = put_numbers(out, p, xs);

@@ -1,12 +1,11 @@
-// One text read and planned by the bare original and by our text call, in one process: medians of 1,000. `textspeed FILE`.
+// One text read and planned by the bare original and by our text call, and written back by ours, in one process and by turns: medians of 1,000. `textspeed FILE`.
 
 #[cfg(feature = "ours-text")]
 fn main() {
     use oracle::calls::Answer;
-    use oracle::compare::face::Face;
-    use oracle::ours::Library;
+    use oracle::ours::{pin_into, text_into, OUTPUT};
     use oracle::resources::bare::Bare;
-    use oracle::text::{read_line, Line};
+    use oracle::text::{read_line, Line, TEXT};
     use std::{env, fs, time::Instant};
 
     // the original's pools and allocators under the line reader, and its answers as lines; nothing is checked on the way
@@ -31,24 +30,33 @@ fn main() {
         out
     }
 
-    fn median(mut run: impl FnMut() -> usize) -> f64 {
-        let mut times: Vec<f64> = (0..1000)
-            .map(|_| {
+    // each of the runs gives something back but 0
+    fn medians<const N: usize>(mut runs: [&mut dyn FnMut() -> usize; N]) -> [f64; N] {
+        let mut times = [const { Vec::new() }; N];
+        for _ in 0..1000 {
+            for (run, times) in runs.iter_mut().zip(&mut times) {
                 let begun = Instant::now();
                 assert!(run() > 0);
-                begun.elapsed().as_secs_f64() * 1e6
-            })
-            .collect();
-        times.sort_by(f64::total_cmp);
-        times[times.len() / 2]
+                times.push(begun.elapsed().as_secs_f64() * 1e6);
+            }
+        }
+        times.map(|mut times| {
+            times.sort_by(f64::total_cmp);
+            times[times.len() / 2]
+        })
     }
 
     let file = env::args().nth(1).expect("usage: textspeed FILE");
     let text = fs::read(&file).expect("the text");
-    let mut library = Library::new();
-    let original = median(|| theirs(&text).len());
-    let ours = median(|| library.text(&text).len());
+    let (mut output, mut pinned, mut answer) = (vec![0; OUTPUT], vec![0; TEXT], [0; 5]);
+    let length = pin_into(&text, &mut pinned, &mut answer);
+    assert_eq!(answer, [0; 5], "the text is not written back");
+    let [original, ours, back] =
+        medians([&mut || theirs(&text).len(), &mut || text_into(&text, &mut output), &mut || {
+            pin_into(&text, &mut pinned, &mut answer)
+        }]);
     println!("{} bytes: original {original:.0} us, ours {ours:.0} us, ratio {:.2}", text.len(), ours / original);
+    println!("written back, {length} bytes: {back:.0} us, ratio to reading and planning alone {:.2}", back / ours);
 }
 
 #[cfg(not(feature = "ours-text"))]

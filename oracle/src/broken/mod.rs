@@ -2,6 +2,7 @@
 
 mod adding;
 mod asking;
+mod pinning;
 mod planning;
 mod texts;
 
@@ -26,6 +27,7 @@ pub fn all() -> Vec<Broken> {
     all.extend(adding::ALL);
     all.extend(planning::ALL);
     all.extend(texts::ALL);
+    all.extend(pinning::ALL);
     all
 }
 

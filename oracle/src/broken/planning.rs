@@ -7,6 +7,7 @@ use crate::compare::face::{judged, Answers, Behind, Face, Plain, Said};
 use crate::compare::flat::{Step, REQUEST};
 use crate::compare::Way;
 use crate::judge::Judge;
+use crate::pinned::Pinned;
 
 pub const ALL: [Broken; 6] = [
     Broken { name: "a refused plan keeps its rows", way: Way::Calls, face: face::<PlanKeeps> },
@@ -118,6 +119,10 @@ impl Face for TakesCodes {
 
     fn text(&mut self, text: &[u8]) -> Vec<u8> {
         self.0.text(text)
+    }
+
+    fn pin(&mut self, text: &[u8], room: usize) -> Pinned {
+        self.0.pin(text, room)
     }
 }
 

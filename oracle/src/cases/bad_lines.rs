@@ -248,7 +248,7 @@ fn long_texts() -> Vec<Case> {
 }
 
 /// Two pool lines, repeated to just so many bytes; a pool that is there already adds no row.
-fn repeated_pools(bytes: usize) -> Vec<u8> {
+pub fn repeated_pools(bytes: usize) -> Vec<u8> {
     let (short, long) = (lines("pool auto mmio 0 4096"), lines("pool auto mmio 0 40960"));
     let longs = bytes % short.len();
     let shorts = (bytes - longs * long.len()) / short.len();

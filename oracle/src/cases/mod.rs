@@ -3,6 +3,7 @@
 mod bad_lines;
 mod full;
 mod holds;
+mod pinned;
 mod pools;
 mod stand;
 mod store;
@@ -22,11 +23,12 @@ pub struct Case {
 /// All cases in the order in which they are stored.
 pub fn all() -> Vec<Case> {
     let mut cases = Vec::new();
-    for table in [stand::CASES, pools::CASES, holds::CASES, wants::CASES] {
+    for table in [stand::CASES, pools::CASES, holds::CASES, wants::CASES, pinned::CASES] {
         cases.extend(table.iter().map(|(name, text, expected)| case(name, lines(text), lines(expected))));
     }
     cases.extend(bad_lines::all());
     cases.extend(full::all());
+    cases.extend(pinned::all());
     cases.extend(random());
     cases
 }

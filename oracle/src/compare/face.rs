@@ -7,6 +7,7 @@ use crate::added;
 use crate::calls::{no, Answer, Call, Kind, PlanAnswer, Tables};
 use crate::departures;
 use crate::judge::Judge;
+use crate::pinned::{in_room, judged as judged_back, Pinned};
 use crate::text;
 
 /// What every lent number holds beforehand, so that one written without need is seen.
@@ -35,6 +36,9 @@ pub trait Face {
 
     /// The whole output for a text. No state is touched.
     fn text(&mut self, text: &[u8]) -> Vec<u8>;
+
+    /// A text written back into a buffer of so many bytes. No state is touched.
+    fn pin(&mut self, text: &[u8], room: usize) -> Pinned;
 }
 
 /// How something that answers typed calls answers; the judge itself, unless a method says otherwise.
@@ -55,6 +59,10 @@ pub trait Answers {
 
     fn text(&mut self, text: &[u8]) -> Vec<u8> {
         output(text)
+    }
+
+    fn pin(&mut self, text: &[u8], room: usize) -> Pinned {
+        in_room(&judged_back(text), room)
     }
 }
 
@@ -158,6 +166,10 @@ impl<A: Answers> Face for Behind<A> {
 
     fn text(&mut self, text: &[u8]) -> Vec<u8> {
         self.answers.text(text)
+    }
+
+    fn pin(&mut self, text: &[u8], room: usize) -> Pinned {
+        self.answers.pin(text, room)
     }
 }
 

@@ -4,6 +4,7 @@ pub mod face;
 pub mod flat;
 mod odd;
 mod pair;
+mod pins;
 mod run;
 mod short_calls;
 mod short_texts;

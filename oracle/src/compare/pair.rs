@@ -6,10 +6,11 @@ use std::panic::{catch_unwind, AssertUnwindSafe};
 
 use super::face::{Behind, Face, Plain, Said};
 use super::flat::Step;
+use super::pins;
 use super::smallest::smallest;
 use crate::calls::{Kind, Place, Tables};
 use crate::departures;
-use crate::text;
+use crate::text::{self, Ran};
 
 /// What both sides are given.
 #[derive(Clone, Debug, PartialEq, Eq)]
@@ -26,11 +27,19 @@ pub struct Pair {
     excused: BTreeMap<&'static str, u64>,
     /// How often each answer was given: number, namespace, detail.
     pub answers: BTreeMap<[u64; 3], u64>,
+    /// What came of writing texts back.
+    pub pins: pins::Counts,
 }
 
 impl Pair {
     pub fn new(ours: Box<dyn Face>) -> Self {
-        Self { ours, theirs: Behind::new(Plain), excused: BTreeMap::new(), answers: BTreeMap::new() }
+        Self {
+            ours,
+            theirs: Behind::new(Plain),
+            excused: BTreeMap::new(),
+            answers: BTreeMap::new(),
+            pins: BTreeMap::new(),
+        }
     }
 
     /// In what the two sides differ, in words. A side that stops with a panic differs.
@@ -80,19 +89,22 @@ impl Pair {
 
     fn text(&mut self, text: &[u8]) -> Option<String> {
         let excused = &mut self.excused;
-        let theirs = text::run_seen(text, &mut |tables, call| {
+        let ran = text::run_seen(text, &mut |tables, call| {
             for name in departures::of(tables, call) {
                 *excused.entry(name).or_default() += 1;
             }
         });
-        let theirs = match theirs {
-            Ok(output) => output,
+        let ran = match ran {
+            Ok(ran) => ran,
             Err(stopped) => return Some(format!("the original panics at line {}: {}", stopped.line, stopped.message)),
         };
-        *self.answers.entry(answer_of(&theirs)).or_default() += 1;
-        let ours = self.ours.text(text);
-        let words = |output: &[u8]| String::from_utf8_lossy(output).into_owned();
-        (ours != theirs).then(|| format!("  ours:\n{}  the judge:\n{}", words(&ours), words(&theirs)))
+        *self.answers.entry(answer_of(&ran)).or_default() += 1;
+        let (ours, theirs) = (self.ours.text(text), ran.output());
+        if ours != theirs {
+            let words = |output: &[u8]| String::from_utf8_lossy(output).into_owned();
+            return Some(format!("  ours:\n{}  the judge:\n{}", words(&ours), words(&theirs)));
+        }
+        pins::difference(&mut *self.ours, text, &ran, &mut self.pins)
     }
 
     fn calls(&mut self, steps: &[Step]) -> Option<String> {
@@ -119,15 +131,11 @@ fn message(panic: &(dyn Any + Send)) -> &str {
     words.or_else(|| panic.downcast_ref::<&str>().copied()).unwrap_or("a panic without words")
 }
 
-/// Number, namespace and detail of an output's refusal; zeros where there is none.
-fn answer_of(output: &[u8]) -> [u64; 3] {
-    let words = String::from_utf8_lossy(output);
-    let fields: Vec<&str> = words.trim_end().split('\t').collect();
-    match fields.as_slice() {
-        ["no", _, number, namespace, _, detail] => {
-            [number, namespace, detail].map(|field| field.parse().unwrap_or(u64::MAX))
-        }
-        _ => [0; 3],
+/// Number, namespace and detail of a text's refusal; zeros where there is none.
+fn answer_of(ran: &Ran) -> [u64; 3] {
+    match ran {
+        Ran::Refused { refusal, .. } => [refusal.number, refusal.namespace, refusal.detail].map(u64::from),
+        Ran::Granted(_) => [0; 3],
     }
 }
 

@@ -6,6 +6,7 @@ use std::fmt;
 use super::face::Face;
 use super::flat::step_of;
 use super::pair::{Input, Pair};
+use super::pins::Counts;
 use super::{odd, short_calls, short_texts};
 use crate::cases;
 use crate::gen;
@@ -48,6 +49,9 @@ pub fn families(number: u64, seed: u64) -> Vec<Family> {
     let large = number >= 100_000;
     let mut all = vec![
         Family::texts("random texts", number, move |index| gen::text(seed, index)),
+        Family::texts("random texts, automatic ranges fixed too", number, move |index| {
+            gen::text_fixed_too(!seed, index)
+        }),
         Family::calls("random calls", number, move |index| {
             let calls = if index % 3 == 2 { gen::tight_sequence(seed, index) } else { gen::sequence(seed, index) };
             let mut steps: Vec<_> = calls.iter().map(step_of).collect();
@@ -75,6 +79,8 @@ pub struct Report {
     pub answers: BTreeMap<[u64; 3], u64>,
     /// Answers of the judge that were held against the bare original's as well.
     pub bare_same: u64,
+    /// What came of writing texts back.
+    pub pins: Counts,
 }
 
 impl Report {
@@ -89,6 +95,9 @@ impl Report {
         }
         for (answer, count) in other.answers {
             *self.answers.entry(answer).or_default() += count;
+        }
+        for (what, count) in other.pins {
+            *self.pins.entry(what).or_default() += count;
         }
     }
 
@@ -118,6 +127,9 @@ impl fmt::Display for Report {
         for (name, (inputs, places)) in &self.excused {
             writeln!(f, "departure {name}: {inputs} inputs, {places} places, compared with 01's answer")?;
         }
+        for (what, count) in &self.pins {
+            writeln!(f, "pinned text, {what}: {count}")?;
+        }
         if self.bare_same > 0 {
             writeln!(f, "{} answers under no departure are the bare original's word for word", self.bare_same)?;
         }
@@ -139,6 +151,7 @@ pub fn run(family: &Family, threads: u64, ours: &(dyn Fn() -> Box<dyn Face> + Sy
             report.take(&mut pair, index, &(family.input)(index));
         }
         report.answers = std::mem::take(&mut pair.answers);
+        report.pins = std::mem::take(&mut pair.pins);
         report.bare_same = pair.bare_same();
         report
     };

@@ -27,6 +27,20 @@ pub fn text(seed: u64, index: u64) -> Vec<u8> {
     }
 }
 
+/// The same kind of text with each automatic pool range made a fixed one too, so that what it grants can be asked for.
+pub fn text_fixed_too(seed: u64, index: u64) -> Vec<u8> {
+    let text = text(seed, index);
+    let mut written = Vec::new();
+    for line in text.split_inclusive(|byte| *byte == b'\n') {
+        if let Some(range) = line.strip_prefix(b"pool\tauto\t") {
+            written.extend_from_slice(b"pool\tfixed\t");
+            written.extend_from_slice(range);
+        }
+        written.extend_from_slice(line);
+    }
+    written
+}
+
 /// The call sequence of a number under a seed.
 pub fn sequence(seed: u64, index: u64) -> Vec<crate::calls::Call> {
     calls(&mut Rng::new(seed, index))

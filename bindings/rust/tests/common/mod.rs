@@ -4,6 +4,8 @@
 #[path = "../../src/exported.rs"]
 mod exported;
 
+pub mod texts;
+
 pub use exported::*;
 
 use thurgoleo::{Choice, Hold, Plan, Planner, Pool, Request, Use, Want, MOST};

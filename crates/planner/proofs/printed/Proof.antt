@@ -5,7 +5,9 @@ use mir.Syntax.{w64}
 use mir.Val.{SFits}
 use lib.ListN.{take}
 use lib.Seq.{length-take-le}
-use Rattle.planner.proofs.PrintLaws.{read-back, prints-nothing, prints-output, within}
+use Rattle.lines.specs.Text.{output}
+use Rattle.standard_input.proofs.ReadLaws.{read-back, prints-nothing, prints-front, within}
+use Rattle.planner.proofs.PrintLaws.{cut-output, front-inside, front-is}
 use borrow.Author.Needs.{needs}
 use Rattle.planner.proofs.printed.Statement.{statement}
 use Rattle.planner.proofs.printed.Tie as tie
@@ -14,7 +16,7 @@ returns : tie.Need-returns
 returns c =
     let s = c .before .before .before .before .before in
     let f : SFits w64 (s .args .input .last) = search needs in
-    prints-nothing (take (s .args .input .n) (s .args .buf .now)) (s .args .input .last) (s .args .out .now) (read-back (s .args .input .last) f true (c .if1 .taken))
+    prints-nothing output (take (s .args .input .n) (s .args .buf .now)) (s .args .input .last) (s .args .out .now) (read-back (s .args .input .last) f true (c .if1 .taken))
 
 slice-aggregate-respond : tie.Need-slice-aggregate-respond
 slice-aggregate-respond c = let s = c .before .before .before .before .before .before in sym (length-take-le (s .args .input .n) (s .args .buf .now) (within _ (s .args .input .n) (s .args .input .last) (s .pre .1 .0)))
@@ -23,7 +25,8 @@ returns-2 : tie.Need-returns-2
 returns-2 c =
     let s = c .before .before .before .before .before .before .before .before .before .before in
     let f : SFits w64 (s .args .input .last) = search needs in
-    prints-output (s .args .buf .now) (s .args .out .now) _ (s .args .input .n) _ _ (s .args .input .last) (read-back (s .args .input .last) f false (c .before .before .before .before .before .if1 .left)) (s .pre .0) (s .pre .1 .0) (s .pre .1 .1) (c .before .before .respond .ensures)
+    let is = c .before .before .respond .ensures in
+    prints-front output cut-output (s .args .buf .now) _ (s .args .input .n) _ (s .args .input .last) (read-back (s .args .input .last) f false (c .before .before .before .before .before .if1 .left)) (s .pre .0) (s .pre .1 .0) (front-inside _ (s .args .out .now) _ _ _ (s .pre .1 .1) is) (front-is _ (s .args .out .now) _ _ _ (s .pre .1 .1) is)
 
 pub printed-spec : {M : Type 1} → statement M
 printed-spec =

@@ -2,7 +2,7 @@
 use mathlib.Core.Path.{sym, _∙_}
 use borrow.Author.Tests.{eq-eqb, ne-eqb}
 use Rattle.lines.specs.Base.{when}
-use Rattle.lines.specs.Line.{entry}
+use Rattle.lines.specs.Forms.{entry}
 use borrow.Author.Needs.{needs}
 use Rattle.lines.proofs.form.read_entry.Statement.{statement}
 use Rattle.lines.proofs.form.read_entry.Tie as tie

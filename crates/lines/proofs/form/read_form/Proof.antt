@@ -1,7 +1,7 @@
 -- `lines::form::read_form` meets its contract. Assumes nothing.
 use mathlib.Core.Path.{sym, _∙_}
 use Rattle.lines.specs.Base.{when}
-use Rattle.lines.specs.Line.{form}
+use Rattle.lines.specs.Forms.{form}
 use borrow.Author.Needs.{needs}
 use Rattle.lines.proofs.form.read_form.Statement.{statement}
 use Rattle.lines.proofs.form.read_form.Tie as tie

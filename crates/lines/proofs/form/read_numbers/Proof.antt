@@ -5,7 +5,7 @@ use mathlib.Core.Path.{_≡_, sym, _∙_}
 use Prim.Native.Nat.{_≤_, _-_}
 use lib.ListN.{length, drop}
 use Rattle.lines.specs.Base.{tab, split}
-use Rattle.lines.specs.Line.{numbers}
+use Rattle.lines.specs.Forms.{numbers}
 use Rattle.lines.specs.Code.{rowFrom, rowOf}
 use Rattle.lines.proofs.PartLaws.{first-inside}
 use Rattle.lines.proofs.FormLaws.{row-starts, read-stop, read-next, read-end, read-short, read-over}

@@ -1,7 +1,7 @@
 -- `reader::hold::read_hold_its` meets its contract: the first form that the fields are of says the call. Assumes nothing.
 use native.Mathlib.Omega.{arith}
 use mathlib.Core.Path.{sym, _∙_}
-use Rattle.lines.specs.Line.{holdIts}
+use Rattle.lines.specs.Forms.{tries}
 use Rattle.lines.proofs.FormLaws.{row-within, row-here, row-past}
 use borrow.Author.Needs.{needs}
 use Rattle.reader.proofs.hold.read_hold_its.Statement.{statement}
@@ -20,7 +20,7 @@ cast-t28-2 : tie.Need-cast-t28-2
 cast-t28-2 c = omega (arith, row-within _ _ _ _ _ (omega arith) (c .before .before .read-form .ensures) (c .before .if1 .taken) 1)
 
 returns : tie.Need-returns
-unfolding holdIts
+unfolding tries
 returns c = sym (row-here _ _ _ _ _ (omega arith) (c .before .before .read-form .ensures) _ _ (c .before .if1 .taken))
 
 cast-t42 : tie.Need-cast-t42
@@ -39,12 +39,12 @@ cast-t49-2 : tie.Need-cast-t49-2
 cast-t49-2 c = omega (arith, row-within _ _ _ _ _ (omega arith) (c .before .before .read-form2 .ensures) (c .before .if2 .taken) 1)
 
 returns-2 : tie.Need-returns-2
-unfolding holdIts
+unfolding tries
 returns-2 c = sym (row-past _ _ _ _ _ (omega arith) (c .before .before .before .before .before .before .read-form .ensures) _ _ (c .before .before .before .before .before .if1 .left)
     ∙ row-here _ _ _ _ _ (omega arith) (c .before .before .read-form2 .ensures) _ _ (c .before .if2 .taken))
 
 returns-3 : tie.Need-returns-3
-unfolding holdIts
+unfolding tries
 returns-3 c = sym (row-past _ _ _ _ _ (omega arith) (c .before .before .before .before .before .read-form .ensures) _ _ (c .before .before .before .before .if1 .left)
     ∙ row-past _ _ _ _ _ (omega arith) (c .before .read-form2 .ensures) _ _ (c .if2 .left))
 

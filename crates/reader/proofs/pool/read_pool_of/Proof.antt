@@ -1,7 +1,7 @@
 -- `reader::pool::read_pool_of` meets its contract: the first form that the fields are of says the call. Assumes nothing.
 use native.Mathlib.Omega.{arith}
 use mathlib.Core.Path.{sym, _∙_}
-use Rattle.lines.specs.Line.{poolOf}
+use Rattle.lines.specs.Forms.{tries}
 use Rattle.lines.proofs.FormLaws.{row-within, row-here, row-past}
 use borrow.Author.Needs.{needs}
 use Rattle.reader.proofs.pool.read_pool_of.Statement.{statement}
@@ -11,7 +11,7 @@ cast-t23 : tie.Need-cast-t23
 cast-t23 c = omega (arith, row-within _ _ _ _ _ (omega arith) (c .before .before .read-form .ensures) (c .before .if1 .taken) 0)
 
 returns : tie.Need-returns
-unfolding poolOf
+unfolding tries
 returns c = sym (row-here _ _ _ _ _ (omega arith) (c .before .before .read-form .ensures) _ _ (c .before .if1 .taken))
 
 cast-t38 : tie.Need-cast-t38
@@ -39,12 +39,12 @@ cast-t43-4 : tie.Need-cast-t43-4
 cast-t43-4 c = omega (arith, row-within _ _ _ _ _ (omega arith) (c .before .before .read-form2 .ensures) (c .before .if2 .taken) 1)
 
 returns-2 : tie.Need-returns-2
-unfolding poolOf
+unfolding tries
 returns-2 c = sym (row-past _ _ _ _ _ (omega arith) (c .before .before .before .before .before .before .read-form .ensures) _ _ (c .before .before .before .before .before .if1 .left)
     ∙ row-here _ _ _ _ _ (omega arith) (c .before .before .read-form2 .ensures) _ _ (c .before .if2 .taken))
 
 returns-3 : tie.Need-returns-3
-unfolding poolOf
+unfolding tries
 returns-3 c = sym (row-past _ _ _ _ _ (omega arith) (c .before .before .before .before .before .read-form .ensures) _ _ (c .before .before .before .before .if1 .left)
     ∙ row-past _ _ _ _ _ (omega arith) (c .before .read-form2 .ensures) _ _ (c .if2 .left))
 

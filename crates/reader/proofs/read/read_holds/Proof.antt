@@ -2,7 +2,8 @@
 use Rattle.lines.specs.Base.{_andThen_}
 use native.Mathlib.Omega.{arith}
 use mathlib.Core.Path.{sym}
-use Rattle.lines.specs.Line.{n32, behindHold}
+use Rattle.lines.specs.Forms.{n32}
+use Rattle.lines.specs.Line.{behindHold}
 use Rattle.lines.proofs.FormLaws.{number-within}
 use borrow.Author.Needs.{needs}
 use Rattle.reader.proofs.read.read_holds.Statement.{statement}

@@ -2,7 +2,7 @@
 use native.Mathlib.Omega.{arith}
 use mathlib.Core.Path.{sym, _∙_}
 use Rattle.lines.specs.Base.{tab}
-use Rattle.lines.specs.Line.{n32}
+use Rattle.lines.specs.Forms.{n32}
 use Rattle.lines.proofs.PartLaws.{part-length}
 use Rattle.lines.proofs.FormLaws.{number-within}
 use Rattle.reader.proofs.LineLaws.{want-alone, want-no-requester, want-no-slot, want-said}

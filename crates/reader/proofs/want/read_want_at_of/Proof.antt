@@ -1,7 +1,7 @@
 -- `reader::want::read_want_at_of` meets its contract: the first form that the fields are of says the call. Assumes nothing.
 use native.Mathlib.Omega.{arith}
 use mathlib.Core.Path.{sym, _∙_}
-use Rattle.lines.specs.Line.{wantAtOf}
+use Rattle.lines.specs.Forms.{tries}
 use Rattle.lines.proofs.FormLaws.{row-within, row-here, row-past}
 use borrow.Author.Needs.{needs}
 use Rattle.reader.proofs.want.read_want_at_of.Statement.{statement}
@@ -17,7 +17,7 @@ cast-t29 : tie.Need-cast-t29
 cast-t29 c = omega (arith, row-within _ _ _ _ _ (omega arith) (c .before .before .read-form .ensures) (c .before .if1 .taken) 2)
 
 returns : tie.Need-returns
-unfolding wantAtOf
+unfolding tries
 returns c = c .asked .ensures ∙ sym (row-here _ _ _ _ _ (omega arith) (c .before .before .before .read-form .ensures) _ _ (c .before .before .if1 .taken))
 
 cast-t42 : tie.Need-cast-t42
@@ -39,12 +39,12 @@ cast-t66 : tie.Need-cast-t66
 cast-t66 c = omega (arith, row-within _ _ _ _ _ (omega arith) (c .before .before .read-form2 .ensures) (c .before .if2 .taken) 5)
 
 returns-2 : tie.Need-returns-2
-unfolding wantAtOf
+unfolding tries
 returns-2 c = c .asked2 .ensures ∙ sym (row-past _ _ _ _ _ (omega arith) (c .before .before .before .before .before .before .before .read-form .ensures) _ _ (c .before .before .before .before .before .before .if1 .left)
     ∙ row-here _ _ _ _ _ (omega arith) (c .before .before .before .read-form2 .ensures) _ _ (c .before .before .if2 .taken))
 
 returns-3 : tie.Need-returns-3
-unfolding wantAtOf
+unfolding tries
 returns-3 c = sym (row-past _ _ _ _ _ (omega arith) (c .before .before .before .before .before .read-form .ensures) _ _ (c .before .before .before .before .if1 .left)
     ∙ row-past _ _ _ _ _ (omega arith) (c .before .read-form2 .ensures) _ _ (c .if2 .left))
 

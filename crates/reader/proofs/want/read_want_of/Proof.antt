@@ -1,7 +1,7 @@
 -- `reader::want::read_want_of` meets its contract: the first form that the fields are of says the call. Assumes nothing.
 use native.Mathlib.Omega.{arith}
 use mathlib.Core.Path.{sym, _∙_}
-use Rattle.lines.specs.Line.{wantOf}
+use Rattle.lines.specs.Forms.{tries}
 use Rattle.lines.proofs.FormLaws.{row-within, row-here, row-past}
 use borrow.Author.Needs.{needs}
 use Rattle.reader.proofs.want.read_want_of.Statement.{statement}
@@ -17,7 +17,7 @@ cast-t29 : tie.Need-cast-t29
 cast-t29 c = omega (arith, row-within _ _ _ _ _ (omega arith) (c .before .before .read-form .ensures) (c .before .if1 .taken) 2)
 
 returns : tie.Need-returns
-unfolding wantOf
+unfolding tries
 returns c = c .asked .ensures ∙ sym (row-here _ _ _ _ _ (omega arith) (c .before .before .before .read-form .ensures) _ _ (c .before .before .if1 .taken))
 
 cast-t39 : tie.Need-cast-t39
@@ -30,12 +30,12 @@ cast-t47 : tie.Need-cast-t47
 cast-t47 c = omega (arith, row-within _ _ _ _ _ (omega arith) (c .before .before .read-form2 .ensures) (c .before .if2 .taken) 2)
 
 returns-2 : tie.Need-returns-2
-unfolding wantOf
+unfolding tries
 returns-2 c = c .asked2 .ensures ∙ sym (row-past _ _ _ _ _ (omega arith) (c .before .before .before .before .before .before .before .read-form .ensures) _ _ (c .before .before .before .before .before .before .if1 .left)
     ∙ row-here _ _ _ _ _ (omega arith) (c .before .before .before .read-form2 .ensures) _ _ (c .before .before .if2 .taken))
 
 returns-3 : tie.Need-returns-3
-unfolding wantOf
+unfolding tries
 returns-3 c = c .read-want-at .ensures ∙ sym (row-past _ _ _ _ _ (omega arith) (c .before .before .before .before .before .before .read-form .ensures) _ _ (c .before .before .before .before .before .if1 .left)
     ∙ row-past _ _ _ _ _ (omega arith) (c .before .before .read-form2 .ensures) _ _ (c .before .if2 .left))
 

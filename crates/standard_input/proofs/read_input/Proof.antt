@@ -9,9 +9,9 @@ use lib.ListN.{length, take, drop, length-take, length-drop}
 use borrow.Author.Needs.{needs}
 use borrow.Rule.Slice.PartMut.{putMid, same-len-mid}
 use Rattle.io.specs.Counts.{clamped}
-use Rattle.planner.proofs.PrintLaws.{stops, brings}
-use Rattle.planner.proofs.read_input.Statement.{statement}
-use Rattle.planner.proofs.read_input.Tie as tie
+use Rattle.standard_input.proofs.ReadLaws.{stops, brings}
+use Rattle.standard_input.proofs.read_input.Statement.{statement}
+use Rattle.standard_input.proofs.read_input.Tie as tie
 
 abbrev Inv-loop : tie.InvT-loop
 Inv-loop buf₀ n₀ buf n = (n ≤ length buf) × (length buf ≡ length buf₀)

@@ -1,0 +1,5 @@
+pub mod LineLaws
+pub mod WalkLaws
+pub mod EndLaws
+pub mod PinnedLaws
+pub mod WriteLaws
