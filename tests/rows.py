@@ -1,5 +1,5 @@
 #!/usr/bin/env python3
-"""The table-level rules of 01, written down once more in Python, and the commands that try them.
+"""The table-level rules of 01 and 02, written down once more in Python, and the commands that try them.
 
 Says whether tests/rows/commands (for bindings/rust/tests/rows.rs) and tests/rows/answers (what it must give) are what this model makes; with --write, lays them out so.
 A command is a line of at most thirteen numbers, parted by single blanks; those left out are 0:
@@ -15,6 +15,7 @@ A command is a line of at most thirteen numbers, parted by single blanks; those 
                                        controller, trigger, sharing; 4 host; 5 msi: controller, its, count; code 0 automatic, 1 fixed, three for msi)
   9 length requester slot kind ..      the same with a list of that length
   6                                    print whether pools and reservations are sound, and whether all tables are
+  10                                   print 1 if the last call left every number of all tables as it was, else 0
 """
 import pathlib
 import random
@@ -26,6 +27,9 @@ FILES = pathlib.Path(__file__).resolve().parent / "rows"
 ROWS, POOL = sizes.SIZES["rows of an owner table"], sizes.SIZES["rows of a pool table"]
 W16, W32, W64 = 2**16 - 1, 2**32 - 1, 2**64 - 1
 TOP = {1: W64, 2: W16, 3: W64, 4: W64, 5: W32, 6: W32, 7: W32}
+# the least number at which a kind's ranges start: LPIs begin there
+FIRST = sizes.SIZES["least LPI"]
+FLOOR = {k: FIRST if k == 7 else 0 for k in TOP}
 # how many domain numbers a kind's rows use, and its pools
 DOMAIN = {1: 0, 2: 0, 3: 1, 4: 0, 5: 2, 6: 3, 7: 1}
 POOL_DOMAIN = {1: 0, 2: 0, 3: 1, 4: 0, 5: 2, 6: 2, 7: 1}
@@ -79,6 +83,7 @@ class State:
     def __init__(self):
         self.t = {(a, k): Table(a, k) for a in range(4) for k in KINDS}
         self.said = [0, 0, 0, 0, 0]
+        self.touched = False  # whether the last call changed a table
 
     # ---- soundness, in 01's words
 
@@ -88,7 +93,7 @@ class State:
             return False
         rows = t.used()
         for r in rows:
-            if not r["start"] < r["end"] <= TOP[k] or not unused_domain_zero(r, k, True):
+            if not FLOOR[k] <= r["start"] < r["end"] <= TOP[k] or not unused_domain_zero(r, k, True):
                 return False
         for j, b in enumerate(rows):
             for a_ in rows[:j]:
@@ -108,7 +113,7 @@ class State:
             if k == 3:
                 if r["trigger"] > 3 or r["sharing"] > 1:
                     return False
-            elif not r["start"] < r["end"] <= TOP[k]:
+            elif not FLOOR[k] <= r["start"] < r["end"] <= TOP[k]:
                 return False
         for j, b in enumerate(rows):
             for c in rows[:j]:
@@ -136,15 +141,21 @@ class State:
     def say(self, number, owner=0):
         self.said = [number, 0, 0, owner, 0]
 
-    def add_range(self, use, k, row):
-        t = self.t[use, k]
-        if not row["start"] < row["end"]:
+    def refused(self, use, ranges):
+        """The number of the first test that a range does not pass, each tried on all of them: 4, 12, then 9 where a table needs a row and has none."""
+        if any(not r["start"] < r["end"] for _, r in ranges):
             return 4
+        if any(r["start"] < FLOOR[k] for k, r in ranges):
+            return 12
+        if any(r not in self.t[use, k].used() and self.t[use, k].count == POOL for k, r in ranges):
+            return 9
+        return 0
+
+    def insert(self, use, k, row):
+        t = self.t[use, k]
         rows = t.used()
         if row in rows:
-            return 0
-        if t.count == POOL:
-            return 9
+            return
         at = t.count
         for j, r in enumerate(rows):
             if domain(r, k, True) == domain(row, k, True) and r["start"] > row["start"]:
@@ -153,24 +164,26 @@ class State:
         t.rows.insert(at, [row[n] for n in POOL_COLUMNS])
         t.rows.pop()
         t.count += 1
-        return 0
+        self.touched = True
 
     def pool(self, use, k, x):
         if not self.given():
             return self.say(1)
+        if k == 5 and any(n > W32 for n in x[:8]):
+            return self.say(2)
         row = lambda c, i, s, e: dict(controller=c, its=i, start=s, end=e)
         if k == 5:
             c, i, ds, de, es, ee, ls, le = x[:8]
-            turns = [(5, row(c, i, ds, de)), (6, row(c, i, es, ee)), (7, row(c, 0, ls, le))]
+            ranges = [(5, row(c, i, ds, de)), (6, row(c, i, es, ee)), (7, row(c, 0, ls, le))]
         elif k == 3:
-            turns = [(3, row(x[0], 0, x[1], x[2]))]
+            ranges = [(3, row(x[0], 0, x[1], x[2]))]
         else:
-            turns = [(k, row(0, 0, x[0], x[1]))]
-        for kind, r in turns:
-            n = self.add_range(use, kind, r)
-            if n:
-                return self.say(n)
-        self.say(0)
+            ranges = [(k, row(0, 0, x[0], x[1]))]
+        number = self.refused(use, ranges)
+        if not number:
+            for kind, r in ranges:
+                self.insert(use, kind, r)
+        self.say(number)
 
     def hold(self, owner, k, x):
         if not self.given():
@@ -197,6 +210,8 @@ class State:
         for kind, r in rows:
             if kind != 3 and (not r["start"] < r["end"] or r["end"] > TOP[kind]):
                 return self.say(4)
+        if any(kind != 3 and r["start"] < FLOOR[kind] for kind, r in rows):
+            return self.say(12)
         for kind, r in rows:
             for h in self.t[2, kind].used():
                 if domain(h, kind) == domain(r, kind):
@@ -208,12 +223,15 @@ class State:
             return self.say(9)
         for kind, r in rows:
             self.t[2, kind].push(r)
+            self.touched = True
         self.say(0)
 
     def start(self):
         if not self.given():
             return self.say(1)
         for k in KINDS:
+            if (self.t[3, k].count, self.t[3, k].rows) != (self.t[2, k].count, self.t[2, k].rows):
+                self.touched = True
             self.t[3, k].copy_of(self.t[2, k])
         self.say(0)
 
@@ -302,6 +320,7 @@ class State:
             return self.say(9)
         for k, r in rows:
             self.t[3, k].push(r)
+            self.touched = True
         self.say(0)
         rec = [kind, q, slot] + rec
         out[:9] = rec + [0] * (9 - len(rec))
@@ -328,6 +347,8 @@ class Run:
         c = list(c) + [0] * (14 - len(c))
         op, x = c[0], c[1:]
         s = self.s
+        if op in (1, 2, 3, 8, 9):
+            s.touched = False
         if op == 0:
             self.s = State()
         elif op == 1:
@@ -347,6 +368,8 @@ class Run:
                     self.out.append("row %d %d " % (a, k) + " ".join(map(str, r)))
         elif op == 6:
             self.out.append("%d %d" % (s.given(), s.sound()))
+        elif op == 10:
+            self.out.append("%d" % (not s.touched))
         elif op == 8:
             out = [9] * 9
             s.want(x, out)
@@ -381,7 +404,7 @@ def pool_order(r):
 
 
 def pool_full(r):
-    """A full table: a duplicate is accepted, another row is 9; in an MSI domain each range has its turn and earlier rows stay."""
+    """A full table: a duplicate is accepted, another row is 9."""
     for use in (0, 1):
         for k in (1, 2, 4):
             r.do(0)
@@ -391,22 +414,57 @@ def pool_full(r):
             r.do(1, use, k, 99, 100)
             r.do(1, use, k, 99, 99)
         r.do(5)
-    r.do(0)
-    for i in range(POOL):
-        r.do(1, 0, 5, 1, 2, 10 * i, 10 * i + 5, 0, 4, 8192 + i, 8200 + i)
-    r.do(1, 0, 5, 1, 2, 0, 5, 7, 9, 8192, 8200)
-    r.do(1, 0, 5, 1, 2, 0, 5, 0, 4, 1, 1)
-    r.do(1, 0, 5, 1, 2, 1, 5, 0, 0, 1, 2)
-    r.do(5)
-    r.do(0)
-    r.do(1, 1, 5, 7, 8, 1, 2, 3, 3, 4, 5)
-    r.do(1, 1, 5, 7, 8, 2, 3, 3, 4, 5, 5)
-    r.do(1, 1, 5, 7, 9, 2, 3, 3, 4, 5, 6)
-    r.checked(1, 1, 5, 6, 9, 0, 0, 3, 4, 5, 6)
+
+
+def domains(r):
+    """An MSI domain is taken whole or not at all: a number too large is 2, any empty range 4, then low LPIs are 12, then a row that is lacking is 9. Each range is new, there
+    already, empty, too large, of LPIs low as well; each of the three tables is full in turn, and none, and all."""
+    new, there, empty, large = (90000, 90005), (10, 20), (13, 13), (0, W32 + 1)
+    lpis = [(FIRST + start, FIRST + end) for start, end in (new, there, empty)]
+    low = [(FIRST - 1, FIRST), (FIRST - 1, FIRST + 1), (0, W32), (5, 5), (9, 5), large]
+    for use in (0, 1):
+        for full in ((), (5,), (6,), (7,), (5, 6, 7)):
+            def tables():
+                r.do(0)
+                for k in (5, 6, 7):
+                    r.do(7, use, k, POOL if k in full else 1)
+
+            tables()
+            for d in (new, there, empty, large):
+                for e in (new, there, empty, large):
+                    for l in lpis + low:
+                        if r.s.touched:
+                            tables()
+                        r.do(1, use, 5, 5, 6, *d, *e, *l)
+                        r.do(10)
+            r.do(5)
+            # the other use has tables of its own, and another controller and ITS its own ranges in the same ones
+            tables()
+            r.do(1, 1 - use, 5, 5, 6, *new, *new, *lpis[0])
+            r.do(1, use, 5, 5, 7, *there, *there, *lpis[1])
+            r.checked(1, use, 5, 4, 6, *there, *there, *lpis[1])
+
+
+def low_rows(r):
+    """A row of LPIs that starts too low is unsound in each of the four tables, for the calls that judge the table: owners by requests alone. One at the least LPI is not."""
+    calls = [
+        (1, 0, 1, 0, 10), (1, 1, 5, 5, 6, 3, 4, 3, 4, FIRST + 90, FIRST + 99), (1, 0, 5, 5, 6, 3, 4, 3, 4, 0, 1), (2, 9, 1, 0, 10), (2, 9, 7, 5, FIRST + 90, FIRST + 99), (2, 9, 7, 5, 0, 1),
+        (3,), (8, 9, 0, 4), (8, 9, 0, 5, 5, 6, 1), (9, 3, 9, 0, 4),
+    ]
+    for a in range(4):
+        for start in (FIRST - 1, FIRST, 0):
+            for call in calls:
+                r.do(0)
+                fill(r, a, 7, 2)
+                for t in [2, 3] if a == 2 else [a]:
+                    r.do(4, t, 7, columns(a, 7).index("start") + 1, 0, start)
+                r.do(*call)
+                r.do(10)
+            r.do(6)
 
 
 def holds(r):
-    """Refusals 2, 3, 4, 5 in their order; the owner named is the first in table order; other domains are free; the largest numbers."""
+    """Refusals 2, 3, 4, 12, 5 in their order; the owner named is the first in table order; other domains are free; the largest numbers."""
     r.do(0)
     for args in [
         (9, 1, 0x3000, 0x4000), (4, 1, 0x1000, 0x2000), (5, 1, 0x1000, 0x4000), (5, 1, 0x1800, 0x1900), (0, 1, 1, 2), (0, 1, 2, 1), (6, 1, 2, 2),
@@ -415,6 +473,7 @@ def holds(r):
         (1, 5, 1, 2, 8, 10), (2, 5, 1, 2, 9, 11), (2, 5, 1, 3, 9, 11), (2, 5, 2, 2, 9, 11),
         (1, 6, 1, 2, 8, 0, 4), (2, 6, 1, 2, 9, 0, 4), (3, 6, 1, 2, 8, 3, 5), (3, 6, 1, 2, 8, 4, 5), (3, 6, W32, W32, W32, W32 - 1, W32),
         (1, 7, 1, 8192, 8200), (2, 7, 1, 8199, 8201), (2, 7, 2, 8199, 8201),
+        (3, 7, 1, FIRST - 1, FIRST + 1), (3, 7, 3, FIRST - 1, FIRST), (3, 7, 3, 0, W32), (0, 7, 3, 5, 6), (0, 7, 3, 5, 5), (3, 7, 3, 5, 5), (3, 7, 3, 9, 5), (3, 7, W32, FIRST, W32),
         (3, 8, 1, 6, 0, 50), (3, 8, 1, 6, 0, 51), (3, 8, 1, 7, 0, 50), (3, 8, 1, 7, 4, 51), (0, 8, 1, 7, 0, 51), (3, 8, 1, 7, 0, W64), (3, 8, 1, 6, 0, W64), (3, 8, 9, 7, 3, W64 - 1),
     ]:
         r.do(2, *args)
@@ -439,6 +498,11 @@ def hold_full(r):
     r.do(2, 7, 3, 1, 1, 0, 0)
     r.do(2, 7, 8, 1, 300, 0, 40)
     r.checked(3)
+    r.do(0)
+    r.do(7, 2, 7, ROWS)
+    for start, end in ((FIRST - 1, W32), (5, 5), (FIRST, W32), (W32 - 1, W32)):
+        r.do(2, 7, 7, 5, start, end)
+        r.do(10)
 
 
 def started(r):
@@ -466,12 +530,13 @@ def started(r):
 
 def good_row(a, k, i=0):
     """Numbers of a sound row, apart from those of another i."""
+    start = FLOOR[k] + 10 + 20 * i
     if a < 2:
-        return dict(controller=5 if POOL_DOMAIN[k] else 0, its=6 if POOL_DOMAIN[k] > 1 else 0, start=10 + 20 * i, end=20 + 20 * i)
+        return dict(controller=5 if POOL_DOMAIN[k] else 0, its=6 if POOL_DOMAIN[k] > 1 else 0, start=start, end=start + 10)
     d = dict(controller=5 if DOMAIN[k] else 0, its=6 if DOMAIN[k] > 1 else 0, device=7 if DOMAIN[k] > 2 else 0)
     if k == 3:
         return dict(controller=5, input=10 + i, trigger=1, sharing=1, owner=3)
-    return dict(d, start=10 + 20 * i, end=20 + 20 * i, owner=3)
+    return dict(d, start=start, end=start + 10, owner=3)
 
 
 def fill(r, a, k, n=2):
@@ -520,27 +585,31 @@ def broken(r):
                 attempt(("input", 1, 10), ("controller", 1, 6), both=True)
                 attempt(("owner", 1, 8))
                 continue
-            attempt(("start", 1, 40), both=True)
-            attempt(("start", 1, 39), both=True)
+            # the rows are 10..20 and 30..40 from the kind's least number on
+            b = FLOOR[k]
+            attempt(("start", 1, b + 40), both=True)
+            attempt(("start", 1, b + 39), both=True)
             attempt(("end", 1, top), both=True)
             if top < W64:
                 attempt(("end", 1, top + 1), both=True)
+            for n in (b, b - 1, 0) if b else ():
+                attempt(("start", 0, n), both=True)
             if a < 2:
-                attempt(("start", 1, 10), both=True)
-                attempt(("start", 1, 10), ("end", 1, 20), both=True)
-                attempt(("start", 1, 9), both=True)
+                attempt(("start", 1, b + 10), both=True)
+                attempt(("start", 1, b + 10), ("end", 1, b + 20), both=True)
+                attempt(("start", 1, b + 9), both=True)
                 if used:
-                    attempt(("start", 1, 9), ("controller", 1, 4), both=True)
+                    attempt(("start", 1, b + 9), ("controller", 1, 4), both=True)
             else:
                 attempt(("owner", 1, 0), both=True)
-                attempt(("start", 1, 19), both=True)
-                attempt(("start", 1, 20), both=True)
-                attempt(("start", 1, 5), ("end", 1, 10), both=True)
-                attempt(("start", 1, 5), ("end", 1, 11), both=True)
+                attempt(("start", 1, b + 19), both=True)
+                attempt(("start", 1, b + 20), both=True)
+                attempt(("start", 1, b + 5), ("end", 1, b + 10), both=True)
+                attempt(("start", 1, b + 5), ("end", 1, b + 11), both=True)
                 if used:
-                    attempt(("start", 1, 10), ("end", 1, 20), ("controller", 1, 4), both=True)
+                    attempt(("start", 1, b + 10), ("end", 1, b + 20), ("controller", 1, 4), both=True)
                 attempt(("owner", 1, 8))
-                attempt(("start", 1, 31))
+                attempt(("start", 1, b + 31))
 
 
 def last_row(r):
@@ -651,6 +720,8 @@ def request_bounds(r):
         (1, 2, 1, (1, 12), AUTO, AUTO), (1, 2, 2, (1, 10), (1, 3), AUTO), (1, 2, 2, (1, 10), (1, 2), (1, 8195)), (1, 2, 2, (1, 10), (1, 2), (1, 8203)), (1, 2, 2, (1, 10), (1, 2), (1, 8202)),
         (1, 2, 3, AUTO, AUTO, AUTO), (1, 2, 1, AUTO, AUTO, AUTO), (1, 3, 1, AUTO, AUTO, AUTO), (2, 2, 1, AUTO, AUTO, AUTO), (W32, W32, 1, (1, W32 - 1), (1, W32 - 1), (1, W32 - 1)),
         (W32, W32, 1, (1, W32), (1, W32 - 1), (1, W32 - 1)), (1, 2, W32, AUTO, AUTO, AUTO), (1, 2, W32, (1, 11), (1, 1), AUTO),
+        # no request gets 12: a low LPI lies in no pool
+        (1, 2, 1, (1, 11), (1, 0), (1, FIRST - 1)), (1, 2, 1, (1, 11), (1, 0), (1, 0)), (1, 2, 2, (1, 11), AUTO, (1, FIRST - 1)), (1, 2, 1, (1, 8), (1, 0), (1, FIRST - 1)),
     ]:
         r.do(8, 6, 3, 5, a, b, c, *d, *e, *l)
     r.do(8, 0, 0, 5, 1, 2, 1)
@@ -663,7 +734,7 @@ def request_full(r):
         kind = {6: 5, 7: 5}.get(k, k)
         r.do(0)
         if kind == 5:
-            r.do(1, 0, 5, 5, 6, 3000, 3010, 3000, 3010, 3000, 3010)
+            r.do(1, 0, 5, 5, 6, 3000, 3010, 3000, 3010, FIRST + 3000, FIRST + 3010)
         elif kind == 3:
             r.do(1, 0, 3, 5, 3000, 3010)
         else:
@@ -715,18 +786,18 @@ def random_requests(r, seed, rounds):
             for c in (0, 1):
                 s = g.randrange(8)
                 r.do(1, use, 3, c, s, s + g.randrange(1, 6))
-                r.do(1, use, 5, c, g.randrange(2), 8, 8 + g.randrange(1, 4), 0, g.randrange(1, 8), 20, 20 + g.randrange(1, 12))
+                r.do(1, use, 5, c, g.randrange(2), 8, 8 + g.randrange(1, 4), 0, g.randrange(1, 8), FIRST + 20, FIRST + 20 + g.randrange(1, 12))
         if g.random() < 0.7:
             for kind in (1, 2, 4):
                 r.do(1, 1, kind, 0, 41)
             r.do(1, 1, 3, 0, 0, 14)
-            r.do(1, 1, 5, 0, 0, 6, 14, 0, 9, 18, 36)
+            r.do(1, 1, 5, 0, 0, 6, 14, 0, 9, FIRST + 18, FIRST + 36)
         for _ in range(g.randrange(5)):
             k = g.choice([1, 2, 3, 4, 5, 6, 7])
             s = g.randrange(20)
             e = s + g.randrange(1, 6)
             c, i = g.randrange(2), g.randrange(2)
-            x = {1: (s, e), 2: (s, e), 4: (s, e), 3: (c, g.randrange(12), g.randrange(4), g.randrange(2)), 5: (c, i, 8, 9), 6: (c, i, 8, 0, 2), 7: (c, 20 + s, 20 + e)}[k]
+            x = {1: (s, e), 2: (s, e), 4: (s, e), 3: (c, g.randrange(12), g.randrange(4), g.randrange(2)), 5: (c, i, 8, 9), 6: (c, i, 8, 0, 2), 7: (c, FIRST + 20 + s, FIRST + 20 + e)}[k]
             r.do(2, g.randrange(1, 9), k, *x)
         r.do(3)
         for _ in range(g.randrange(4, 16)):
@@ -739,15 +810,17 @@ def random_requests(r, seed, rounds):
             elif kind == 4:
                 x = (0, 0, 0) + ch(16)
             else:
-                x = (g.randrange(2), g.randrange(2), g.randrange(1, 4)) + ch(12) + ch(8) + ((1, 20 + g.randrange(14)) if g.random() < 0.4 else AUTO)
+                x = (g.randrange(2), g.randrange(2), g.randrange(1, 4)) + ch(12) + ch(8) + ((1, FIRST + 20 + g.randrange(14)) if g.random() < 0.4 else AUTO)
             r.do(8, g.randrange(1, 9), g.randrange(3), kind, *x)
         r.do(5)
         r.do(6)
 
 
 def random_calls(r, seed, rounds):
-    g = random.Random(seed)
+    """Small numbers; those of LPIs mostly from the least one on, now and then just below it or as they are."""
+    g, h = random.Random(seed), random.Random(~seed)
     small = lambda: g.choice([0, 1, 2, 3, 5, 8, g.randrange(40)])
+    least = lambda: h.choice([FIRST] * 6 + [FIRST - 2, 0])
     for _ in range(rounds):
         r.do(0)
         for _ in range(g.randrange(5, 25)):
@@ -759,6 +832,8 @@ def random_calls(r, seed, rounds):
                     x[0] = g.randrange(2)
                 if k == 5:
                     x[1] = g.randrange(2)
+                    b = least()
+                    x[6:8] = [x[6] + b, x[7] + b]
                 r.do(1, g.randrange(2), k, *x)
             elif p < 0.9:
                 k = g.randrange(1, 9)
@@ -766,6 +841,9 @@ def random_calls(r, seed, rounds):
                 x[0] = x[0] if k in (1, 2, 4) else g.randrange(2)
                 if k in (5, 6):
                     x[1] = g.randrange(2)
+                if k == 7:
+                    b = least()
+                    x[1:3] = [x[1] + b, x[2] + b]
                 r.do(2, g.randrange(5), k, *x)
             else:
                 r.do(3)
@@ -775,7 +853,7 @@ def random_calls(r, seed, rounds):
 
 def main():
     r = Run()
-    for part in (pool_order, pool_full, holds, hold_full, started, last_row, malformed, broken, stand_cases, request_bounds, request_full, request_malformed):
+    for part in (pool_order, pool_full, domains, low_rows, holds, hold_full, started, last_row, malformed, broken, stand_cases, request_bounds, request_full, request_malformed):
         part(r)
     random_calls(r, 1, 30)
     random_requests(r, 2, 150)

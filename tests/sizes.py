@@ -1,5 +1,5 @@
 #!/usr/bin/env python3
-"""Sizes: each stands once in the definition and once in the proved code, which the checker ties to one another. Whatever else states one is held to them here."""
+"""Sizes, and the least LPI: each stands once in the definition and once in the proved code, which the checker ties to one another. Whatever else states one is held to them here."""
 import pathlib
 import re
 import sys
@@ -15,6 +15,7 @@ STATED = {
     "numbers of a request": ("crates/flat/specs/Flat.antt requestSize", "crates/flat/src/lib.rt REQUEST"),
     "bytes of a text": ("crates/lines/specs/Base.antt textLimit", "crates/text/src/lib.rt TEXT"),
     "bytes of a line": ("crates/lines/specs/Base.antt lineLimit", "crates/reader/src/read.rt LINE"),
+    "least LPI": ("crates/definition/specs/Tables.antt firstLpi", "crates/table_tests/src/limits.rt FIRST_LPI"),
 }
 # where it is stated again: for other languages, and for the judge, which reads no file of ours
 AGAIN = {
@@ -25,13 +26,14 @@ AGAIN = {
     "numbers of a request": ("bindings/c/planner.h PLANNER_REQUEST", "bindings/rust/src/sizes.rs REQUEST"),
     "bytes of a text": ("bindings/c/planner.h PLANNER_TEXT", "bindings/rust/src/sizes.rs TEXT", "oracle/src/text.rs TEXT", "tools/explain.py TEXT"),
     "bytes of a line": ("oracle/src/text.rs LINE", "tools/explain.py LONGEST"),
+    "least LPI": ("bindings/c/planner.h PLANNER_FIRST_LPI", "bindings/rust/src/sizes.rs FIRST_LPI", "oracle/src/added.rs FIRST_LPI", "tools/explain.py FIRST_LPI"),
 }
 
 
 def number(place):
     """What a file says of a name, in whatever language: it says it once, as a plain number."""
     path, name = place.split()
-    said = re.findall(rf"^(?:.*\s)?{name}(?:: usize)?(?: =)? ([0-9_]+)u?(?![0-9A-Za-z_]| [*+])", (ROOT / path).read_text(), re.MULTILINE)
+    said = re.findall(rf"^(?:.*\s)?{name}(?:: u(?:size|32|64))?(?: =)? ([0-9_]+)u?(?![0-9A-Za-z_]| [*+])", (ROOT / path).read_text(), re.MULTILINE)
     if len(said) != 1:
         sys.exit(f"tests/sizes.py: {path} says {name} {len(said)} times")
     return int(said[0])

@@ -5,22 +5,24 @@ Reads the answer, or the pinned plan, on standard input and the plan from the fi
 import os
 import sys
 
-# sizes, as the proved code has them: wants of a plan; bytes of a line and of a text
+# sizes, as the proved code has them: wants of a plan; bytes of a line and of a text; the least LPI
 WANTS = 128
 LONGEST = 200
 TEXT = 32768
+FIRST_LPI = 8192
 REFUSALS = {
     1: ("Malformed", "the tables handed in are not sound"),
     2: ("BadInput", "a number or a code of the line makes no sense: a size, count or requester of 0, an alignment that is no power of two, an unknown trigger or sharing"),
     3: ("BadOwner", "owner 0 cannot hold anything"),
-    4: ("EmptyRange", "the range is empty: its start is not below its end"),
+    4: ("EmptyRange", "a range is empty: its start is not below its end"),
     5: ("Reserved", "the range overlaps a reservation of owner {owner}"),
     6: ("FixedNotAllowed", "no fixed pool of {namespace} allows these numbers, or they are not aligned as asked"),
     7: ("Exhausted", "no automatic pool of {namespace} has room for it"),
     8: ("Conflict", "{detail}; owner {owner} holds {namespace} there"),
-    9: ("Full", "the table has no free row"),
+    9: ("Full", "a table needs a row for it and has none free"),
     10: ("BadLine", "the line is not of a form that a plan can have"),
     11: ("Short", f"a plan has at most {WANTS} wants"),
+    12: ("BadLpi", f"LPIs begin at {FIRST_LPI}, and a range of them starts below that"),
 }
 NAMESPACES = {0: "", 1: "MMIO", 2: "PIO", 3: "wired inputs", 4: "host IRQs", 5: "the ITS", 6: "LPIs"}
 DETAILS = {

@@ -1,7 +1,7 @@
 // What is timed: two sets of tables, light and heavy, and one list of mixed requests for both.
 
 use crate::face::Flat;
-use oracle::added::PLAN_REQUESTS;
+use oracle::added::{FIRST_LPI, PLAN_REQUESTS};
 use oracle::calls::{Add, Choice, Hold, Need, PoolRange, Request};
 
 /// The requests of a run, and of a short one.
@@ -62,7 +62,7 @@ fn adds(pools: u64, held: u64, each: u64) -> Vec<Add> {
             Hold::Input { controller: CONTROLLER, input: i, trigger: 1, sharing: 0 },
             Hold::Device { controller: CONTROLLER, its: ITS, devices: id..id + 1 },
             Hold::Event { controller: CONTROLLER, its: ITS, device: 0, events: id..id + 1 },
-            Hold::Lpi { controller: CONTROLLER, lpis: id..id + 1 },
+            Hold::Lpi { controller: CONTROLLER, lpis: FIRST_LPI + id..FIRST_LPI + id + 1 },
         ] {
             adds.push(Add::Hold { owner: 7, what });
         }
@@ -70,8 +70,10 @@ fn adds(pools: u64, held: u64, each: u64) -> Vec<Add> {
     adds
 }
 
+/// The same numbers for devices and events, and for LPIs from the least one on.
 fn domain(fixed: bool, low: u32, high: u32) -> Add {
-    Add::Domain { fixed, controller: CONTROLLER, its: ITS, devices: low..high, events: low..high, lpis: low..high }
+    let lpis = FIRST_LPI + low..FIRST_LPI + high;
+    Add::Domain { fixed, controller: CONTROLLER, its: ITS, devices: low..high, events: low..high, lpis }
 }
 
 /// A request of each kind, 1 to 5; `turn` keeps the fixed ones apart.
@@ -83,7 +85,7 @@ pub fn request(kind: usize, fixed: bool, turn: usize) -> Request {
         3 => Need::Input { controller: CONTROLLER, trigger: 1, sharing: 0, input: choice(fixed, FIXED_IRQ + n) },
         4 => Need::Host { irq: choice(fixed, FIXED_IRQ + n) },
         _ => {
-            let [device, event, lpi] = [choice(fixed, id); 3];
+            let [device, event, lpi] = [id, id, FIRST_LPI + id].map(|id| choice(fixed, id));
             Need::Msi { controller: CONTROLLER, its: ITS, count: 4, device, event, lpi }
         }
     };

@@ -18,8 +18,8 @@
  * The state
  * ---------
  * It is your memory: PLANNER_STATE_SIZE bytes, aligned to 8, lent to every call. planner_begin makes a fresh one; bytes that were kept
- * elsewhere, or any others, may stand in it too: each call judges them, and refuses with 1 what is not sound. Its last five numbers are
- * the last answer, written by every call but those that read.
+ * elsewhere, or any others, may stand in it too: each call judges them, and refuses with 1 what is not sound, a row of LPIs below
+ * PLANNER_FIRST_LPI among it. Its last five numbers are the last answer, written by every call but those that read.
  * It holds 28 tables, one of each part and kind. Parts: 1 automatic pools, 2 fixed pools (PLANNER_POOL_ROWS rows a table), 3 reservations,
  * 4 owners (PLANNER_ROWS rows a table). Kinds: 1 MMIO, 2 PIO, 3 input, 4 host IRQ, 5 device, 6 event, 7 LPI. A row more than a table has
  * is refused with 9.
@@ -29,9 +29,10 @@
  * Numbers
  * -------
  * Ranges are half-open. MMIO, inputs and host IRQs are 64-bit, PIO 16-bit; owner, requester, slot, controller, ITS, device, event, LPI,
- * counts and codes 32-bit. The largest number of a width is never granted. Owner and requester are not 0, nor is a size or a count; an
- * alignment has exactly one bit set. Trigger is a code 0 to 3, sharing 0 (exclusive) or 1 (shared): an input that has owners is granted only
- * where it is asked for by its number, and the owners and the request are all shared, with one trigger.
+ * counts and codes 32-bit. The largest number of a width is never granted. LPIs begin at PLANNER_FIRST_LPI: no range of them, pooled or
+ * reserved, starts below it. Owner and requester are not 0, nor is a size or a count; an alignment has exactly one bit set. Trigger is a
+ * code 0 to 3, sharing 0 (exclusive) or 1 (shared): an input that has owners is granted only where it is asked for by its number, and the
+ * owners and the request are all shared, with one trigger.
  *
  * A request is twelve numbers: kind, requester, slot, three of its kind, and three choices of two numbers each, a code and a number. Its
  * record is nine: kind, requester, slot, and what was granted. What a kind does not use is not looked at in a request and 0 in a record.
@@ -59,13 +60,15 @@
  *      7 exhausted: nothing in `namespace` fits            8 conflict: `owner` is in the way in `namespace`, as `detail` says
  *      9 full: a table needs a row and has none            10 bad line: a line that cannot be read, or a text over PLANNER_TEXT bytes
  *     11 short: a list is too short, or a plan longer than PLANNER_MOST requests, or a pinned text longer than its buffer or than PLANNER_TEXT bytes
- * Where more than one applies the order is 1, 11, 2, 3, 4, then 5, 6 or 7, then 8, then 9; a text's own refusal comes before the 11 of its pinned text.
+ *     12 bad LPI: a pool or a reservation whose range of LPIs starts below PLANNER_FIRST_LPI; a request for such an LPI is 6
+ * Where more than one applies the order is 1, 11, 2, 3, 4, 12, then 5, 6 or 7, then 8, then 9, of an MSI pool each tried on all three of its ranges; a
+ * text's own refusal comes before the 11 of its pinned text.
  * Namespaces: 1 MMIO, 2 PIO, 3 input of a controller, 4 host IRQ, 5 an ITS of a controller (device, event), 6 LPI of a controller.
  * Details: 1 address ranges overlap, 2 trigger differs, 3 not shareable, 4 host IRQ taken, 5 device taken, 6 events overlap, 7 LPIs overlap.
  *
- * A refused call changes no table (of an MSI pool the ranges before the refused one stay), and no number of a list: a record is not
- * written; of a plan the records before the refused request stand in front of the results, with 1 or 11 none, and the rest is as it was;
- * of a pinned text no byte is written.
+ * A refused call changes no table (an MSI pool adds its three ranges or none), and no number of a list: a record is not written; of a
+ * plan the records before the refused request stand in front of the results, with 1 or 11 none, and the rest is as it was; of a pinned
+ * text no byte is written.
  *
  * Lists and pointers
  * ------------------
@@ -87,14 +90,15 @@
 extern "C" {
 #endif
 
-#define PLANNER_POOL_ROWS 32u /* rows of a pool table */
-#define PLANNER_ROWS 128u     /* rows of a reservation table, and of an owner table */
-#define PLANNER_MOST 128u     /* requests of a plan */
-#define PLANNER_REQUEST 12u   /* numbers of a request */
-#define PLANNER_RECORD 9u     /* numbers of a record */
-#define PLANNER_ANSWER 5u     /* numbers of an answer */
-#define PLANNER_ROW 9u        /* numbers of a row: the table's count, controller, ITS, device, start, end, trigger, sharing, owner */
-#define PLANNER_TEXT 32768u   /* bytes of a text, read or pinned */
+#define PLANNER_POOL_ROWS 32u   /* rows of a pool table */
+#define PLANNER_ROWS 128u       /* rows of a reservation table, and of an owner table */
+#define PLANNER_MOST 128u       /* requests of a plan */
+#define PLANNER_REQUEST 12u     /* numbers of a request */
+#define PLANNER_RECORD 9u       /* numbers of a record */
+#define PLANNER_ANSWER 5u       /* numbers of an answer */
+#define PLANNER_ROW 9u          /* numbers of a row: the table's count, controller, ITS, device, start, end, trigger, sharing, owner */
+#define PLANNER_TEXT 32768u     /* bytes of a text, read or pinned */
+#define PLANNER_FIRST_LPI 8192u /* the least LPI: the Arm GICv3 architecture has none below it */
 
 /* The words of a state: twice seven pool tables, twice seven tables of rows that are held (one of inputs among them), the last answer. Each table is
  * its count and its columns; two 32-bit numbers share a word. */
@@ -300,7 +304,7 @@ static inline uint64_t planner_pool_host(uint64_t *state, uint64_t use, uint64_t
     const uint64_t x[5] = {1, use, 4, start, end};
     return planner_do(state, x, 5);
 }
-/* Devices, events and LPIs of one ITS: three ranges in turn. What was added before a refused one stays. */
+/* Devices, events and LPIs of one ITS: all three ranges or none. Any empty one is 4, then LPIs below PLANNER_FIRST_LPI are 12, then a row that is lacking is 9. */
 static inline uint64_t planner_pool_msi(uint64_t *state, uint64_t use, uint32_t controller, uint32_t its, uint32_t device_start, uint32_t device_end,
                                         uint32_t event_start, uint32_t event_end, uint32_t lpi_start, uint32_t lpi_end) {
     const uint64_t x[11] = {1, use, 5, controller, its, device_start, device_end, event_start, event_end, lpi_start, lpi_end};

@@ -1,4 +1,6 @@
-// What 01 and its rulings add around the original's answers, and nothing else. Every other answer is the original's.
+// What 01, 02 and their rulings add around the original's answers, and nothing else. Every other answer is the original's.
+
+use std::ops::Range;
 
 use crate::calls::{no, rows_of_add, Add, Choice, Hold, Kind, Need, Place, Refusal, Request, Row, Tables};
 use crate::resources::bare::Bare;
@@ -12,6 +14,8 @@ pub const HELD_ROWS: usize = 128;
 pub const PLAN_REQUESTS: usize = 128;
 /// Numbers of a record.
 pub const RECORD: usize = 9;
+/// The least LPI: a range of them starts here or above.
+pub const FIRST_LPI: u32 = 8192;
 /// Host IRQ numbers that the original may try one by one before we help it over the held ones.
 pub const CRAWL: u64 = 1 << 16;
 
@@ -63,20 +67,38 @@ pub fn pair_no_range(add: &Add) -> Option<Refusal> {
     refuse(none, no::EMPTY_RANGE)
 }
 
-/// 9 for a call that adds: the turn (from 0) whose table has more rows now than 01's size, if any. The original's
-/// tables grow without end, so it has added the row; the judge takes it back.
-pub fn overfull(bare: &Bare, add: &Add) -> Option<usize> {
-    let rows = rows_of_add(add);
-    rows.iter().position(|(place, kind, _)| bare.rows(*place, *kind).len() > size(*place))
+/// 12, directly after 4: the original knows no least LPI. Of a domain any empty range comes first, of a reservation its
+/// owner too.
+pub fn bad_lpi(add: &Add) -> Option<Refusal> {
+    let low = |lpis: &Range<u32>| !lpis.is_empty() && lpis.start < FIRST_LPI;
+    let bad = match add {
+        Add::Domain { lpis, .. } => low(lpis) && empty_turn(add).is_none(),
+        Add::Hold { owner, what: Hold::Lpi { lpis, .. } } => *owner != 0 && low(lpis),
+        _ => false,
+    };
+    refuse(bad, no::BAD_LPI)
 }
 
-/// The part of a call that stays when the given turn finds its table full: of an MSI domain the turns before it, of
-/// any other call nothing. The original stops at an empty range and keeps what it added before.
-pub fn turns_before(add: &Add, turn: usize) -> Option<Add> {
-    let mut part = add.clone();
-    let Add::Domain { devices, events, lpis, .. } = &mut part else { return None };
-    *[devices, events, lpis][turn] = 0..0;
-    Some(part)
+/// The first empty range of a pool or an MSI domain, from 0.
+pub fn empty_turn(add: &Add) -> Option<usize> {
+    match add {
+        Add::Pool { .. } | Add::Domain { .. } => rows_of_add(add).iter().position(|(_, _, row)| row.start >= row.end),
+        Add::Hold { .. } | Add::Pair { .. } => None,
+    }
+}
+
+/// 9 for a call that the original accepted: a table that it speaks of has more rows now than 01's size. The original's
+/// tables grow without end, so it has added the row; the judge takes it back.
+pub fn overfull(bare: &Bare, add: &Add) -> bool {
+    rows_of_add(add).iter().any(|(place, kind, _)| bare.rows(*place, *kind).len() > size(*place))
+}
+
+/// Whether a pool table that needs a row for the call has none; an exact duplicate needs none.
+pub fn lacks_pool_row(tables: &Tables, add: &Add) -> bool {
+    rows_of_add(add).iter().any(|(place, kind, row)| {
+        let table = tables.of(*place, *kind);
+        matches!(place, Place::Auto | Place::Fixed) && table.len() >= size(*place) && !table.contains(row)
+    })
 }
 
 /// 9 for a request: an owner table that it needs has no free row. It comes last, so the original is asked first.

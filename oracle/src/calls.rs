@@ -202,6 +202,7 @@ pub mod no {
     pub const FULL: u32 = 9;
     pub const BAD_LINE: u32 = 10;
     pub const SHORT: u32 = 11;
+    pub const BAD_LPI: u32 = 12;
 }
 
 /// A refusal as 01 numbers it; what it does not name is 0.

@@ -1,4 +1,4 @@
-// Where the original differs from 01 or has no answer: each place a predicate on the input alone. See docs/DIFFERENCES.md.
+// Where the original differs from 01 and 02 or has no answer: each place a predicate on the input alone. See docs/DIFFERENCES.md.
 
 use crate::added::{self, size, unknown_sharing, unknown_trigger, PLAN_REQUESTS, RECORD};
 use crate::calls::{rows_of_add, Add, Call, Choice, Hold, Kind, Need, Place, Request, Tables};
@@ -9,7 +9,7 @@ pub struct Departure {
     pub holds: fn(&Tables, &Call) -> bool,
 }
 
-pub const ALL: [Departure; 13] = [
+pub const ALL: [Departure; 15] = [
     Departure { name: "alignment_zero_auto", holds: alignment_zero_auto },
     Departure { name: "alignment_zero_fixed", holds: alignment_zero_fixed },
     Departure { name: "alignment_bits", holds: alignment_bits },
@@ -18,6 +18,8 @@ pub const ALL: [Departure; 13] = [
     Departure { name: "requester_zero", holds: requester_zero },
     Departure { name: "code_unknown", holds: code_unknown },
     Departure { name: "pair_no_range", holds: pair_no_range },
+    Departure { name: "lpi_low", holds: lpi_low },
+    Departure { name: "domain_whole", holds: domain_whole },
     Departure { name: "pool_table_full", holds: pool_table_full },
     Departure { name: "held_table_full", holds: held_table_full },
     Departure { name: "owners_unsound", holds: owners_unsound },
@@ -91,19 +93,32 @@ fn pair_no_range(_: &Tables, call: &Call) -> bool {
     matches!(call, Call::Add(Add::Pair { host: u64::MAX, .. }))
 }
 
+/// An MSI domain or a reservation with an LPI range that starts too low, and nothing that is refused before that.
+fn lpi_low(_: &Tables, call: &Call) -> bool {
+    matches!(call, Call::Add(add) if added::bad_lpi(add).is_some())
+}
+
+/// An MSI domain with an empty range, and a range before it that adds a row in the original: the answer is 4 in both.
+fn domain_whole(tables: &Tables, call: &Call) -> bool {
+    let Call::Add(add @ Add::Domain { .. }) = call else { return false };
+    let before = added::empty_turn(add).unwrap_or(0);
+    rows_of_add(add)[..before].iter().any(|(place, kind, row)| !tables.of(*place, *kind).contains(row))
+}
+
+/// A pool range or an MSI domain that is refused with nothing before 9.
 fn pool_table_full(tables: &Tables, call: &Call) -> bool {
-    full_for_add(tables, call, &[Place::Auto, Place::Fixed])
+    let Call::Add(add) = call else { return false };
+    added::lacks_pool_row(tables, add) && added::empty_turn(add).is_none() && added::bad_lpi(add).is_none()
 }
 
 fn held_table_full(tables: &Tables, call: &Call) -> bool {
-    full_for_add(tables, call, &[Place::Held]) || full_for_requests(tables, call)
+    full_for_hold(tables, call) || full_for_requests(tables, call)
 }
 
-fn full_for_add(tables: &Tables, call: &Call, places: &[Place]) -> bool {
+fn full_for_hold(tables: &Tables, call: &Call) -> bool {
     let Call::Add(add) = call else { return false };
-    rows_of_add(add)
-        .iter()
-        .any(|(place, kind, _)| places.contains(place) && tables.of(*place, *kind).len() >= size(*place))
+    let full = |place: Place, kind: Kind| place == Place::Held && tables.of(place, kind).len() >= size(place);
+    rows_of_add(add).iter().any(|(place, kind, _)| full(*place, *kind))
 }
 
 /// The rows there and one for each request of the kind are more than the table has.

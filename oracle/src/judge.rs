@@ -1,4 +1,4 @@
-// The judge: the original's answers in 01's numbers, with 01's additions in 01's order, and all tables after each call.
+// The judge: the original's answers in 01's numbers, with 01's and 02's additions in their order, and all tables after each call.
 
 use crate::added;
 use crate::calls::{
@@ -30,20 +30,20 @@ impl Judge {
         &self.bare
     }
 
-    /// Adds a pool range, an MSI domain, a reservation or the pair.
+    /// Adds a pool range, an MSI domain, a reservation or the pair: all of it or nothing. The original stops at an empty
+    /// range of a domain and keeps what it added before, which is taken back.
     pub fn add(&mut self, add: &Add) -> Answer {
-        let refused = added::bad_add(add).or_else(|| added::pair_no_range(add));
+        let refused = added::bad_add(add).or_else(|| added::pair_no_range(add)).or_else(|| added::bad_lpi(add));
         if let Some(refusal) = refused {
             return Answer::Refused(refusal);
         }
         let before = self.bare.copy();
         let mut answer = self.bare.add(add);
-        if let Some(turn) = added::overfull(&self.bare, add) {
-            self.bare = before;
-            if let Some(part) = added::turns_before(add, turn) {
-                self.bare.add(&part);
-            }
+        if !answer.is_refused() && added::overfull(&self.bare, add) {
             answer = Answer::plain(no::FULL);
+        }
+        if answer.is_refused() {
+            self.bare = before;
         }
         self.follow(add);
         answer

@@ -16,6 +16,7 @@ pub mod calls;
 pub mod cases;
 pub mod compare;
 pub mod departures;
+pub mod foreseen;
 pub mod gen;
 pub mod judge;
 #[cfg(feature = "ours")]

@@ -1,7 +1,7 @@
 // The plan-reading program of 01: bytes in, the whole output out. The line rules are 01's and the rulings', read anew.
 
 use crate::added::PLAN_REQUESTS;
-use crate::calls::{no, Add, Answer, Call, Choice, Hold, Need, PoolRange, Record, Refusal, Request, Tables};
+use crate::calls::{no, Add, Answer, Call, Choice, Hold, Need, PoolRange, Record, Refusal, Request};
 use crate::judge::Judge;
 
 /// Bytes of a text at most.
@@ -37,8 +37,8 @@ pub fn run(text: &[u8]) -> Result<Vec<u8>, Stopped> {
     run_seen(text, &mut |_, _| {}).map(|ran| ran.output())
 }
 
-/// What a text comes to; each call that a line comes to is shown beforehand, with the tables that it meets.
-pub fn run_seen(text: &[u8], see: &mut dyn FnMut(&Tables, &Call)) -> Result<Ran, Stopped> {
+/// What a text comes to; each call that a line comes to is shown beforehand, with the judge that will answer it.
+pub fn run_seen(text: &[u8], see: &mut dyn FnMut(&Judge, &Call)) -> Result<Ran, Stopped> {
     if text.len() > TEXT {
         return Ok(Ran::Refused { line: 0, refusal: Refusal::plain(no::BAD_LINE) });
     }
@@ -90,7 +90,7 @@ impl Reader {
         self.step_seen(line, &mut |_, _| {})
     }
 
-    fn step_seen(&mut self, line: &[u8], see: &mut dyn FnMut(&Tables, &Call)) -> Answer {
+    fn step_seen(&mut self, line: &[u8], see: &mut dyn FnMut(&Judge, &Call)) -> Answer {
         let call = match read_line(line) {
             Some(Line::Add(add)) if !self.wanting => Call::Add(add),
             Some(Line::Want(_)) if self.granted.len() == PLAN_REQUESTS => return Answer::plain(no::SHORT),
@@ -101,7 +101,7 @@ impl Reader {
             self.judge.start();
             self.wanting = true;
         }
-        see(self.judge.tables(), &call);
+        see(&self.judge, &call);
         let answer = self.judge.call(&call).answer;
         if let Answer::Granted(record) = answer {
             self.granted.push(record);

@@ -1,8 +1,15 @@
 // What a text cannot say: plans, starts, mixed MSI choices, the pair call, and the tables after each call.
 
-use oracle::added::{HELD_ROWS, PLAN_REQUESTS, POOL_ROWS};
-use oracle::calls::{no, wired, Add, Answer, Choice, Hold, Kind, Need, Place, PoolRange, Refusal, Request, Row};
+use std::ops::Range;
+
+use oracle::added::{FIRST_LPI, HELD_ROWS, PLAN_REQUESTS, POOL_ROWS};
+use oracle::calls::{
+    no, wired, Add, Answer, Choice, Hold, Kind, Need, Place, PoolRange, Refusal, Request, Row, Tables,
+};
 use oracle::judge::Judge;
+
+/// An empty range of another sort, too low where it is of LPIs.
+const TURNED: Range<u32> = Range { start: 9, end: 5 };
 
 fn host(requester: u32, irq: Choice<u64>) -> Request {
     Request { requester, slot: 0, need: Need::Host { irq } }
@@ -20,7 +27,7 @@ fn row(start: u64, end: u64, owner: u32) -> Row {
     Row { start, end, owner, ..Row::default() }
 }
 
-fn domain(fixed: bool, devices: std::ops::Range<u32>, events: std::ops::Range<u32>, lpis: std::ops::Range<u32>) -> Add {
+fn domain(fixed: bool, devices: Range<u32>, events: Range<u32>, lpis: Range<u32>) -> Add {
     Add::Domain { fixed, controller: 1, its: 2, devices, events, lpis }
 }
 
@@ -143,58 +150,117 @@ fn msi_choices_stand_on_their_own() {
     use Choice::{Auto, Fixed};
     let numbers = |device: Choice<u32>, event: Choice<u32>, lpi: Choice<u32>| {
         let mut judge = Judge::fresh();
-        accept(&mut judge, &domain(false, 10..12, 20..24, 30..34));
-        accept(&mut judge, &domain(true, 110..112, 120..124, 130..134));
+        accept(&mut judge, &domain(false, 10..12, 20..24, 9030..9034));
+        accept(&mut judge, &domain(true, 110..112, 120..124, 9130..9134));
         judge.request(&msi(device, event, lpi))
     };
     let granted = |device, event, lpi| Answer::Granted([5, 5, 0, 1, 2, device, event, lpi, 2]);
-    assert_eq!(numbers(Auto, Auto, Auto), granted(10, 20, 30));
-    assert_eq!(numbers(Fixed(111), Auto, Auto), granted(111, 20, 30));
-    assert_eq!(numbers(Auto, Fixed(121), Auto), granted(10, 121, 30));
-    assert_eq!(numbers(Auto, Auto, Fixed(132)), granted(10, 20, 132));
-    assert_eq!(numbers(Fixed(110), Fixed(120), Auto), granted(110, 120, 30));
-    assert_eq!(numbers(Fixed(110), Auto, Fixed(130)), granted(110, 20, 130));
-    assert_eq!(numbers(Auto, Fixed(120), Fixed(130)), granted(10, 120, 130));
-    assert_eq!(numbers(Fixed(110), Fixed(122), Fixed(132)), granted(110, 122, 132));
+    assert_eq!(numbers(Auto, Auto, Auto), granted(10, 20, 9030));
+    assert_eq!(numbers(Fixed(111), Auto, Auto), granted(111, 20, 9030));
+    assert_eq!(numbers(Auto, Fixed(121), Auto), granted(10, 121, 9030));
+    assert_eq!(numbers(Auto, Auto, Fixed(9132)), granted(10, 20, 9132));
+    assert_eq!(numbers(Fixed(110), Fixed(120), Auto), granted(110, 120, 9030));
+    assert_eq!(numbers(Fixed(110), Auto, Fixed(9130)), granted(110, 20, 9130));
+    assert_eq!(numbers(Auto, Fixed(120), Fixed(9130)), granted(10, 120, 9130));
+    assert_eq!(numbers(Fixed(110), Fixed(122), Fixed(9132)), granted(110, 122, 9132));
     let refused = |namespace| Answer::Refused(Refusal { namespace, ..Refusal::plain(no::FIXED_NOT_ALLOWED) });
     assert_eq!(numbers(Fixed(10), Auto, Auto), refused(5));
     assert_eq!(numbers(Auto, Fixed(123), Auto), refused(5));
-    assert_eq!(numbers(Auto, Auto, Fixed(30)), refused(6));
+    assert_eq!(numbers(Auto, Auto, Fixed(9030)), refused(6));
+    // no request gets 12: a low LPI lies in no pool
+    assert_eq!(numbers(Auto, Auto, Fixed(FIRST_LPI - 1)), refused(6));
+    assert_eq!(numbers(Auto, Auto, Fixed(0)), refused(6));
 }
 
 #[test]
 fn an_msi_grant_adds_three_rows() {
     let mut judge = Judge::fresh();
-    accept(&mut judge, &domain(false, 10..12, 20..24, 30..34));
+    accept(&mut judge, &domain(false, 10..12, 20..24, 9030..9034));
     judge.request(&msi(Choice::Auto, Choice::Auto, Choice::Auto));
     let tables = judge.tables();
     assert_eq!(tables.of(Place::Owner, Kind::Device), &[Row { domain: [1, 2, 0], ..row(10, 11, 5) }]);
     assert_eq!(tables.of(Place::Owner, Kind::Event), &[Row { domain: [1, 2, 10], ..row(20, 22, 5) }]);
-    assert_eq!(tables.of(Place::Owner, Kind::Lpi), &[Row { domain: [1, 0, 0], ..row(30, 32, 5) }]);
+    assert_eq!(tables.of(Place::Owner, Kind::Lpi), &[Row { domain: [1, 0, 0], ..row(9030, 9032, 5) }]);
 }
 
-/// Rows added before a refused range of a domain stay, whether it is refused with 4 or 9.
+/// The rows of the three automatic tables of a domain.
+fn rows(tables: &Tables) -> [Vec<(u64, u64)>; 3] {
+    [Kind::Device, Kind::Event, Kind::Lpi]
+        .map(|kind| tables.of(Place::Auto, kind).iter().map(|row| (row.start, row.end)).collect())
+}
+
+/// A refused domain leaves every table as it was: 4 at any of its ranges, then 12, then 9 of any of its tables.
 #[test]
-fn a_refused_msi_domain_keeps_the_rows_before() {
+fn a_refused_msi_domain_leaves_nothing() {
+    let (good, lpis) = (0..1, FIRST_LPI..FIRST_LPI + 1);
+    let low = FIRST_LPI - 1..FIRST_LPI + 1;
     let mut judge = Judge::fresh();
-    let lengths =
-        |judge: &Judge| [Kind::Device, Kind::Event, Kind::Lpi].map(|kind| judge.tables().of(Place::Auto, kind).len());
-    assert_eq!(judge.add(&domain(false, 1..1, 0..1, 0..1)), Answer::plain(no::EMPTY_RANGE));
-    assert_eq!(lengths(&judge), [0, 0, 0]);
-    assert_eq!(judge.add(&domain(false, 0..1, 1..1, 0..1)), Answer::plain(no::EMPTY_RANGE));
-    assert_eq!(lengths(&judge), [1, 0, 0]);
-    assert_eq!(judge.add(&domain(false, 0..1, 0..1, 1..1)), Answer::plain(no::EMPTY_RANGE));
-    assert_eq!(lengths(&judge), [1, 1, 0]);
-    for i in 1..POOL_ROWS as u32 {
-        accept(&mut judge, &domain(false, 0..1, i..i + 1, 0..1));
+    for (devices, events, lpis, number) in [
+        (1..1, good.clone(), lpis.clone(), no::EMPTY_RANGE),
+        (good.clone(), 1..1, lpis.clone(), no::EMPTY_RANGE),
+        (good.clone(), good.clone(), 5..5, no::EMPTY_RANGE),
+        (good.clone(), good.clone(), TURNED, no::EMPTY_RANGE),
+        (good.clone(), TURNED, low.clone(), no::EMPTY_RANGE),
+        (good.clone(), good.clone(), low.clone(), no::BAD_LPI),
+        (good.clone(), good.clone(), 0..1, no::BAD_LPI),
+    ] {
+        assert_eq!(judge.add(&domain(false, devices, events, lpis)), Answer::plain(number));
+        assert_eq!(judge.tables(), &Tables::default());
     }
-    assert_eq!(lengths(&judge), [1, POOL_ROWS, 1]);
-    assert_eq!(judge.add(&domain(false, 5..6, 99..100, 9..9)), Answer::plain(no::FULL));
-    assert_eq!(lengths(&judge), [2, POOL_ROWS, 1]);
-    assert_eq!(judge.add(&domain(false, 6..7, 7..8, 9..9)), Answer::plain(no::EMPTY_RANGE));
-    assert_eq!(lengths(&judge), [3, POOL_ROWS, 1]);
-    accept(&mut judge, &domain(false, 7..8, 7..8, 9..10));
-    assert_eq!(lengths(&judge), [4, POOL_ROWS, 2]);
+    // the event table is full
+    for i in 0..POOL_ROWS as u32 {
+        accept(&mut judge, &domain(false, good.clone(), i..i + 1, lpis.clone()));
+    }
+    let before = judge.tables().clone();
+    for (devices, events, lpis, number) in [
+        (5..6, 99..100, 9..9, no::EMPTY_RANGE),
+        (6..6, 99..100, lpis.clone(), no::EMPTY_RANGE),
+        (5..6, 99..100, low, no::BAD_LPI),
+        (5..6, 99..100, lpis.clone(), no::FULL),
+        (good.clone(), 99..100, 9000..9001, no::FULL),
+    ] {
+        assert_eq!(judge.add(&domain(false, devices, events, lpis)), Answer::plain(number));
+        assert_eq!(judge.tables(), &before);
+    }
+    // a duplicate needs no row, and the other use has tables of its own
+    accept(&mut judge, &domain(false, 7..8, 7..8, 9000..9001));
+    assert_eq!(rows(judge.tables()).map(|rows| rows.len()), [2, POOL_ROWS, 2]);
+    accept(&mut judge, &domain(true, 7..8, 99..100, 9000..9001));
+}
+
+/// An accepted domain leaves the rows that it always left.
+#[test]
+fn an_accepted_msi_domain_adds_its_three_rows() {
+    let mut judge = Judge::fresh();
+    accept(&mut judge, &domain(false, 5..6, 3..4, 8193..8195));
+    accept(&mut judge, &domain(false, 1..2, 3..4, FIRST_LPI..8200));
+    assert_eq!(rows(judge.tables()), [vec![(1, 2), (5, 6)], vec![(3, 4)], vec![(8192, 8200), (8193, 8195)]]);
+}
+
+/// 3, 4, 12, 5, 9 for a reservation of LPIs.
+#[test]
+fn a_reservation_of_low_lpis() {
+    let mut judge = Judge::fresh();
+    let hold = |owner, lpis: Range<u32>| Add::Hold { owner, what: Hold::Lpi { controller: 1, lpis } };
+    assert_eq!(judge.add(&hold(0, 5..5)), Answer::plain(no::BAD_OWNER));
+    assert_eq!(judge.add(&hold(0, 5..6)), Answer::plain(no::BAD_OWNER));
+    assert_eq!(judge.add(&hold(1, 5..5)), Answer::plain(no::EMPTY_RANGE));
+    assert_eq!(judge.add(&hold(1, TURNED)), Answer::plain(no::EMPTY_RANGE));
+    for low in [0..1, FIRST_LPI - 1..FIRST_LPI, FIRST_LPI - 1..FIRST_LPI + 1, 0..u32::MAX] {
+        assert_eq!(judge.add(&hold(1, low)), Answer::plain(no::BAD_LPI));
+    }
+    assert_eq!(judge.tables(), &Tables::default());
+    for i in 0..HELD_ROWS as u32 {
+        accept(&mut judge, &hold(7, FIRST_LPI + i..FIRST_LPI + i + 1));
+    }
+    let before = judge.tables().clone();
+    // before Reserved, and before Full
+    assert_eq!(judge.add(&hold(1, FIRST_LPI - 1..FIRST_LPI + 1)), Answer::plain(no::BAD_LPI));
+    assert_eq!(judge.add(&hold(1, 5..6)), Answer::plain(no::BAD_LPI));
+    let reserved = Refusal { owner: 7, ..Refusal::plain(no::RESERVED) };
+    assert_eq!(judge.add(&hold(1, FIRST_LPI..FIRST_LPI + 1)), Answer::Refused(reserved));
+    assert_eq!(judge.add(&hold(1, 9000..9001)), Answer::plain(no::FULL));
+    assert_eq!(judge.tables(), &before);
 }
 
 /// A pool row goes before the first row of its own domain with a greater start, else to the end of the whole table.

@@ -63,7 +63,7 @@ fn the_stored_files_are_these_cases() {
     }
 }
 
-/// Every refusal that a text can give is among the cases: 2 to 11 with each namespace and detail.
+/// Every refusal that a text can give is among the cases: 2 to 12 with each namespace and detail.
 #[test]
 fn every_refusal_of_a_text_is_there() {
     let mut seen = BTreeSet::new();
@@ -74,7 +74,7 @@ fn every_refusal_of_a_text_is_there() {
             seen.insert(format!("{} {} {}", words[2], words[3], words[5]));
         }
     }
-    let mut all: Vec<String> = [2, 3, 4, 5, 9, 10, 11].iter().map(|number| format!("{number} 0 0")).collect();
+    let mut all: Vec<String> = [2, 3, 4, 5, 9, 10, 11, 12].iter().map(|number| format!("{number} 0 0")).collect();
     for namespace in 1..=6 {
         all.extend([format!("6 {namespace} 0"), format!("7 {namespace} 0")]);
     }

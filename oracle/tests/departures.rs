@@ -1,10 +1,15 @@
-// Each place where the original differs from 01, at its smallest input: what it does bare, and what 01 says.
+// Each place where the original differs from 01 and 02, at its smallest input: what it does bare, and what they say.
 
 use std::collections::BTreeMap;
 
-use oracle::added::{HELD_ROWS, POOL_ROWS};
-use oracle::calls::{no, Add, Answer, Call, Choice, Hold, Kind, Need, Place, PoolRange, Refusal, Request};
+use std::ops::Range;
+
+use oracle::added::{FIRST_LPI, HELD_ROWS, POOL_ROWS};
+use oracle::calls::{
+    by_domain, no, rows_of_add, Add, Answer, Call, Choice, Hold, Kind, Need, Place, PoolRange, Refusal, Request,
+};
 use oracle::departures;
+use oracle::foreseen;
 use oracle::gen;
 use oracle::judge::Judge;
 use oracle::resources::bare::Bare;
@@ -96,11 +101,16 @@ fn size_zero() {
 #[test]
 fn count_zero() {
     let need = |choice| Need::Msi { controller: 0, its: 0, count: 0, device: choice, event: choice, lpi: choice };
-    let domain = |fixed| Add::Domain { fixed, controller: 0, its: 0, devices: 0..1, events: 0..1, lpis: 0..1 };
-    let granted = Answer::Granted([5, 1, 0, 0, 0, 0, 0, 0, 0]);
+    let first = FIRST_LPI..FIRST_LPI + 1;
+    let domain = |fixed| Add::Domain { fixed, controller: 0, its: 0, devices: 0..1, events: 0..1, lpis: first.clone() };
+    let granted = Answer::Granted([5, 1, 0, 0, 0, 0, 0, FIRST_LPI.into(), 0]);
     assert_eq!(both(&[], &want(1, need(Choice::Auto))), (exhausted(5), BAD_INPUT));
     assert_eq!(both(&[domain(false)], &want(1, need(Choice::Auto))), (granted.clone(), BAD_INPUT));
-    assert_eq!(both(&[domain(true)], &want(1, need(Choice::Fixed(0)))), (granted, BAD_INPUT));
+    let mut fixed = need(Choice::Fixed(0));
+    if let Need::Msi { lpi, .. } = &mut fixed {
+        *lpi = Choice::Fixed(FIRST_LPI);
+    }
+    assert_eq!(both(&[domain(true)], &want(1, fixed)), (granted, BAD_INPUT));
 }
 
 #[test]
@@ -141,6 +151,89 @@ fn pair_no_range() {
     assert_eq!(judge.add(&pair), Answer::plain(no::EMPTY_RANGE));
 }
 
+fn domain(devices: Range<u32>, events: Range<u32>, lpis: Range<u32>) -> Add {
+    Add::Domain { fixed: false, controller: 0, its: 0, devices, events, lpis }
+}
+
+fn msi() -> Request {
+    let (device, event, lpi) = (Choice::Auto, Choice::Auto, Choice::Auto);
+    want(1, Need::Msi { controller: 0, its: 0, count: 1, device, event, lpi })
+}
+
+/// A call that adds under the names alone: the bare original's answer, which is foreseen with its rows, and the judge's,
+/// which leaves every table as it was.
+fn departs(judge: &mut Judge, bare: &mut Bare, add: &Add, names: &[&str]) -> (Answer, Answer) {
+    let before = judge.tables().clone();
+    assert_eq!(departures::of(&before, &Call::Add(add.clone())), names);
+    assert_eq!(foreseen::surprise(judge, add), None);
+    let answers = (bare.add(add), judge.add(add));
+    assert_eq!(judge.tables(), &before);
+    answers
+}
+
+/// How many rows each table of a domain has in the original.
+fn lengths(bare: &Bare) -> [usize; 3] {
+    [Kind::Device, Kind::Event, Kind::Lpi].map(|kind| bare.rows(Place::Auto, kind).len())
+}
+
+#[test]
+fn lpi_low() {
+    let bad_lpi = Answer::plain(no::BAD_LPI);
+    let (mut bare, mut judge) = (Bare::new(), Judge::fresh());
+    let answers = departs(&mut judge, &mut bare, &domain(0..1, 0..1, 0..1), &["lpi_low"]);
+    assert_eq!(answers, (Answer::Accepted, bad_lpi.clone()));
+    assert_eq!(lengths(&bare), [1, 1, 1]);
+    // the till's interrupt that never fired
+    bare.start();
+    assert_eq!(bare.request(&msi()), Answer::Granted([5, 1, 0, 0, 0, 0, 0, 0, 1]));
+    assert_eq!(judge.request(&msi()), exhausted(5));
+    let (mut bare, mut judge) = (Bare::new(), Judge::fresh());
+    let hold = |owner, lpis| Add::Hold { owner, what: Hold::Lpi { controller: 0, lpis } };
+    let answers = departs(&mut judge, &mut bare, &hold(1, 0..1), &["lpi_low"]);
+    assert_eq!(answers, (Answer::Accepted, bad_lpi.clone()));
+    // before Reserved
+    let (mut bare, mut judge) = (Bare::new(), Judge::fresh());
+    let held = hold(7, FIRST_LPI..FIRST_LPI + 2);
+    assert_eq!((bare.add(&held), judge.add(&held)), (Answer::Accepted, Answer::Accepted));
+    let answers = departs(&mut judge, &mut bare, &hold(1, FIRST_LPI - 1..FIRST_LPI + 1), &["lpi_low"]);
+    let reserved = Refusal { owner: 7, ..Refusal::plain(no::RESERVED) };
+    assert_eq!(answers, (Answer::Refused(reserved), bad_lpi));
+    // the start decides, and what is refused before it
+    let turned = Range { start: 9, end: 5 };
+    for add in [hold(1, 9000..9001), hold(0, 0..1), hold(1, 5..5), hold(1, turned)] {
+        assert!(departures::of(judge.tables(), &Call::Add(add)).is_empty());
+    }
+}
+
+#[test]
+fn domain_whole() {
+    let empty = Answer::plain(no::EMPTY_RANGE);
+    let (mut bare, mut judge) = (Bare::new(), Judge::fresh());
+    let first = FIRST_LPI..FIRST_LPI + 1;
+    let answers = departs(&mut judge, &mut bare, &domain(0..1, 0..0, first.clone()), &["domain_whole"]);
+    assert_eq!(answers, (empty.clone(), empty.clone()));
+    assert_eq!(lengths(&bare), [1, 0, 0]);
+    // the row that stayed is seen by a later want
+    let other = domain(5..6, 0..1, first.clone());
+    assert_eq!((bare.add(&other), judge.add(&other)), (Answer::Accepted, Answer::Accepted));
+    bare.start();
+    judge.start();
+    let granted = |device| Answer::Granted([5, 1, 0, 0, 0, device, 0, FIRST_LPI.into(), 1]);
+    assert_eq!((bare.request(&msi()), judge.request(&msi())), (granted(0), granted(5)));
+    // at the LPIs two rows stay, and a low LPI plays no part
+    let (mut bare, mut judge) = (Bare::new(), Judge::fresh());
+    let answers = departs(&mut judge, &mut bare, &domain(0..1, 0..1, 5..5), &["domain_whole"]);
+    assert_eq!(answers, (empty.clone(), empty.clone()));
+    assert_eq!(lengths(&bare), [1, 1, 0]);
+    // no departure where no row stays: the first range is empty, or those before it are there already
+    let mut judge = Judge::fresh();
+    judge.add(&domain(0..1, 0..1, first.clone()));
+    for add in [domain(1..1, 2..3, first.clone()), domain(0..1, 1..1, first), domain(0..1, 0..1, 5..5)] {
+        assert!(departures::of(judge.tables(), &Call::Add(add.clone())).is_empty());
+        assert_eq!((judge.bare_answer(&Call::Add(add.clone())), judge.add(&add)), (Some(empty.clone()), empty.clone()));
+    }
+}
+
 #[test]
 fn pool_table_full() {
     let (mut bare, mut judge) = (Bare::new(), Judge::fresh());
@@ -153,6 +246,42 @@ fn pool_table_full() {
     assert_eq!(bare.rows(Place::Auto, Kind::Mmio).len(), POOL_ROWS + 1);
     assert_eq!(judge.add(&mmio_pool(false, most, most + 1)), Answer::plain(no::FULL));
     assert_eq!(judge.tables().of(Place::Auto, Kind::Mmio).len(), POOL_ROWS);
+}
+
+/// An MSI domain of which one range needs a row of a full table, each of the three in turn: 9, and the original has all
+/// three rows.
+#[test]
+fn pool_table_full_for_a_domain() {
+    for full in 0..3 {
+        let (mut bare, mut judge) = (Bare::new(), Judge::fresh());
+        let range = |kind: usize, i: u32| {
+            let start = [0, 0, FIRST_LPI][kind] + if kind == full { i } else { 0 };
+            start..start + 1
+        };
+        for i in 0..POOL_ROWS as u32 {
+            let add = domain(range(0, i), range(1, i), range(2, i));
+            assert_eq!((bare.add(&add), judge.add(&add)), (Answer::Accepted, Answer::Accepted));
+        }
+        let mut before = [1; 3];
+        before[full] = POOL_ROWS;
+        assert_eq!(lengths(&bare), before);
+        // a full table, and the two others need a row too
+        let add = domain(900..901, 900..901, 9000..9001);
+        let answers = departs(&mut judge, &mut bare, &add, &["pool_table_full"]);
+        assert_eq!(answers, (Answer::Accepted, Answer::plain(no::FULL)));
+        assert_eq!(lengths(&bare), before.map(|rows| rows + 1));
+        // 4 and 12 come first
+        let add = domain(900..901, 900..901, 1..2);
+        let names = departures::of(judge.tables(), &Call::Add(add.clone()));
+        assert_eq!((names, judge.add(&add)), (vec!["lpi_low"], Answer::plain(no::BAD_LPI)));
+        let add = domain(800..801, 7..7, 9000..9001);
+        let names = departures::of(judge.tables(), &Call::Add(add.clone()));
+        assert_eq!((names, judge.add(&add)), (vec!["domain_whole"], Answer::plain(no::EMPTY_RANGE)));
+        // a duplicate needs no row
+        let add = domain(range(0, 7), range(1, 7), range(2, 7));
+        assert!(departures::of(judge.tables(), &Call::Add(add.clone())).is_empty());
+        assert_eq!(judge.add(&add), Answer::Accepted);
+    }
 }
 
 #[test]
@@ -244,4 +373,40 @@ fn nothing_is_added_elsewhere() {
         .filter(|name| *name != "host_crawl" && !counts.contains_key(name))
         .collect();
     assert!(missing.is_empty(), "{missing:?}");
+}
+
+/// The three names of MSI domains and low LPIs hold just where the judge's answer or its tables are not the original's; and
+/// what the original does with any call that adds is foreseen.
+#[test]
+fn calls_that_add_are_foreseen() {
+    let mut counts: BTreeMap<&str, usize> = BTreeMap::new();
+    for index in 0..gen::runs(4_000) {
+        let mut judge = Judge::fresh();
+        for call in gen::sequence(6, index).into_iter().chain(gen::tight_sequence(6, index)) {
+            let Call::Add(add) = &call else { continue };
+            if !foreseen::can_be_given(add) {
+                continue;
+            }
+            assert_eq!(foreseen::surprise(&judge, add), None, "sequence {index}");
+            let names = departures::of(judge.tables(), &call);
+            let mut bare = judge.bare().copy();
+            let (theirs, ours) = (bare.add(add), judge.add(add));
+            let tables = rows_of_add(add);
+            let rows = tables
+                .iter()
+                .all(|(place, kind, _)| bare.rows(*place, *kind) == by_domain(judge.tables().of(*place, *kind)));
+            assert_eq!(names.contains(&"lpi_low"), ours == Answer::plain(no::BAD_LPI));
+            let domain = matches!(add, Add::Domain { .. });
+            let kept = domain && ours == Answer::plain(no::EMPTY_RANGE) && !rows;
+            assert_eq!(names.contains(&"domain_whole"), kept);
+            let pool = domain || matches!(add, Add::Pool { .. });
+            assert_eq!(names.contains(&"pool_table_full"), pool && ours == Answer::plain(no::FULL));
+            assert!(!names.is_empty() || (rows && theirs == ours), "sequence {index}, {add:?}");
+            names.into_iter().for_each(|name| *counts.entry(name).or_default() += 1);
+        }
+    }
+    println!("{counts:#?}");
+    assert!(["lpi_low", "domain_whole", "pool_table_full", "held_table_full"]
+        .iter()
+        .all(|name| counts.contains_key(name)));
 }

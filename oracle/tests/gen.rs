@@ -2,8 +2,8 @@
 
 use std::collections::BTreeMap;
 
-use oracle::added::{HELD_ROWS, PLAN_REQUESTS};
-use oracle::calls::{Answer, Call};
+use oracle::added::{FIRST_LPI, HELD_ROWS, PLAN_REQUESTS, POOL_ROWS};
+use oracle::calls::{no, rows_of_add, Add, Answer, Call, Choice, Hold, Kind, Need, Request};
 use oracle::gen;
 use oracle::judge::Judge;
 use oracle::text;
@@ -60,7 +60,7 @@ fn texts_reach_every_refusal() {
         *counts.entry(outcome(&output)).or_default() += 1;
     }
     println!("{counts:#?}");
-    let others = ["accepted", "3 0 0", "4 0 0", "5 0 0", "10 0 0"];
+    let others = ["accepted", "3 0 0", "4 0 0", "5 0 0", "10 0 0", "12 0 0"];
     // where a plan has more requests than a table rows, a random text meets Full first
     let short = (PLAN_REQUESTS <= HELD_ROWS).then_some(&"11 0 0");
     expect(&counts, OF_REQUESTS.iter().chain(&others).chain(short).map(|key| key.to_string()));
@@ -124,9 +124,59 @@ fn sequences_reach_every_refusal() {
         }
     }
     println!("{counts:#?}");
-    let adds = ["accepted", "2 0 0", "3 0 0", "4 0 0", "5 0 0", "9 0 0"].map(|key| format!("add {key}"));
+    let adds = ["accepted", "2 0 0", "3 0 0", "4 0 0", "5 0 0", "9 0 0", "12 0 0"].map(|key| format!("add {key}"));
     let plans = ["accepted", "1 0 0", "2 0 0", "9 0 0", "11 0 0"].map(|key| format!("plan {key}"));
     let asked = OF_REQUESTS.iter().chain(&["accepted", "1 0 0"]);
     let requests = asked.flat_map(|key| [format!("request {key}"), format!("kind {key}")]);
     expect(&counts, adds.into_iter().chain(plans).chain(requests));
+}
+
+/// An MSI domain is refused at each of its three ranges for each reason, LPIs are pooled, held and asked for on both sides
+/// of the least, and most requests for an MSI still have pools to choose from.
+#[test]
+fn sequences_reach_every_end_of_a_domain() {
+    let mut counts = Counts::new();
+    let mut count = |key: String| *counts.entry(key).or_default() += 1;
+    for index in 0..20_000 {
+        let mut judge = Judge::fresh();
+        for call in gen::sequence(SEED, index) {
+            let before = judge.tables().clone();
+            let answer = judge.call(&call).answer;
+            let side = |start: u32| if start < FIRST_LPI { "low" } else { "high" };
+            match &call {
+                Call::Add(add @ Add::Domain { lpis, .. }) => {
+                    count(format!("domain {}", side(lpis.start)));
+                    for (place, kind, row) in rows_of_add(add) {
+                        let table = before.of(place, kind);
+                        let empty = answer == Answer::plain(no::EMPTY_RANGE) && row.start >= row.end;
+                        let lacking = table.len() == POOL_ROWS && !table.contains(&row);
+                        if empty || answer == Answer::plain(no::FULL) && lacking {
+                            count(format!("{place:?} {kind:?} {}", if empty { "empty" } else { "full" }));
+                        }
+                        if kind == Kind::Lpi && answer == Answer::plain(no::BAD_LPI) {
+                            count(format!("{place:?} {kind:?} low"));
+                        }
+                    }
+                }
+                Call::Add(Add::Hold { what: Hold::Lpi { lpis, .. }, .. }) => {
+                    count(format!("hold {} {}", side(lpis.start), answer.is_refused()));
+                }
+                Call::Request(Request { need: Need::Msi { lpi, .. }, .. }) => {
+                    count(format!("msi {}", answer.is_refused()));
+                    if let Choice::Fixed(lpi) = lpi {
+                        count(format!("fixed {} {}", side(*lpi), answer.is_refused()));
+                    }
+                }
+                _ => {}
+            }
+        }
+    }
+    println!("{counts:#?}");
+    let ends = ["Device empty", "Event empty", "Lpi empty", "Lpi low", "Device full", "Event full", "Lpi full"];
+    let domains = ends.iter().flat_map(|end| [format!("Auto {end}"), format!("Fixed {end}")]);
+    let sides = ["domain low", "domain high", "hold low true", "hold high true", "hold high false"];
+    let asked = ["fixed low true", "fixed high true", "fixed high false"];
+    expect(&counts, domains.chain(sides.iter().chain(&asked).map(|key| key.to_string())));
+    assert!(!counts.contains_key("hold low false") && !counts.contains_key("fixed low false"));
+    assert!(counts["msi false"] * 3 > counts["msi true"] && counts["domain high"] > 10 * counts["domain low"]);
 }

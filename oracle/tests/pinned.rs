@@ -36,6 +36,7 @@ fn by_hand() {
     }
     assert_eq!(judged(&lines("pool auto host 4 5/want 1 1 host auto/want 1 2 host auto/")), Err([3, 7, 4, 0, 0]));
     assert_eq!(judged(&lines("hold 0 host 4 5/")), Err([1, 3, 0, 0, 0]));
+    assert_eq!(judged(&lines("pool auto host 4 5/pool auto msi 0 0 0 1 0 1 8191 8193/")), Err([2, 12, 0, 0, 0]));
     assert_eq!(judged(&vec![b'x'; TEXT + 1]), Err([0, 10, 0, 0, 0]));
 }
 
@@ -59,11 +60,12 @@ fn ranges_inside_one_another() {
     assert!(held("pool auto host 1 9/pool fixed host 0 9/") && !held("pool auto host 0 9/pool fixed host 1 9/"));
     assert!(!held("pool auto host 0 9/pool fixed host 0 5/pool fixed host 5 9/"), "inside one alone");
     assert!(!held("pool auto host 0 9/pool fixed mmio 0 9/") && !held("pool auto input 0 0 9/pool fixed input 1 0 9/"));
-    let auto = "pool auto msi 1 2 0 4 0 4 0 4/";
-    assert!(held(&format!("{auto}pool fixed msi 1 2 0 4 0 4 0 4/")));
-    assert!(!held(&format!("{auto}pool fixed msi 1 2 0 4 0 3 0 4/")));
-    assert!(!held(&format!("{auto}pool fixed msi 1 3 0 4 0 4 0 4/")));
-    assert!(held(&format!("{auto}pool fixed msi 1 2 0 4 0 4 1 2/pool fixed msi 1 9 0 1 0 1 0 9/")), "LPIs know no ITS");
+    let auto = "pool auto msi 1 2 0 4 0 4 8192 8196/";
+    assert!(held(&format!("{auto}pool fixed msi 1 2 0 4 0 4 8192 8196/")));
+    assert!(!held(&format!("{auto}pool fixed msi 1 2 0 4 0 3 8192 8196/")));
+    assert!(!held(&format!("{auto}pool fixed msi 1 3 0 4 0 4 8192 8196/")));
+    let other = "pool fixed msi 1 2 0 4 0 4 8193 8194/pool fixed msi 1 9 0 1 0 1 8192 8201/";
+    assert!(held(&format!("{auto}{other}")), "LPIs know no ITS");
 }
 
 /// The request with what it was granted as its choice.

@@ -1,8 +1,8 @@
-// 01 read sentence by sentence and tried number by number, against the judge: a difference nobody has named would show.
+// 01 and 02 read sentence by sentence and tried number by number, against the judge: a difference nobody has named would show.
 
 use std::cell::Cell;
 
-use oracle::added::{HELD_ROWS, PLAN_REQUESTS, POOL_ROWS};
+use oracle::added::{FIRST_LPI, HELD_ROWS, PLAN_REQUESTS, POOL_ROWS};
 use oracle::calls::{
     no, rows_of_add, Add, Answer, Call, Choice, Hold, Kind, Need, Place, PlanAnswer, Record, Refusal, Request, Row,
     Tables,
@@ -66,6 +66,11 @@ fn overlaps(kind: Kind, row: &Row, start: u128, stop: u128) -> bool {
     u128::from(row.start) < stop && start < end(kind, row)
 }
 
+/// LPIs start at 8192.
+fn too_low(kind: Kind, row: &Row) -> bool {
+    kind == Kind::Lpi && row.start < u64::from(FIRST_LPI)
+}
+
 fn known(trigger: u32, sharing: u32) -> bool {
     trigger <= 3 && sharing <= 1
 }
@@ -77,14 +82,7 @@ impl Plain {
 
     fn add(&mut self, add: &Add) -> Answer {
         match add {
-            Add::Pool { .. } | Add::Domain { .. } => {
-                for (place, kind, row) in rows_of_add(add) {
-                    if let Err(number) = self.add_pool(place, kind, row) {
-                        return Answer::plain(number);
-                    }
-                }
-                Answer::Accepted
-            }
+            Add::Pool { .. } | Add::Domain { .. } => self.add_pools(&rows_of_add(add)),
             Add::Hold { owner, what } => {
                 let codes = match what {
                     Hold::Input { trigger, sharing, .. } => known(*trigger, *sharing),
@@ -96,20 +94,25 @@ impl Plain {
         }
     }
 
-    fn add_pool(&mut self, place: Place, kind: Kind, row: Row) -> Result<(), u32> {
-        if row.start >= row.end {
-            return Err(no::EMPTY_RANGE);
+    /// The ranges and the room for them are tested before any row goes in: any EmptyRange, then BadLpi, then Full.
+    fn add_pools(&mut self, rows: &[(Place, Kind, Row)]) -> Answer {
+        if rows.iter().any(|(_, _, row)| row.start >= row.end) {
+            return Answer::plain(no::EMPTY_RANGE);
         }
-        let table = self.tables.of_mut(place, kind);
-        if table.contains(&row) {
-            return Ok(());
+        if rows.iter().any(|(_, kind, row)| too_low(*kind, row)) {
+            return Answer::plain(no::BAD_LPI);
         }
-        if table.len() == POOL_ROWS {
-            return Err(no::FULL);
+        let needs = |(place, kind, row): &(Place, Kind, Row)| !self.tables.of(*place, *kind).contains(row);
+        let new: Vec<_> = rows.iter().copied().filter(needs).collect();
+        if new.iter().any(|(place, kind, _)| self.tables.of(*place, *kind).len() == POOL_ROWS) {
+            return Answer::plain(no::FULL);
         }
-        let at = table.iter().position(|other| other.domain == row.domain && other.start > row.start);
-        table.insert(at.unwrap_or(table.len()), row);
-        Ok(())
+        for (place, kind, row) in new {
+            let table = self.tables.of_mut(place, kind);
+            let at = table.iter().position(|other| other.domain == row.domain && other.start > row.start);
+            table.insert(at.unwrap_or(table.len()), row);
+        }
+        Answer::Accepted
     }
 
     /// All rows of a reservation or none.
@@ -123,6 +126,9 @@ impl Plain {
         }
         if rows.iter().any(|(_, kind, row)| *kind != Kind::Input && row.start >= row.end) {
             return Answer::plain(no::EMPTY_RANGE);
+        }
+        if rows.iter().any(|(_, kind, row)| too_low(*kind, row)) {
+            return Answer::plain(no::BAD_LPI);
         }
         for (place, kind, row) in &rows {
             let (start, stop) = (u128::from(row.start), end(*kind, row));

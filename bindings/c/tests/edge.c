@@ -1,4 +1,5 @@
-/* The edge of planner.h over the planner itself: null pointers, states that are no states, plans that are too long or refused, numbers that are not looked at. */
+/* The edge of planner.h over the planner itself: null pointers, states that are no states, plans that are too long or refused, numbers that are not looked at; LPIs that are
+ * too low, and MSI pools that are refused. */
 #define _DEFAULT_SOURCE
 #include "planner.h"
 #include "expect.h"
@@ -130,6 +131,61 @@ static void unread(void) {
     EXPECT(planner_start(state) == 0 && planner_ask(state, irq, record) == 0);
 }
 
+/* A pool of one ITS with these ranges; refused, it leaves every number of all tables as it was. */
+static uint64_t domain(uint64_t use, uint32_t ds, uint32_t de, uint32_t es, uint32_t ee, uint32_t ls, uint32_t le) {
+    static uint64_t tables[PLANNER_SAID];
+    memcpy(tables, state, sizeof tables);
+    uint64_t number = planner_pool_msi(state, use, 1, 2, ds, de, es, ee, ls, le);
+    EXPECT(planner_answer(state, answer) == 0 && answered(number, 0, 0));
+    EXPECT(number == 0 || memcmp(tables, state, sizeof tables) == 0);
+    return number;
+}
+
+/* An MSI pool adds three ranges or none: any that is empty is 4, then low LPIs are 12, then a table without a row is 9; what is there already needs none. */
+static void domains(void) {
+    const uint32_t first = PLANNER_FIRST_LPI, rows = PLANNER_POOL_ROWS;
+    for (uint64_t use = 0; use < 2; use++) {
+        for (size_t kind = 0; kind < 3; kind++) {
+            board();
+            EXPECT(domain(use, 7, 7, 0, 9, first, first + 9) == 4 && domain(use, 0, 9, 7, 6, 0, 1) == 4 && domain(use, 0, 9, 0, 9, 5, 5) == 4);
+            EXPECT(domain(use, 0, 9, 0, 9, first - 1, first + 1) == 12 && domain(use, 0, 9, 0, 9, 0, UINT32_MAX) == 12);
+            for (uint32_t i = 0; i < rows; i++) {
+                uint32_t d = kind == 0 ? i : 0, e = kind == 1 ? i : 0, l = first + (kind == 2 ? i : 0);
+                EXPECT(domain(use, d, d + 9, e, e + 9, l, l + 9) == 0);
+            }
+            EXPECT(planner_row(state, 1 + use, 5 + kind, 0, row) == 0 && row[0] == rows);
+            EXPECT(domain(use, 90, 99, 90, 99, first + 90, first + 99) == 9 && domain(use, 0, 9, 0, 9, first, first + 9) == 0);
+            EXPECT(domain(use, 90, 99, 90, 90, first + 90, first + 99) == 4 && domain(use, 90, 99, 90, 99, first - 1, first + 99) == 12);
+            EXPECT(domain(1 - use, 90, 99, 90, 99, first + 90, first + 99) == 0);
+        }
+    }
+}
+
+/* LPIs below the least one: no reservation, no row of sound tables; a request for one is 6, and never 12. */
+static void low_lpis(void) {
+    const uint32_t first = PLANNER_FIRST_LPI;
+    uint64_t low[12] = {5, 1, 0, 1, 2, 1, 1, 0, 1, 0, 1, first - 1};
+    board();
+    EXPECT(planner_hold_lpi(state, 0, 1, 5, 6) == 3 && planner_hold_lpi(state, 7, 1, 5, 5) == 4 && planner_hold_lpi(state, 7, 1, first - 1, first + 1) == 12);
+    EXPECT(planner_hold_lpi(state, 7, 1, first, first + 1) == 0 && planner_hold_lpi(state, 8, 1, first - 1, first + 1) == 12);
+    EXPECT(planner_hold_lpi(state, 8, 1, first, first + 1) == 5 && planner_answer(state, answer) == 0 && answer[3] == 7);
+    EXPECT(domain(1, 0, 9, 0, 9, first, first + 9) == 0 && planner_start(state) == 0);
+    EXPECT(planner_ask(state, low, record) == 6 && planner_answer(state, answer) == 0 && answered(6, 0, 6));
+    low[11] = first + 1;
+    EXPECT(planner_ask(state, low, record) == 0 && record[7] == first + 1);
+    /* the row of the fixed pool, made one lower: its end stands a column behind its start */
+    for (size_t i = 0; i + PLANNER_POOL_ROWS < PLANNER_SAID; i++) {
+        if (state[i] != first || state[i + PLANNER_POOL_ROWS] != first + 9) continue;
+        state[i]--;
+        EXPECT(planner_row(state, 2, 7, 0, row) == 0 && row[4] == first - 1 && row[5] == first + 9);
+        EXPECT(planner_start(state) == 1 && planner_ask(state, low, record) == 1 && domain(0, 0, 9, 0, 9, first, first + 9) == 1);
+        state[i]++;
+        EXPECT(planner_start(state) == 0);
+        return;
+    }
+    EXPECT(!"the row is in the state");
+}
+
 static void texts(void) {
     static char out[PLANNER_TEXT_OUTPUT];
     EXPECT(planner_respond("", 0, out, sizeof out) == 6 && memcmp(out, "end\t0\n", 6) == 0);
@@ -146,6 +202,8 @@ int main(void) {
     too_long();
     refused();
     unread();
+    domains();
+    low_lpis();
     texts();
     puts("the C face's edge holds");
     return 0;

@@ -63,6 +63,8 @@ static void refusals(void) {
         EXPECT(pin("want\t1\t0\thost\tauto\n", 19, rooms[i]) == 7 && answered(1, 7, 4, 0, 0));
         EXPECT(pin(HEAD "hold\t8\thost\t0\t9\n", sizeof HEAD + 15, rooms[i]) == 5 && answered(4, 5, 0, 9, 0));
         EXPECT(pin("pool\tfixed\thost\t5\t6\nhold\t9\thost\t5\t6\nwant\t1\t0\thost\t5\n", 54, rooms[i]) == 8 && answered(3, 8, 4, 9, 4));
+        EXPECT(pin("pool\tauto\tmsi\t0\t0\t0\t1\t0\t1\t8191\t8193\n", 36, rooms[i]) == 12 && answered(1, 12, 0, 0, 0));
+        EXPECT(pin(HEAD "hold\t8\tlpi\t0\t0\t9\n", sizeof HEAD + 16, rooms[i]) == 12 && answered(4, 12, 0, 0, 0));
         EXPECT(pin(before, PLANNER_TEXT + 1, rooms[i]) == 10 && answered(0, 10, 0, 0, 0));
     }
 }

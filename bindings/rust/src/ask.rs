@@ -10,7 +10,7 @@ pub enum Use {
     Fixed = 1,
 }
 
-/// A pool range. Ranges are half-open.
+/// A pool range. Ranges are half-open; those of LPIs start at [`FIRST_LPI`](crate::FIRST_LPI) or above.
 #[derive(Clone, Debug, PartialEq, Eq)]
 pub enum Pool {
     Mmio {
@@ -193,7 +193,7 @@ pub struct DeviceId(pub u32);
 #[derive(Clone, Copy, Debug, PartialEq, Eq)]
 pub struct EventId(pub u32);
 
-/// The number of a message interrupt of a controller.
+/// The number of a message interrupt of a controller. Any may be asked for; one below [`FIRST_LPI`](crate::FIRST_LPI) is in no pool.
 #[derive(Clone, Copy, Debug, PartialEq, Eq)]
 pub struct Lpi(pub u32);
 

@@ -39,7 +39,9 @@ mod texts;
 pub use ask::{Choice, DeviceId, EventId, Hold, Lpi, Pool, Request, Use, Want};
 pub use plan::{Granted, Plan, PlanRefusal};
 pub use refusal::Refusal;
-pub use sizes::{ANSWER, MOST, POOL_ROWS, RECORD, REQUEST, ROWS, STATE_SIZE, TEXT, TEXT_OUTPUT};
+pub use sizes::{
+    ANSWER, FIRST_LPI, MOST, POOL_ROWS, RECORD, REQUEST, ROWS, STATE_SIZE, TEXT, TEXT_OUTPUT,
+};
 pub use texts::{pin_text, text, TextRefusal};
 
 use sizes::ROW;
@@ -111,7 +113,8 @@ impl Planner {
         Ok(planner)
     }
 
-    /// A planner over tables kept elsewhere, whatever they hold: each call judges them and refuses unsound ones. Malformed as [`Planner::new`] is.
+    /// A planner over tables kept elsewhere, whatever they hold: each call judges them and refuses unsound ones, such as tables with LPIs below
+    /// [`FIRST_LPI`]. Malformed as [`Planner::new`] is.
     ///
     /// ```
     /// use thurgoleo::{Planner, Refusal, STATE_SIZE};
@@ -144,19 +147,24 @@ impl Planner {
         answer::said(&self.state, number)
     }
 
-    /// Adds a range to the pools of a use. An exact duplicate is accepted and adds nothing. An MSI domain adds three ranges in turn,
-    /// and what was added before a refused one stays.
+    /// Adds a range to the pools of a use. An exact duplicate is accepted and adds nothing. An MSI domain adds its three ranges or none
+    /// of them: any empty one is EmptyRange, then LPIs that start below [`FIRST_LPI`] are BadLpi, then a row that is lacking is Full.
     ///
     /// ```
-    /// use thurgoleo::{Planner, Pool, Refusal, Use};
+    /// use thurgoleo::{Kind, Part, Planner, Pool, Refusal, Use, FIRST_LPI};
     /// let mut planner = Planner::new().unwrap();
     /// assert_eq!(planner.add_pool(Use::Fixed, Pool::Host { start: 5, end: 5 }), Err(Refusal::EmptyRange));
+    ///
+    /// let domain = |first| Pool::Msi { controller: 0, its: 0, devices: 0..16, events: 0..32, lpis: first..first + 256 };
+    /// assert_eq!(planner.add_pool(Use::Automatic, domain(0)), Err(Refusal::BadLpi));
+    /// assert_eq!(planner.used(Part::Automatic, Kind::Device), 0);
+    /// assert_eq!(planner.add_pool(Use::Automatic, domain(FIRST_LPI)), Ok(()));
     /// ```
     pub fn add_pool(&mut self, used: Use, pool: Pool) -> Result<(), Refusal> {
         self.call(&pool.numbers(used))
     }
 
-    /// Reserves for an owner, so that no request is granted it.
+    /// Reserves for an owner, so that no request is granted it. LPIs that start below [`FIRST_LPI`] are BadLpi, whoever holds what they meet.
     ///
     /// ```
     /// use thurgoleo::{Hold, Planner, Refusal};

@@ -1,6 +1,6 @@
 //! The refusals, with words.
 
-use crate::ANSWER;
+use crate::{ANSWER, FIRST_LPI};
 use core::fmt;
 
 /// Why a call was refused. Namespaces: 1 MMIO, 2 PIO, 3 input of a controller, 4 host IRQ, 5 an ITS of a controller, 6 LPI of a controller.
@@ -31,10 +31,12 @@ pub enum Refusal {
     BadLine,
     /// A list or a buffer is too short, a plan too long, or a pinned text.
     Short,
+    /// A range of LPIs, pooled or reserved, starts below [`FIRST_LPI`]. No request is refused so.
+    BadLpi,
 }
 
 impl Refusal {
-    /// The refusal that an answer's five numbers (number, index, namespace, owner, detail) say. A number that 01 does not know is no answer: Malformed.
+    /// The refusal that an answer's five numbers (number, index, namespace, owner, detail) say. A number that is not known is no answer: Malformed.
     pub(crate) fn of(answer: &[u64; ANSWER]) -> Result<(), Refusal> {
         let [_, _, namespace, owner, detail] = answer.map(|n| n as u32);
         Err(match answer[0] {
@@ -53,6 +55,7 @@ impl Refusal {
             9 => Refusal::Full,
             10 => Refusal::BadLine,
             11 => Refusal::Short,
+            12 => Refusal::BadLpi,
             _ => Refusal::Malformed,
         })
     }
@@ -71,6 +74,7 @@ impl Refusal {
             Refusal::Full => 9,
             Refusal::BadLine => 10,
             Refusal::Short => 11,
+            Refusal::BadLpi => 12,
         }
     }
 }
@@ -105,6 +109,7 @@ impl fmt::Display for Refusal {
     /// use thurgoleo::Refusal;
     /// let refusal = Refusal::Conflict { namespace: 4, owner: 9, detail: 4 };
     /// assert_eq!(refusal.to_string(), "owner 9 stands in the way among host IRQs: the host IRQ is taken");
+    /// assert_eq!(Refusal::BadLpi.to_string(), "a range of LPIs starts below 8192");
     /// ```
     fn fmt(&self, f: &mut fmt::Formatter<'_>) -> fmt::Result {
         match *self {
@@ -113,7 +118,7 @@ impl fmt::Display for Refusal {
             }
             Refusal::BadInput => f.write_str("a number or a code makes no sense"),
             Refusal::BadOwner => f.write_str("owner 0 is nobody"),
-            Refusal::EmptyRange => f.write_str("the range holds no number"),
+            Refusal::EmptyRange => f.write_str("a range holds no number"),
             Refusal::Reserved { owner } => write!(f, "owner {owner} has reserved some of it"),
             Refusal::FixedNotAllowed { namespace } => write!(
                 f,
@@ -137,9 +142,10 @@ impl fmt::Display for Refusal {
                     detail_words(detail)
                 )
             }
-            Refusal::Full => f.write_str("the table is full"),
+            Refusal::Full => f.write_str("a table is full"),
             Refusal::BadLine => f.write_str("the line cannot be read"),
             Refusal::Short => f.write_str("a list is too short, or a plan too long"),
+            Refusal::BadLpi => write!(f, "a range of LPIs starts below {FIRST_LPI}"),
         }
     }
 }

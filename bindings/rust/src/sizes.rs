@@ -1,5 +1,5 @@
-//! The sizes of tables, plans and lists, each once: what else has a size is computed here. the project's tests/sizes.py holds the numbers to those of the
-//! proved code, and tests/face.rs to what the library does.
+//! The sizes of tables, plans and lists, and the least LPI, each once: what else has a size is computed here. The project's tests/sizes.py holds the numbers to
+//! those of the proved code, and tests/face.rs to what the library does.
 
 /// The rows of a pool table.
 pub const POOL_ROWS: usize = 32;
@@ -9,6 +9,9 @@ pub const ROWS: usize = 128;
 
 /// The requests of a plan.
 pub const MOST: usize = 128;
+
+/// The least LPI: the Arm GICv3 architecture has none below it.
+pub const FIRST_LPI: u32 = 8192;
 
 /// The numbers of a request.
 pub const REQUEST: usize = 12;

@@ -125,6 +125,10 @@ fn what_cannot_be_read() {
         (&[1, 0, 3, 1 << 32, 1, 2], 2),
         (&[1, 0, 5, 0, 0, 0, 1, 0, 1, 0], 11),
         (&[1, 0, 5, 0, 0, 0, 1, 0, 1, 0, 1 << 32], 2),
+        (&[1, 2, 5, 0, 0, 0, 1, 0, 1, 0, 1], 2),
+        (&[1, 0, 5, 0, 0, 0, 1, 0, 1, 0, 1], 12),
+        (&[2, 1, 7, 1 << 32, 0, 1], 2),
+        (&[2, 1, 7, 0, 0, 1], 12),
         (&[2, 1 << 32, 1, 0, 1], 2),
         (&[2, 1, 3, 0, 0, 4, 0], 2),
         (&[2, 0, 3, 0, 0, 4, 0], 2),
@@ -164,7 +168,7 @@ fn rows_come_back() {
             its: 2,
             devices: 3..4,
             events: 5..6,
-            lpis: 7..8,
+            lpis: 8192..8193,
         },
     )
     .unwrap();
@@ -200,6 +204,9 @@ fn rows_come_back() {
         ),
         (1, 2, 0, 5, 6, 0)
     );
+    let row = p.row(Part::Fixed, Kind::Lpi, 0).unwrap();
+    assert_eq!((row.controller, row.its), (1, 0));
+    assert_eq!((row.start, row.end, row.owner), (8192, 8193, 0));
     let row = p.row(Part::Reservations, Kind::Input, 0).unwrap();
     assert_eq!(
         (

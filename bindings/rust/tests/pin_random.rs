@@ -6,7 +6,7 @@ mod common;
 use common::texts::{by_hand, no, pin, pinned, said, SHORT};
 use common::{small_stack, Rng};
 use std::collections::HashMap;
-use thurgoleo::TEXT;
+use thurgoleo::{FIRST_LPI, TEXT};
 
 impl Rng {
     /// A number of any length, up to a limit.
@@ -55,8 +55,17 @@ fn random_text(rng: &mut Rng) -> String {
             ranges.push((kind, (start, end)));
         }
     }
-    let three = [(); 3].map(|()| rng.range(NARROW));
-    let msi = three
+    // of LPIs few may lie too low
+    let least = if rng.below(16) == 0 {
+        0
+    } else {
+        FIRST_LPI.into()
+    };
+    let msi = [0, 0, least]
+        .map(|least| {
+            let (start, end) = rng.range(NARROW - least);
+            (least + start, least + end)
+        })
         .map(|(start, end)| format!("\t{start}\t{end}"))
         .concat();
     for used in ["auto", "fixed"] {

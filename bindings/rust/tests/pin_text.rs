@@ -122,6 +122,7 @@ fn the_longest_text() {
 fn refusals_with_their_lines() {
     let host = "pool\tauto\thost\t5\t6\npool\tfixed\thost\t5\t9\nhold\t7\thost\t8\t9\n";
     let want = "want\t1\t0\thost\tauto\n";
+    let domain = "pool\tauto\tmsi\t0\t0\t0\t1\t0\t1";
     let many = "pool\tauto\thost\t0\t999\n".to_string() + &want.repeat(MOST + 1);
     for (text, answer) in [
         ("\n".to_string(), [1, 10, 0, 0, 0]),
@@ -139,6 +140,14 @@ fn refusals_with_their_lines() {
         (format!("{host}want\t1\t0\thost\t4\n"), [4, 6, 4, 0, 0]),
         (format!("{host}{want}{want}"), [5, 7, 4, 0, 0]),
         (format!("{host}want\t1\t0\thost\t8\n"), [4, 8, 4, 7, 4]),
+        (format!("{host}{domain}\t8191\t8193\n"), [4, 12, 0, 0, 0]),
+        (format!("{host}{domain}\t5\t5\n"), [4, 4, 0, 0, 0]),
+        (format!("{host}{domain}\t0\t4294967296\n"), [4, 10, 0, 0, 0]),
+        (
+            format!("{host}{want}{domain}\t8191\t8193\n"),
+            [5, 10, 0, 0, 0],
+        ),
+        (format!("{host}hold\t1\tlpi\t0\t0\t1\n"), [4, 12, 0, 0, 0]),
         (many, [MOST as u64 + 2, 11, 0, 0, 0]),
     ] {
         assert_eq!(no(&said(text.as_bytes())).unwrap(), answer, "{text}");

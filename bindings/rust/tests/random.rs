@@ -17,13 +17,16 @@ impl Rng {
         match self.below(8) {
             0..=4 => self.next() % 9,
             5 => [
+                8191,
+                8192,
+                8193,
                 1 << 16,
                 (1 << 16) - 1,
                 1 << 32,
                 (1 << 32) - 1,
                 u64::MAX,
                 u64::MAX - 1,
-            ][self.below(6)],
+            ][self.below(9)],
             6 => self.next() % 70_000,
             _ => self.next(),
         }
@@ -93,16 +96,13 @@ fn calls(count: usize) {
         } else if which > 0 {
             // a refusal changes the five numbers alone; an accepted call leaves tables that a start takes
             let said = memory[WORDS - 4];
-            assert!(said <= 11);
-            let part = x.first() == Some(&1) && which == 1;
-            if said != 0 && !part {
+            assert!(said <= 12);
+            if said != 0 {
                 assert!(memory[..WORDS - 4] == before[..WORDS - 4]);
                 refused += 1;
             } else {
                 accepted += 1;
-                if said == 0 {
-                    kept.copy_from_slice(&memory[1..WORDS + 1]);
-                }
+                kept.copy_from_slice(&memory[1..WORDS + 1]);
             }
         }
         if rng.below(300) == 0 {

@@ -154,7 +154,7 @@ fn nothing_is_accepted(size: u64) {
 
 #[test]
 fn whatever_it_answers() {
-    let silent = [0, 1, 2, 9, 18, u64::MAX].map(|number| (number, false));
+    let silent = [0, 1, 2, 9, 12, 18, u64::MAX].map(|number| (number, false));
     let writing = [1, 2, u64::MAX].map(|number| (number, true));
     for size in [STATE_SIZE as u64, 0, 1, 8, STATE_SIZE as u64 + 8, u64::MAX] {
         for (number, writes) in silent.into_iter().chain(writing) {

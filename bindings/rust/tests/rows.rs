@@ -1,5 +1,5 @@
-//! The table-level commands of tests/rows.py, run through the exported functions: what each call answers, every used row as it stands and as it is told, and whether
-//! tables are sound. Numbers are stored anywhere in the state, so each clause of soundness is broken on each table.
+//! The table-level commands of tests/rows.py, run through the exported functions: what each call answers, every used row as it stands and as it is told, whether a call
+//! left all tables as they were, and whether tables are sound. Numbers are stored anywhere in the state, so each clause of soundness is broken on each table.
 
 mod common;
 
@@ -7,7 +7,7 @@ use common::{
     planner_allocate, planner_call, planner_fresh, planner_plan, planner_read, small_stack,
 };
 use std::{fmt::Write, path::Path};
-use thurgoleo::{Part, STATE_SIZE};
+use thurgoleo::{Part, FIRST_LPI, STATE_SIZE};
 
 const SIZE: u64 = STATE_SIZE as u64;
 const PARTS: [Part; 4] = [
@@ -50,17 +50,24 @@ fn table(part: usize, kind: usize) -> usize {
         .sum()
 }
 
-struct State(Vec<u64>);
+/// The words of a state, and of all its tables before the last call.
+struct State(Vec<u64>, Vec<u64>);
 
 impl State {
     fn fresh() -> Self {
-        let mut state = State(vec![u64::MAX; STATE_SIZE / 8]);
+        let mut state = State(vec![u64::MAX; STATE_SIZE / 8], Vec::new());
         assert_eq!(unsafe { planner_fresh(state.lent(), SIZE) }, 0);
         state
     }
 
     fn lent(&mut self) -> *mut u64 {
+        self.1 = self.tables().to_vec();
         self.0.as_mut_ptr()
+    }
+
+    /// All but the answer.
+    fn tables(&self) -> &[u64] {
+        &self.0[..self.0.len() - 5]
     }
 
     /// The first byte and the width of a number.
@@ -118,7 +125,8 @@ impl State {
         let domain = domain[[0, 0, 0, 1, 0, 2, 3 - usize::from(part < 2), 1][kind]];
         for row in 0..count {
             let n = row as u64;
-            let (start, end) = (10 + 20 * n, 20 + 20 * n);
+            let least = if kind == 7 { FIRST_LPI.into() } else { 0 };
+            let (start, end) = (least + 10 + 20 * n, least + 20 + 20 * n);
             let numbers = match (part, kind) {
                 (0 | 1, _) => vec![domain[0], domain[1], start, end],
                 (_, 3) => vec![5, 10 + n, 1, 1, 3],
@@ -158,7 +166,7 @@ impl State {
 
     /// Whether pools and reservations are sound: a call with too few numbers is 1 before it is 11. Whether all tables are: a plan of no requests is 1 before it is 0.
     fn judged(&self) -> [u64; 2] {
-        let mut tried = State(self.0.clone());
+        let mut tried = State(self.0.clone(), Vec::new());
         tried.call(&[1]);
         let given = u64::from(tried.answer()[0] == 11);
         let none: &mut [u64] = &mut [];
@@ -210,7 +218,8 @@ fn run(commands: &str) -> String {
             6 => writeln!(shown, "{}", line(&state.judged())).unwrap(),
             7 => state.fill(place(1), place(2), place(3)),
             8 => ask(&mut state, &x[1..13], 9, &mut shown),
-            _ => ask(&mut state, &x[2..14], place(1), &mut shown),
+            9 => ask(&mut state, &x[2..14], place(1), &mut shown),
+            _ => writeln!(shown, "{}", u64::from(state.1 == state.tables())).unwrap(),
         }
     }
     shown

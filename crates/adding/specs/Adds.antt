@@ -6,6 +6,7 @@ use Prim.Native.Nat.{ℕ, suc, min}
 use lib.Dec.{T as Holds}
 use Rattle.definition.specs.Tables.{top, nature, fits, fitsSpan, Span}
 use Rattle.definition.specs.Pools.{In, Claim, spans, heldRows}
+pub use Rattle.insert.specs.Answers.{pick}
 use Rattle.tables.specs.declared.PoolRow.{PoolRow}
 use Rattle.tables.specs.declared.RangeRow.{RangeRow}
 use Rattle.tables.specs.declared.InputRow.{InputRow}
@@ -19,7 +20,7 @@ use Rattle.request.specs.declared.call.Hold.the-variants as H
 use Rattle.request.specs.declared.call.Call.{Call}
 use Rattle.request.specs.declared.call.Call.the-variants as C
 use Rattle.adding.specs.Rows.{poolRow, heldRow, inputRow, noPoolRow, noRow, noInput}
-use Rattle.tables.specs.Views.{sameOf}
+use Rattle.tables.specs.Views.{kindOf, sameOf}
 use Rattle.tables.specs.declared.Kind.{Kind}
 use Rattle.tables.specs.declared.Kind.the-variants as K
 use Rattle.adding.specs.declared.To.{To}
@@ -29,11 +30,6 @@ use Rattle.adding.specs.declared.What.the-variants as W
 use Rattle.adding.specs.declared.Adds.{Adds}
 use Rattle.adding.specs.declared.Ask.{Ask}
 use Rattle.adding.specs.declared.InputAsk.{InputAsk}
-
--- one of two
-abbrev pub pick : {A : Type 0} → Bool → A → A → A
-pick true x y = x
-pick false x y = y
 
 -- ---- calls
 
@@ -149,21 +145,6 @@ goesTo (W.One j) k = sameOf k j
 goesTo W.Domain k = inDomain k
 goesTo W.Pair k = inPair k
 
-abbrev pub turnIn : Kind → ℕ
-turnIn K.Mmio = 0
-turnIn K.Pio = 0
-turnIn K.Input = 0
-turnIn K.Host = 0
-turnIn K.Device = 0
-turnIn K.Event = 1
-turnIn K.Lpi = 2
-
-abbrev pub turnOf : What → Kind → ℕ
-turnOf W.Nothing k = 0
-turnOf (W.One j) k = 0
-turnOf W.Domain k = turnIn k
-turnOf W.Pair k = 0
-
 abbrev pub rangeFor : Adds → Kind → PoolRow
 rangeFor q K.Mmio = q .first
 rangeFor q K.Pio = q .first
@@ -177,7 +158,7 @@ abbrev pub sent : Adds → Kind → To
 sent q k = pick (goesTo (q .what) k) (q .to) T.Nowhere
 
 abbrev pub askOf : Adds → Kind → Ask
-askOf q k = record { to = sent q k; range = rangeFor q k; row = q .row }
+askOf q k = record { to = sent q k; floor = nature (kindOf k) .floor; range = rangeFor q k; row = q .row }
 
 abbrev pub inputAskOf : Adds → InputAsk
-inputAskOf q = record { to = sent q K.Input; range = q .first; row = q .input }
+inputAskOf q = record { to = sent q K.Input; floor = nature (kindOf K.Input) .floor; range = q .first; row = q .input }

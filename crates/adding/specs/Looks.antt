@@ -9,7 +9,7 @@ use Rattle.tables.specs.declared.Pool.{Pool}
 use Rattle.tables.specs.declared.Ranges.{Ranges}
 use Rattle.tables.specs.declared.Inputs.{Inputs}
 use Rattle.tables.specs.declared.PoolRow.{PoolRow}
-use Rattle.insert.specs.Answers.{telling, heard, addAny, reserveAny, Told}
+use Rattle.insert.specs.Answers.{telling, heard, admitAny, reserveAny, Told}
 use Rattle.insert.specs.declared.Reply.{Reply}
 use Rattle.adding.specs.declared.To.{To}
 use Rattle.adding.specs.declared.To.the-variants as T
@@ -24,20 +24,20 @@ abbrev pub Fit : Pool → Pool → ℕ → Type 0
 Fit a f n = Tidy a × (Tidy f × (n ≤ rowLimit))
 
 -- what a pool answers
-abbrev pub Adding : Pool → PoolRow → Reply → Type 0
-Adding t range r = heard r ≡ telling (addAny (spanOf range) (used (poolView t)))
+abbrev pub Adding : Pool → ℕ → PoolRow → Reply → Type 0
+Adding t floor range r = heard r ≡ telling (admitAny floor (spanOf range) (used (poolView t)))
 
 -- .. and the table that is asked: of a reservation that is accepted it is known that there is room
 abbrev pub Tells : Pool → Pool → Ranges → Ask → To → Reply → Type 0
 Tells a f t k T.Nowhere r = Unit {0}
-Tells a f t k T.Automatic r = Adding a (k .range) r
-Tells a f t k T.Fixed r = Adding f (k .range) r
-Tells a f t k T.Held r = (heard r ≡ telling (reserveAny (rangeOf (k .row)) (used (rangesView t)))) × (r .number ≡ 0 → t .n < rowLimit)
+Tells a f t k T.Automatic r = Adding a (k .floor) (k .range) r
+Tells a f t k T.Fixed r = Adding f (k .floor) (k .range) r
+Tells a f t k T.Held r = (heard r ≡ telling (reserveAny (k .floor) (rangeOf (k .row)) (used (rangesView t)))) × (r .number ≡ 0 → t .n < rowLimit)
 
 abbrev pub TellsInput : Pool → Pool → Inputs → InputAsk → To → Reply → Type 0
 TellsInput a f t k T.Nowhere r = Unit {0}
-TellsInput a f t k T.Automatic r = Adding a (k .range) r
-TellsInput a f t k T.Fixed r = Adding f (k .range) r
+TellsInput a f t k T.Automatic r = Adding a (k .floor) (k .range) r
+TellsInput a f t k T.Fixed r = Adding f (k .floor) (k .range) r
 TellsInput a f t k T.Held r = Told input (inputOf (k .row)) (inputsView t) r × (r .number ≡ 0 → t .n < rowLimit)
 
 -- .. and what is seen of whole tables in memory: the columns of the reservations have their full length too

@@ -35,14 +35,15 @@ pub fn range_columns<'a>(
     requires { ⌜ Fit (pool (now pn) (now pc) (now pi) (now ps) (now pe)) (pool (now nf) (now fc) (now fi) (now fs) (now fe)) (now hn) ⌝ }
     ensures { λ r. ⌜ Tells (pool (now (pn .entry)) (now (pc .entry)) (now (pi .entry)) (now (ps .entry)) (now (pe .entry))) (pool (now (nf .entry)) (now (fc .entry)) (now (fi .entry)) (now (fs .entry)) (now (fe .entry))) (ranges (now (hn .entry)) (now (hc .entry)) (now (hi .entry)) (now (hd .entry)) (now (hs .entry)) (now (he .entry)) (now (ho .entry))) ask (ask .to) r ⌝ }
 {
+    let floor = ask.floor;
     let range = ask.range;
     let row = ask.row;
     let to = ask.to;
     match to {
         To::Nowhere => plain(0),
-        To::Automatic => insert::refuse_pool(*pn, pc, pi, ps, pe, range),
-        To::Fixed => insert::refuse_pool(*nf, fc, fi, fs, fe, range),
-        To::Held => insert::refuse_range(*hn, hc, hi, hd, hs, he, ho, row),
+        To::Automatic => insert::refuse_pool(*pn, pc, pi, ps, pe, floor, range),
+        To::Fixed => insert::refuse_pool(*nf, fc, fi, fs, fe, floor, range),
+        To::Held => insert::refuse_range(*hn, hc, hi, hd, hs, he, ho, floor, row),
     }
 }
 
@@ -68,13 +69,14 @@ pub fn input_columns<'a>(
     requires { ⌜ Fit (pool (now pn) (now pc) (now pi) (now ps) (now pe)) (pool (now nf) (now fc) (now fi) (now fs) (now fe)) (now hn) ⌝ }
     ensures { λ r. ⌜ TellsInput (pool (now (pn .entry)) (now (pc .entry)) (now (pi .entry)) (now (ps .entry)) (now (pe .entry))) (pool (now (nf .entry)) (now (fc .entry)) (now (fi .entry)) (now (fs .entry)) (now (fe .entry))) (inputs (now (hn .entry)) (now (hc .entry)) (now (hx .entry)) (now (ht .entry)) (now (hs .entry)) (now (ho .entry))) ask (ask .to) r ⌝ }
 {
+    let floor = ask.floor;
     let range = ask.range;
     let row = ask.row;
     let to = ask.to;
     match to {
         To::Nowhere => plain(0),
-        To::Automatic => insert::refuse_pool(*pn, pc, pi, ps, pe, range),
-        To::Fixed => insert::refuse_pool(*nf, fc, fi, fs, fe, range),
+        To::Automatic => insert::refuse_pool(*pn, pc, pi, ps, pe, floor, range),
+        To::Fixed => insert::refuse_pool(*nf, fc, fi, fs, fe, floor, range),
         To::Held => insert::wired::refuse_input(*hn, hc, hx, ht, hs, ho, row),
     }
 }

@@ -5,6 +5,7 @@ use super::InputAsk;
 use super::To;
 use super::goes;
 use super::range_for;
+use table_tests::limits::limits_of;
 use tables::Kind;
 ghost use mathlib.Core.Path.{_≡_};
 ghost use Rattle.adding.specs.Adds.{askOf, inputAskOf};
@@ -13,15 +14,23 @@ ghost use Rattle.adding.specs.Adds.{askOf, inputAskOf};
 pub fn range(q: Adds, k: Kind) -> Ask
     ensures { λ a. ⌜ a ≡ askOf q k ⌝ }
 {
+    let limits = limits_of(k);
+    let floor = limits.floor;
     let range = range_for(q, k);
     let row = q.row;
     let to = q.to;
     let what = q.what;
     if goes(what, k) {
-        return Ask { to, range, row };
+        return Ask {
+            to,
+            floor,
+            range,
+            row,
+        };
     }
     Ask {
         to: To::Nowhere,
+        floor,
         range,
         row,
     }
@@ -31,15 +40,23 @@ pub fn range(q: Adds, k: Kind) -> Ask
 pub fn input(q: Adds) -> InputAsk
     ensures { λ a. ⌜ a ≡ inputAskOf q ⌝ }
 {
+    let limits = limits_of(Kind::Input);
+    let floor = limits.floor;
     let range = q.first;
     let row = q.input;
     let to = q.to;
     let what = q.what;
     if goes(what, Kind::Input) {
-        return InputAsk { to, range, row };
+        return InputAsk {
+            to,
+            floor,
+            range,
+            row,
+        };
     }
     InputAsk {
         to: To::Nowhere,
+        floor,
         range,
         row,
     }

@@ -4,7 +4,6 @@ use super::To;
 use super::Verdict;
 use super::goes;
 use super::range_for;
-use super::turn;
 use tables::Kind;
 ghost use mathlib.Core.Path.{_≡_};
 ghost use Rattle.adding.specs.Judged.{toNumber, sameTo, staysOf, idleOf, poolPutOf};
@@ -27,7 +26,7 @@ pub fn same_to(a: To, b: To) -> bool
     to_number(a) == to_number(b)
 }
 
-// Whether the row of kind `k` is stored where it is to go.
+// Whether the row of kind `k` is stored where it is to go: all rows of a call that is accepted, and none of one that is refused.
 pub fn stays(v: Verdict, to: To, k: Kind) -> bool
     ensures { λ b. ⌜ b ≡ staysOf v to k ⌝ }
 {
@@ -40,7 +39,7 @@ pub fn stays(v: Verdict, to: To, k: Kind) -> bool
     if !goes(what, k) {
         return false;
     }
-    turn(what, k) < v.rows
+    v.reply.number == 0
 }
 
 // Whether the verdict has no row for the tables that `to` names.

@@ -1,6 +1,7 @@
 // A call that adds, over the tables of seven kinds: what those of each kind are asked, what comes of their answers, and the rows that are then stored. All over plain values, but for `answer`, which reads tables.
 use holds::of_hold;
 use insert::Reply;
+use insert::earlier;
 use pools::no_pool_row;
 use pools::of_pool;
 use pools::ranges;
@@ -16,8 +17,8 @@ ghost use mathlib.Core.Bool.{not};
 ghost use lib.Dec.{T};
 ghost use Rattle.definition.specs.Tables.{poolLimit, sameSpan, blankSpan, tidy};
 ghost use Rattle.tables.specs.Views.{poolView};
-ghost use Rattle.adding.specs.Adds.{nothing, inDomain, inPair, goesTo, turnIn, turnOf, rangeFor, passesOf, startsOf, Asked};
-ghost use Rattle.adding.specs.Judged.{oneOf, wholly, inTurn, verdictOf, enteredView};
+ghost use Rattle.adding.specs.Adds.{nothing, inDomain, inPair, goesTo, rangeFor, passesOf, startsOf, Asked};
+ghost use Rattle.adding.specs.Judged.{oneOf, earliestOf, verdictOf, enteredView};
 
 pub mod answer;
 pub mod asking;
@@ -53,9 +54,10 @@ pub struct Adds {
     pub input: InputRow,
 }
 
-// What the tables of one kind are asked: whether the table that `to` names takes the row.
+// What the tables of one kind are asked: whether the table that `to` names takes the row. No range of the kind starts below `floor`.
 pub struct Ask {
     pub to: To,
+    pub floor: u64,
     pub range: PoolRow,
     pub row: RangeRow,
 }
@@ -63,14 +65,14 @@ pub struct Ask {
 // .. those of inputs.
 pub struct InputAsk {
     pub to: To,
+    pub floor: u64,
     pub range: PoolRow,
     pub row: InputRow,
 }
 
-// What comes of the answers: how many of the call's rows are stored, in their turn, and what is said.
+// What comes of the answers: what is said, and so whether all of the call's rows are stored, or none.
 pub struct Verdict {
     pub adds: Adds,
-    pub rows: u64,
     pub reply: Reply,
 }
 
@@ -147,33 +149,6 @@ pub fn goes(what: What, k: Kind) -> bool
     }
 }
 
-// In an MSI domain devices come first, then events, then LPIs.
-fn turn_in(k: Kind) -> u64
-    ensures { λ n. ⌜ n ≡ turnIn k ⌝ }
-{
-    match k {
-        Kind::Mmio => 0,
-        Kind::Pio => 0,
-        Kind::Input => 0,
-        Kind::Host => 0,
-        Kind::Device => 0,
-        Kind::Event => 1,
-        Kind::Lpi => 2,
-    }
-}
-
-// The turn of the row for the tables of kind `k`.
-pub fn turn(what: What, k: Kind) -> u64
-    ensures { λ n. ⌜ n ≡ turnOf what k ⌝ }
-{
-    match what {
-        What::Nothing => 0,
-        What::One(_) => 0,
-        What::Domain => turn_in(k),
-        What::Pair => 0,
-    }
-}
-
 // The range for the pools of a kind.
 pub fn range_for(q: Adds, k: Kind) -> PoolRow
     ensures { λ r. ⌜ r ≡ rangeFor q k ⌝ }
@@ -190,53 +165,6 @@ pub fn range_for(q: Adds, k: Kind) -> PoolRow
 }
 
 // ---- what comes of the answers
-
-// All rows, or none.
-pub fn whole(q: Adds, reply: Reply) -> Verdict
-    ensures { λ v. ⌜ v ≡ wholly q reply ⌝ }
-{
-    let mut rows: u64 = 0;
-    if reply.number == 0 {
-        rows = 3;
-    }
-    Verdict {
-        adds: q,
-        rows,
-        reply,
-    }
-}
-
-// Devices, events, LPIs: each range gets its own answer in its turn, and rows before a refused range stay.
-pub fn in_turn(q: Adds, device: Reply, event: Reply, lpi: Reply) -> Verdict
-    ensures { λ v. ⌜ v ≡ inTurn q device event lpi ⌝ }
-{
-    if device.number != 0 {
-        return Verdict {
-            adds: q,
-            rows: 0,
-            reply: device,
-        };
-    }
-    if event.number != 0 {
-        return Verdict {
-            adds: q,
-            rows: 1,
-            reply: event,
-        };
-    }
-    if lpi.number != 0 {
-        return Verdict {
-            adds: q,
-            rows: 2,
-            reply: lpi,
-        };
-    }
-    Verdict {
-        adds: q,
-        rows: 3,
-        reply: lpi,
-    }
-}
 
 // The answer of the one table that is asked.
 pub fn one(
@@ -262,7 +190,28 @@ pub fn one(
     }
 }
 
-// What comes of the answers of all tables: of a pair the earlier, and both rows or neither.
+// What is said: of the tables that are asked the answer whose turn comes first.
+fn earliest(
+    what: What,
+    mmio: Reply,
+    pio: Reply,
+    input: Reply,
+    host: Reply,
+    device: Reply,
+    event: Reply,
+    lpi: Reply,
+) -> Reply
+    ensures { λ r. ⌜ r ≡ earliestOf what mmio pio input host device event lpi ⌝ }
+{
+    match what {
+        What::Nothing => plain(0),
+        What::One(k) => one(k, mmio, pio, input, host, device, event, lpi),
+        What::Domain => earlier(device, earlier(event, lpi)),
+        What::Pair => earlier(input, host),
+    }
+}
+
+// What comes of the answers of all tables.
 pub fn judge(
     q: Adds,
     mmio: Reply,
@@ -276,12 +225,8 @@ pub fn judge(
     ensures { λ v. ⌜ v ≡ verdictOf q mmio pio input host device event lpi ⌝ }
 {
     let what = q.what;
-    match what {
-        What::Nothing => whole(q, plain(0)),
-        What::One(k) => whole(q, one(k, mmio, pio, input, host, device, event, lpi)),
-        What::Domain => in_turn(q, device, event, lpi),
-        What::Pair => whole(q, insert::earlier(input, host)),
-    }
+    let reply = earliest(what, mmio, pio, input, host, device, event, lpi);
+    Verdict { adds: q, reply }
 }
 
 // ---- what is stored
@@ -301,8 +246,7 @@ pub fn entered(t: Pool, put: PoolPut) -> Pool
     if !put.go {
         return t;
     }
-    let x = insert::insert_range(t, put.row);
-    x.pool
+    insert::insert_range(t, put.row)
 }
 
 // What is said.

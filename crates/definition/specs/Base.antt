@@ -31,7 +31,7 @@ leastOf p (x ∷ xs) = let rest : Option ℕ = leastOf p xs in elim (p x) [ true
 
 -- ---- refusals and answers
 pub data Refusal : Type 0 where  -- what stands behind a name is what it names: an owner, a namespace, a detail
-  malformed badInput badOwner emptyRange full badLine short : Refusal
+  malformed badInput badOwner emptyRange full badLine short badLpi : Refusal
   reserved : ℕ → Refusal  -- the owner
   fixedNotAllowed exhausted : ℕ → Refusal  -- the namespace
   conflict : ℕ → ℕ → ℕ → Refusal  -- namespace, owner, detail
@@ -61,6 +61,7 @@ tell i (conflict s o d) = says i 8 s o d
 tell i full = says i 9 0 0 0
 tell i badLine = says i 10 0 0 0
 tell i short = says i 11 0 0 0
+tell i badLpi = says i 12 0 0 0
 
 pub data Answer (A : Type 0) : Type 0 where
   accepted : A → Answer A

@@ -5,7 +5,7 @@ use Prim.Native.Nat.{ℕ, suc, _-_}
 use lib.ListN.{length, set, replicate}
 use Rattle.definition.specs.Base.{allOf, malformed, Said, silence, tell, Answer, accepted, refused, require, _then_}
 use Rattle.definition.specs.Tables.{poolLimit, rowLimit, Kind, sameKind, Span, Row, Table, used, blankSpan, blankRow, soundPool, soundHeld, soundOwners, begins}
-use Rattle.definition.specs.Pools.{In, Pool, spans, addRange, Holders, Claim, rowsOf, Hold, heldRows, reserve}
+use Rattle.definition.specs.Pools.{In, Pool, spans, entered, admit, Holders, Claim, rowsOf, Hold, heldRows, reserve}
 use Rattle.definition.specs.Request.{Request, Use, automatic, fixed, Pools, resolve}
 
 pub record State : Type 0 where  -- all tables, and beside them the five numbers of the last answer, which are handed in unjudged
@@ -75,6 +75,10 @@ abbrev pub pooling : Use → Kind → List Span → State → State
 pooling u k ps s =
     state (λ v j. elim (sameUse v u && sameKind j k) [ true ↦ stored ps | false ↦ s .pools v j ]) (s .held) (s .owners) silence
 
+unfoldable pub entering : Use → List (In Span) → State → State  -- each range goes into its pool table
+entering u [] s = saying silence s
+entering u (c ∷ cs) s = entering u cs (pooling u (c .kind) (entered (c .row) (used (s .pools u (c .kind)))) s)
+
 -- ---- the calls
 pub data Call : Type 0 where
   pool : Use → Pool → Call
@@ -86,16 +90,8 @@ abbrev pub settle : State → Answer State → State
 settle s (accepted s′) = s′
 settle s (refused x) = saying (tell 0 x) s
 
-unfoldable pub addAll : Use → List (In Span) → State → State  -- pool ranges in turn: each gets its own refusal, and rows added before a refused range stay
-addAll u [] s = saying silence s
-addAll u (c ∷ cs) s =
-    elim (addRange (c .kind) (c .row) (used (s .pools u (c .kind)))) [
-      | accepted ps ↦ addAll u cs (pooling u (c .kind) ps s)
-      | refused x ↦ saying (tell 0 x) s
-    ]
-
 unfoldable pub serve : List Kind → Call → State → State
-serve ks (pool u p) s = settle s (require (given ks s) malformed (accepted (addAll u (spans p) s)))
+serve ks (pool u p) s = settle s (require (given ks s) malformed (admit (poolsOf s u) (spans p) then λ cs. accepted (entering u cs s)))
 serve ks (hold o h) s = settle s (require (given ks s) malformed (reserve (heldOf s) (heldRows o h) then λ cs. accepted (holding cs s)))
 serve ks start s = settle s (require (given ks s) malformed (accepted (starting s)))
 serve ks (want request) s = settle s (require (sound ks s) malformed (resolve (poolsOf s) (ownersOf s) request then λ cs. accepted (granting cs s)))

@@ -1,14 +1,14 @@
--- 01's stand cases P1 to P10, as one table under one claim: pools and holds through the calls, a start, then the requests as a plan. Assumes nothing.
+-- 01's stand cases P1 to P10, as one table under one claim: pools and holds through the calls, a start, then the requests as a plan. Beside them what C-12 has said to pools and holds. Assumes nothing.
 use mathlib.Core.Path.{_≡_, refl}
 use mathlib.Core.List.{List, [], _∷_, map}
 use Prim.Native.Nat.{ℕ, _-_, _^_}
 use lib.Count.{onesIn}
 use lib.ListN.{replicate}
 use Rattle.definition.specs.Base.{anyOf, allOf, pairsOf, firstOf, lower, leastOf, tell, require}
-use Rattle.definition.specs.Tables.{kinds, sameKind, sameDom, within, sameSpan, sameRow, overlap, meets, joins, clash, tidy, fits, fitsSpan, goodRow, goodSpan, begins, inOrder, soundTable}
-use Rattle.definition.specs.Pools.{mmioPool, pioPool, hostPool, inputPool, msiPool, insert, unlessThere, addRange, rowsOf, _⊕_, room, mmioHold, hostHold, inputHold, eventHold, unreserved, allUnreserved, reserve}
+use Rattle.definition.specs.Tables.{kinds, sameKind, sameDom, within, sameSpan, sameRow, overlap, meets, joins, clash, tidy, fits, fitsSpan, floored, goodRow, goodSpan, begins, inOrder, soundTable}
+use Rattle.definition.specs.Pools.{mmioPool, pioPool, hostPool, inputPool, msiPool, insert, there, entered, hasPlace, admit, rowsOf, _⊕_, room, mmioHold, hostHold, inputHold, eventHold, lpiHold, unreserved, allUnreserved, reserve}
 use Rattle.definition.specs.Request.{auto, at, Want, mmioWant, pioWant, inputWant, hostWant, msiWant, Request, goodChoice, oneBit, goodWant, goodRequest, rowAt, aligned, holds, free, alignUp, candidates, lowest, allowed, unjoined, obstacle, detail, found, unopposed, automatic, fixed, place, claims, resolve}
-use Rattle.definition.specs.Calls.{State, fresh, givenAt, soundAt, given, sound, pushAll, Call, pool, hold, start, addAll, serve}
+use Rattle.definition.specs.Calls.{State, fresh, givenAt, soundAt, given, sound, pushAll, entering, Call, pool, hold, start, serve}
 use Rattle.definition.specs.Plan.{Run, done, stopped, run, roomy, planRun}
 
 -- the pools and the holds, the requests, and for each request answered the numbers granted behind a 0, or those of the refusal
@@ -71,10 +71,61 @@ cases =
     ∷ case (pool fixed (inputPool 0 32 33) ∷ held32 []) (inputWant 0 0 0 (at 32) ∷ []) ((8 ∷ 3 ∷ 7 ∷ 3 ∷ []) ∷ [])
     -- P9
     ∷ case (msi9 (hold 7 (eventHold 0 0 8 0 4) ∷ [])) (msiWant 0 0 1 auto auto auto ∷ []) ((7 ∷ 5 ∷ 0 ∷ 0 ∷ []) ∷ [])
+    -- C-12: a fixed LPI below 8192 lies in no pool
+    ∷ case (pool fixed (msiPool 0 0 8 10 0 4 8192 8200) ∷ []) (msiWant 0 0 1 (at 8) (at 0) (at 8191) ∷ []) ((6 ∷ 6 ∷ 0 ∷ 0 ∷ []) ∷ [])
     -- P10
     ∷ case (msi9 []) (msiWant 0 0 2 auto auto auto ∷ msiWant 0 0 2 auto auto auto ∷ []) ((0 ∷ 8 ∷ 0 ∷ 8192 ∷ []) ∷ (0 ∷ 9 ∷ 0 ∷ 8194 ∷ []) ∷ [])
     ∷ []
 
 pub stand-cases : map outcome cases ≡ map (λ stand. stand .answers) cases
-unfolding cases outcome anyOf allOf pairsOf firstOf lower leastOf sameKind sameDom within sameSpan sameRow overlap meets joins clash require tidy fits fitsSpan goodRow goodSpan begins inOrder soundTable insert unlessThere addRange rowsOf _⊕_ room unreserved allUnreserved reserve onesIn goodChoice oneBit goodWant goodRequest rowAt aligned holds free alignUp candidates lowest allowed unjoined obstacle detail found unopposed place claims resolve givenAt soundAt given sound pushAll addAll serve run roomy planRun made shown
+unfolding cases outcome anyOf allOf pairsOf firstOf lower leastOf sameKind sameDom within sameSpan sameRow overlap meets joins clash require tidy fits fitsSpan floored goodRow goodSpan begins inOrder soundTable insert there entered hasPlace admit rowsOf _⊕_ room unreserved allUnreserved reserve onesIn goodChoice oneBit goodWant goodRequest rowAt aligned holds free alignUp candidates lowest allowed unjoined obstacle detail found unopposed place claims resolve givenAt soundAt given sound pushAll entering serve run roomy planRun made shown
 stand-cases = refl
+
+-- ---- C-12: what is said to a call, after others
+
+pub record Told : Type 0 where
+  pub before : List Call
+  pub call : Call
+  pub number : ℕ
+
+abbrev told : List Call → Call → ℕ → Told
+told before call number = record { before = before; call = call; number = number }
+
+-- a domain with these LPIs
+abbrev lpis : ℕ → ℕ → Call
+lpis s e = pool automatic (msiPool 0 0 0 1 0 1 s e)
+
+abbrev holdLpis : ℕ → ℕ → Call
+holdLpis s e = hold 1 (lpiHold 0 s e)
+
+pub calls : List Told
+calls =
+    -- the start decides, wherever the range ends
+    told [] (lpis 0 1) 12
+    ∷ told [] (lpis 8191 8193) 12
+    ∷ told [] (lpis 8192 8193) 0
+    ∷ told [] (pool fixed (msiPool 3 2 0 1 0 1 8191 9000)) 12
+    ∷ told [] (holdLpis 0 1) 12
+    ∷ told [] (holdLpis 8191 8193) 12
+    ∷ told [] (holdLpis 8192 8193) 0
+    -- 2, then 4 if any range is empty, then 12
+    ∷ told [] (pool automatic (msiPool 0 0 0 0 0 1 0 (2 ^ 32))) 2
+    ∷ told [] (lpis 5 5) 4
+    ∷ told [] (lpis 9 5) 4
+    ∷ told [] (pool automatic (msiPool 0 0 0 1 0 0 0 1)) 4
+    ∷ told [] (pool automatic (msiPool 0 0 0 0 0 1 0 1)) 4
+    ∷ told [] (pool automatic (msiPool 0 0 0 1 0 0 8192 8193)) 4
+    -- 3, 4, 12, 5
+    ∷ told [] (hold 0 (lpiHold 0 0 1)) 3
+    ∷ told [] (holdLpis 9 5) 4
+    ∷ told (holdLpis 8192 8193 ∷ []) (holdLpis 8191 8193) 12
+    ∷ told (holdLpis 8192 8193 ∷ []) (holdLpis 8192 8193) 5
+    ∷ []
+
+pub answer : Told → ℕ
+unfolding made
+answer t = serve kinds (t .call) (made (t .before) fresh) .said .number
+
+pub stand-calls : map answer calls ≡ map (λ t. t .number) calls
+unfolding calls answer anyOf allOf pairsOf firstOf sameKind sameDom within sameSpan sameRow overlap meets joins clash require tidy fits fitsSpan floored goodRow goodSpan begins inOrder soundTable insert there entered hasPlace admit rowsOf room unreserved allUnreserved reserve givenAt given pushAll entering serve made
+stand-calls = refl

@@ -10,7 +10,7 @@ use lib.Dec.{T, ltb, ltb→lt, lt→ltb}
 use Rattle.definition.specs.Base.{allOf, pairsOf}
 use Rattle.definition.specs.BaseLaws.{and-l, and-r, and-i, T-true, T-false, not-T→, either, all-in, all-from}
 use Rattle.definition.specs.Tables.{rowLimit, Kind, sameKind, Row, clash}
-use Rattle.definition.specs.Pools.{Holders, Claim, rowsOf, _⊕_, room}
+use Rattle.definition.specs.Pools.{In, Holders, Claim, rowsOf, _⊕_, room}
 use Rattle.definition.specs.RowLaws.{same-kind, kind-same, clash-sym, Beside}
 
 -- ---- lists whose elements, or pairs of elements, all pass
@@ -32,7 +32,7 @@ pairs-append p (x ∷ xs) ys s t f =
 
 -- ---- the rows of one kind
 
-unfoldable pub otherKind : Claim → Claim → Bool
+unfoldable pub otherKind : {A : Type 0} → In A → In A → Bool
 otherKind a b = not (sameKind (a .kind) (b .kind))
 
 module _ (k : Kind) where
@@ -84,7 +84,7 @@ module _ (k : Kind) where
       go [] e = e
       go (r ∷ rs) e = let (d, m, q, g) = rows-in cs r (rw e (List·Memᴰ·head refl)) in absurd (f d m q)
 
-pub apart-kinds : (c d : Claim) → T (otherKind c d) → c .kind ≡ d .kind → ⊥
+pub apart-kinds : {A : Type 0} (c d : In A) → T (otherKind c d) → c .kind ≡ d .kind → ⊥
 unfolding otherKind
 apart-kinds c d o q = not-T→ (sameKind (c .kind) (d .kind)) o (subst (λ (j : Kind). T (sameKind (c .kind) j)) q (kind-same (c .kind)))
 

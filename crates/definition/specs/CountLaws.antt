@@ -11,13 +11,13 @@ use lib.Dec.{T, eqb, eqb→eq}
 use Rattle.definition.specs.BaseLaws.{T-true, T-false, either}
 use Rattle.definition.specs.Tables.{dom, Span, Kind, mmio, pio, host, device, event, lpi, kinds, sameKind, Table}
 use Rattle.definition.specs.Base.{Refusal, malformed, badInput, full, tell, Answer, accepted, refused, require, _then_}
-use Rattle.definition.specs.Pools.{In, at-kind, Pool, spans, Holders, Claim, rowsOf, _⊕_, room}
+use Rattle.definition.specs.Pools.{at-kind, Pool, spans, admit, Holders, Claim, rowsOf, _⊕_, room}
 use Rattle.definition.specs.Request.{Choice, Want, mmioWant, pioWant, inputWant, hostWant, msiWant, Request, goodRequest, Need, Use, Pools, place, need, inputNeed, one, claims, resolve}
-use Rattle.definition.specs.Calls.{State, poolsOf, ownersOf, given, sound, saying, pushAll, granting, pool, start, want, settle, addAll, serve}
+use Rattle.definition.specs.Calls.{State, poolsOf, ownersOf, given, sound, saying, pushAll, granting, entering, pool, start, want, settle, serve}
 use Rattle.definition.specs.Plan.{Grant, grant, Run, done, stopped, run, allRows, planRun, ended, plan}
 use Rattle.definition.specs.ClaimLaws.{rows-same, rows-other, rows-append}
 use Rattle.definition.specs.RequestLaws.{then-accepted, require-accepted}
-use Rattle.definition.specs.StateLaws.{add-given}
+use Rattle.definition.specs.StateLaws.{admitted-given}
 use Rattle.definition.specs.RunLaws.{run-accepted, run-refused, not-done, after-done}
 use Rattle.definition.specs.PlanLaws.{tell-number, plan-says, start-is}
 use Rattle.definition.specs.ResolveLaws.{kindsOf}
@@ -121,8 +121,8 @@ unfolding pushAll
 push-count t [] = omega arith
 push-count t (r ∷ rs) = push-count (record { count = suc (t .count); rows = set (t .rows) (t .count) r }) rs ∙ omega arith
 
-add-owners : (u : Use) (cs : List (In Span)) (s : State) → addAll u cs s .owners ≡ s .owners
-add-owners u cs s = add-given [] u cs s (λ k m. absurd (List·Memᴰ·not-nil m)) .owners
+pool-owners : (u : Use) (p : Pool) (s : State) → settle s (admit (poolsOf s u) (spans p) then λ cs. accepted (entering u cs s)) .owners ≡ s .owners
+pool-owners u p s = admitted-given [] u p s (λ k m. absurd (List·Memᴰ·not-nil m)) .owners
 
 refused-none : (i : ℕ) (x : Refusal) (s : State) (n : ℕ) → if-accepted (saying (tell i x) s) n ≡ 0
 refused-none i x s n = rw (T-false (eqb (tell i x .number) 0) (λ t. tell-number i x (eqb→eq (tell i x .number) 0 t)), if-accepted)
@@ -132,8 +132,8 @@ pub step-count : (k : Kind) (x : Step) (s : State) → step x s .owners k .count
 unfolding serve plan require asked
 step-count k (more u p) s = go (given kinds s)
   where
-    go : (b : Bool) → settle s (require b malformed (accepted (addAll u (spans p) s))) .owners k .count ≡ s .owners k .count + 0
-    go true = rw (add-owners u (spans p) s) (omega arith)
+    go : (b : Bool) → settle s (require b malformed (admit (poolsOf s u) (spans p) then λ cs. accepted (entering u cs s))) .owners k .count ≡ s .owners k .count + 0
+    go true = rw (pool-owners u p s) (omega arith)
     go false = omega arith
 step-count k (ask r) s = go (sound kinds s) (resolve (poolsOf s) (ownersOf s) r) refl
   where

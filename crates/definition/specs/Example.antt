@@ -6,10 +6,10 @@ use lib.Count.{onesIn}
 use lib.Dec.{lit≤}
 use lib.ListN.{getD, replicate}
 use Rattle.definition.specs.Base.{anyOf, allOf, pairsOf, firstOf, lower, leastOf, require}
-use Rattle.definition.specs.Tables.{kinds, sameKind, sameDom, within, sameSpan, sameRow, overlap, meets, joins, clash, tidy, fits, fitsSpan, goodRow, goodSpan, begins, inOrder, soundTable}
-use Rattle.definition.specs.Pools.{mmioPool, pioPool, hostPool, inputPool, msiPool, insert, unlessThere, addRange, rowsOf, _⊕_, room, mmioHold, inputHold, unreserved, allUnreserved, reserve}
+use Rattle.definition.specs.Tables.{kinds, sameKind, sameDom, within, sameSpan, sameRow, overlap, meets, joins, clash, tidy, fits, fitsSpan, floored, goodRow, goodSpan, begins, inOrder, soundTable}
+use Rattle.definition.specs.Pools.{mmioPool, pioPool, hostPool, inputPool, msiPool, insert, there, entered, hasPlace, admit, rowsOf, _⊕_, room, mmioHold, inputHold, unreserved, allUnreserved, reserve}
 use Rattle.definition.specs.Request.{auto, at, Want, mmioWant, pioWant, inputWant, hostWant, msiWant, Request, goodChoice, oneBit, goodWant, goodRequest, rowAt, aligned, holds, free, alignUp, candidates, lowest, allowed, unjoined, obstacle, detail, found, unopposed, Use, automatic, fixed, place, claims, resolve}
-use Rattle.definition.specs.Calls.{State, fresh, poolsOf, givenAt, soundAt, given, sound, pushAll, granting, starting, Call, pool, hold, start, addAll, serve}
+use Rattle.definition.specs.Calls.{State, fresh, poolsOf, givenAt, soundAt, given, sound, pushAll, granting, starting, Call, pool, hold, start, entering, serve}
 use Rattle.definition.specs.Plan.{Grant, grant, run, recordOf, records, written, lent, allRows, roomy, planRun, grantsOf, plan, pinWant, pinned}
 use Rattle.definition.specs.RequestLaws.{AutoInFixed, insideOne, autoInFixed, inside-says}
 use Rattle.definition.specs.ReplayLaws.{now, later, Pick, stop, pick}
@@ -27,7 +27,7 @@ abbrev both : Use → List Call → List Call
 both u cs = pool u (mmioPool 0x1000 0x3000) ∷ pool u (pioPool 0x60 0x70) ∷ pool u (hostPool 40 42) ∷ pool u (inputPool 1 32 34) ∷ pool u (msiPool 1 2 8 10 0 4 8192 8200) ∷ cs
 
 stand : State
-unfolding made anyOf allOf pairsOf firstOf sameKind sameDom within sameSpan sameRow overlap meets joins clash require tidy fits fitsSpan goodRow goodSpan begins inOrder soundTable insert unlessThere addRange rowsOf room unreserved allUnreserved reserve givenAt given pushAll addAll serve
+unfolding made anyOf allOf pairsOf firstOf sameKind sameDom within sameSpan sameRow overlap meets joins clash require tidy fits fitsSpan floored goodRow goodSpan begins inOrder soundTable insert there entered hasPlace admit rowsOf room unreserved allUnreserved reserve givenAt given pushAll entering serve
 stand = made (both automatic (both fixed (hold 7 (mmioHold 0x1000 0x1800) ∷ hold 7 (inputHold 1 32 0 1) ∷ []))) fresh
 
 -- all five kinds, an input that is shared, two MSI lines
@@ -40,11 +40,11 @@ results : List ℕ
 results = replicate 63 0
 
 was-accepted : plan lines (serve kinds start stand) results .state .said .number ≡ 0
-unfolding plan records recordOf stand lines results made anyOf allOf pairsOf firstOf lower leastOf sameKind sameDom within sameSpan sameRow overlap meets joins clash require tidy fits fitsSpan goodRow goodSpan begins inOrder soundTable insert unlessThere addRange rowsOf _⊕_ room unreserved allUnreserved reserve onesIn goodChoice oneBit goodWant goodRequest rowAt aligned holds free alignUp candidates lowest allowed unjoined obstacle detail found unopposed place claims resolve givenAt soundAt given sound pushAll addAll serve run roomy planRun
+unfolding plan records recordOf stand lines results made anyOf allOf pairsOf firstOf lower leastOf sameKind sameDom within sameSpan sameRow overlap meets joins clash require tidy fits fitsSpan floored goodRow goodSpan begins inOrder soundTable insert there entered hasPlace admit rowsOf _⊕_ room unreserved allUnreserved reserve onesIn goodChoice oneBit goodWant goodRequest rowAt aligned holds free alignUp candidates lowest allowed unjoined obstacle detail found unopposed place claims resolve givenAt soundAt given sound pushAll entering serve run roomy planRun
 was-accepted = refl
 
 granted : List Grant
-unfolding stand lines results made anyOf allOf pairsOf firstOf lower leastOf sameKind sameDom within sameSpan sameRow overlap meets joins clash require tidy fits fitsSpan goodRow goodSpan begins inOrder soundTable insert unlessThere addRange rowsOf _⊕_ room unreserved allUnreserved reserve onesIn goodChoice oneBit goodWant goodRequest rowAt aligned holds free alignUp candidates lowest allowed unjoined obstacle detail found unopposed place claims resolve givenAt soundAt given sound pushAll addAll serve run roomy planRun
+unfolding stand lines results made anyOf allOf pairsOf firstOf lower leastOf sameKind sameDom within sameSpan sameRow overlap meets joins clash require tidy fits fitsSpan floored goodRow goodSpan begins inOrder soundTable insert there entered hasPlace admit rowsOf _⊕_ room unreserved allUnreserved reserve onesIn goodChoice oneBit goodWant goodRequest rowAt aligned holds free alignUp candidates lowest allowed unjoined obstacle detail found unopposed place claims resolve givenAt soundAt given sound pushAll entering serve run roomy planRun
 granted = grantsOf (planRun lines (serve kinds start stand) results)
 
 nothing : Grant
@@ -56,12 +56,12 @@ unfolding granted nothing
 chosen = getD granted 6 nothing ∷ getD granted 2 nothing ∷ getD granted 4 nothing ∷ getD granted 0 nothing ∷ []
 
 picked : Pick chosen (grantsOf (planRun lines (serve kinds start stand) results))
-unfolding chosen granted stand lines results nothing made anyOf allOf pairsOf firstOf lower leastOf sameKind sameDom within sameSpan sameRow overlap meets joins clash require tidy fits fitsSpan goodRow goodSpan begins inOrder soundTable insert unlessThere addRange rowsOf _⊕_ room unreserved allUnreserved reserve onesIn goodChoice oneBit goodWant goodRequest rowAt aligned holds free alignUp candidates lowest allowed unjoined obstacle detail found unopposed place claims resolve givenAt soundAt given sound pushAll addAll serve run roomy planRun
+unfolding chosen granted stand lines results nothing made anyOf allOf pairsOf firstOf lower leastOf sameKind sameDom within sameSpan sameRow overlap meets joins clash require tidy fits fitsSpan floored goodRow goodSpan begins inOrder soundTable insert there entered hasPlace admit rowsOf _⊕_ room unreserved allUnreserved reserve onesIn goodChoice oneBit goodWant goodRequest rowAt aligned holds free alignUp candidates lowest allowed unjoined obstacle detail found unopposed place claims resolve givenAt soundAt given sound pushAll entering serve run roomy planRun
 picked = pick (later (later (later (later (later (later now)))))) (pick (later (later now)) (pick (later (later (later now))) (pick now stop)))
 
 -- each automatic range is a fixed one too
 inside : AutoInFixed (poolsOf stand)
-unfolding autoInFixed insideOne stand made anyOf allOf pairsOf firstOf lower leastOf sameKind sameDom within sameSpan sameRow overlap meets joins clash require tidy fits fitsSpan goodRow goodSpan begins inOrder soundTable insert unlessThere addRange rowsOf _⊕_ room unreserved allUnreserved reserve onesIn goodChoice oneBit goodWant goodRequest rowAt aligned holds free alignUp candidates lowest allowed unjoined obstacle detail found unopposed place claims resolve givenAt soundAt given sound pushAll addAll serve run roomy planRun
+unfolding autoInFixed insideOne stand made anyOf allOf pairsOf firstOf lower leastOf sameKind sameDom within sameSpan sameRow overlap meets joins clash require tidy fits fitsSpan floored goodRow goodSpan begins inOrder soundTable insert there entered hasPlace admit rowsOf _⊕_ room unreserved allUnreserved reserve onesIn goodChoice oneBit goodWant goodRequest rowAt aligned holds free alignUp candidates lowest allowed unjoined obstacle detail found unopposed place claims resolve givenAt soundAt given sound pushAll entering serve run roomy planRun
 inside = inside-says (poolsOf stand) tt
 
 -- demand 3 applied: the four lines, pinned, from the same pools and reservations
@@ -82,13 +82,13 @@ numbers : records chosen ≡
     ∷ 3 ∷ 3 ∷ 3 ∷ 1 ∷ 32 ∷ 0 ∷ 1 ∷ 0 ∷ 0
     ∷ 2 ∷ 3 ∷ 5 ∷ 0x60 ∷ 4 ∷ 0 ∷ 0 ∷ 0 ∷ 0
     ∷ 5 ∷ 3 ∷ 1 ∷ 1 ∷ 2 ∷ 8 ∷ 0 ∷ 8192 ∷ 2 ∷ []
-unfolding chosen granted nothing records recordOf stand lines results made anyOf allOf pairsOf firstOf lower leastOf sameKind sameDom within sameSpan sameRow overlap meets joins clash require tidy fits fitsSpan goodRow goodSpan begins inOrder soundTable insert unlessThere addRange rowsOf _⊕_ room unreserved allUnreserved reserve onesIn goodChoice oneBit goodWant goodRequest rowAt aligned holds free alignUp candidates lowest allowed unjoined obstacle detail found unopposed place claims resolve givenAt soundAt given sound pushAll addAll serve run roomy planRun
+unfolding chosen granted nothing records recordOf stand lines results made anyOf allOf pairsOf firstOf lower leastOf sameKind sameDom within sameSpan sameRow overlap meets joins clash require tidy fits fitsSpan floored goodRow goodSpan begins inOrder soundTable insert there entered hasPlace admit rowsOf _⊕_ room unreserved allUnreserved reserve onesIn goodChoice oneBit goodWant goodRequest rowAt aligned holds free alignUp candidates lowest allowed unjoined obstacle detail found unopposed place claims resolve givenAt soundAt given sound pushAll entering serve run roomy planRun
 numbers = refl
 
 -- ---- where an automatic range lies in no fixed one, the plan is accepted and its pinned line is refused
 
 narrow : State
-unfolding made anyOf allOf pairsOf firstOf lower leastOf sameKind sameDom within sameSpan sameRow overlap meets joins clash require tidy fits fitsSpan goodRow goodSpan begins inOrder soundTable insert unlessThere addRange rowsOf _⊕_ room unreserved allUnreserved reserve onesIn goodChoice oneBit goodWant goodRequest rowAt aligned holds free alignUp candidates lowest allowed unjoined obstacle detail found unopposed place claims resolve givenAt soundAt given sound pushAll addAll serve run roomy planRun
+unfolding made anyOf allOf pairsOf firstOf lower leastOf sameKind sameDom within sameSpan sameRow overlap meets joins clash require tidy fits fitsSpan floored goodRow goodSpan begins inOrder soundTable insert there entered hasPlace admit rowsOf _⊕_ room unreserved allUnreserved reserve onesIn goodChoice oneBit goodWant goodRequest rowAt aligned holds free alignUp candidates lowest allowed unjoined obstacle detail found unopposed place claims resolve givenAt soundAt given sound pushAll entering serve run roomy planRun
 narrow = serve kinds (pool automatic (mmioPool 0x1000 0x3000)) fresh
 
 abbrev only : List Request
@@ -96,5 +96,5 @@ only = line 1 (mmioWant 0x100 0x100 auto) ∷ []
 
 not-inside : (plan only (serve kinds start narrow) results .state .said .number ≡ 0)
     × (plan (map pinned (grantsOf (planRun only (serve kinds start narrow) results))) (serve kinds start narrow) results .state .said .number ≡ 6)
-unfolding plan records recordOf pinned pinWant narrow results made anyOf allOf pairsOf firstOf lower leastOf sameKind sameDom within sameSpan sameRow overlap meets joins clash require tidy fits fitsSpan goodRow goodSpan begins inOrder soundTable insert unlessThere addRange rowsOf _⊕_ room unreserved allUnreserved reserve onesIn goodChoice oneBit goodWant goodRequest rowAt aligned holds free alignUp candidates lowest allowed unjoined obstacle detail found unopposed place claims resolve givenAt soundAt given sound pushAll addAll serve run roomy planRun
+unfolding plan records recordOf pinned pinWant narrow results made anyOf allOf pairsOf firstOf lower leastOf sameKind sameDom within sameSpan sameRow overlap meets joins clash require tidy fits fitsSpan floored goodRow goodSpan begins inOrder soundTable insert there entered hasPlace admit rowsOf _⊕_ room unreserved allUnreserved reserve onesIn goodChoice oneBit goodWant goodRequest rowAt aligned holds free alignUp candidates lowest allowed unjoined obstacle detail found unopposed place claims resolve givenAt soundAt given sound pushAll entering serve run roomy planRun
 not-inside = (refl, refl)

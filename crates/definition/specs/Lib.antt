@@ -20,11 +20,12 @@ pub mod MsiRefusalLaws
 pub mod StateLaws
 pub mod ServeLaws
 pub mod RefusedLaws
-pub mod HaltLaws
+pub mod WholeLaws
 pub mod RunLaws
 pub mod ReplayLaws
 pub mod PickLaws
 pub mod PlanLaws
+pub mod FloorLaws
 pub mod WipeLaws
 pub mod CutLaws
 pub mod CountLaws

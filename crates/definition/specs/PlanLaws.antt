@@ -9,7 +9,7 @@ use lib.ListN.{length, take, length-map, length-take}
 use lib.Dec.{T, leb, leb→le, le→leb}
 use Rattle.definition.specs.BaseLaws.{and-l, and-r, and-i, either}
 use Rattle.definition.specs.Tables.{planLimit, recordSize, Kind, kinds}
-use Rattle.definition.specs.Base.{Refusal, malformed, badInput, badOwner, emptyRange, full, badLine, short, reserved, fixedNotAllowed, exhausted, conflict, Said, says, silence, tell, Answer, accepted, refused, require, _then_}
+use Rattle.definition.specs.Base.{Refusal, malformed, badInput, badOwner, emptyRange, full, badLine, short, badLpi, reserved, fixedNotAllowed, exhausted, conflict, Said, says, silence, tell, Answer, accepted, refused, require, _then_}
 use Rattle.definition.specs.Pools.{Claim, rowsOf, _⊕_, Hold, heldRows, reserve}
 use Rattle.definition.specs.Request.{Request, resolve}
 use Rattle.definition.specs.Calls.{State, state, poolsOf, heldOf, ownersOf, given, sound, saying, pushAll, holding, granting, starting, hold, start, want, settle, serve}
@@ -17,7 +17,7 @@ use Rattle.definition.specs.Plan.{Grant, Run, done, stopped, run, record
 use Rattle.definition.specs.RowLaws.{every-kind}
 use Rattle.definition.specs.ClaimLaws.{Fits, length-put, rows-append}
 use Rattle.definition.specs.TableLaws.{push-append}
-use Rattle.definition.specs.RequestLaws.{require-accepted, required, AutoInFixed, Wide}
+use Rattle.definition.specs.RequestLaws.{require-accepted, required, AutoInFixed, Bounded}
 use Rattle.definition.specs.StateLaws.{Sound, GivenFor, SoundFor, given-for, for-given, sound-for, for-sound, sound-saying, sound-ground, sound-fits, granting-sound, settle-malformed}
 use Rattle.definition.specs.RunLaws.{run-take, run-requests, run-kept, Sounds, not-done}
 use Rattle.definition.specs.ReplayLaws.{Pick, pick-length, Ready, run-ready, kept, replay-run, kept-rows, kept-records}
@@ -33,6 +33,7 @@ tell-number i emptyRange e = omega arith
 tell-number i full e = omega arith
 tell-number i badLine e = omega arith
 tell-number i short e = omega arith
+tell-number i badLpi e = omega arith
 tell-number i (reserved o) e = omega arith
 tell-number i (fixedNotAllowed s) e = omega arith
 tell-number i (exhausted s) e = omega arith
@@ -47,6 +48,7 @@ told-at i emptyRange = refl
 told-at i full = refl
 told-at i badLine = refl
 told-at i short = refl
+told-at i badLpi = refl
 told-at i (reserved o) = refl
 told-at i (fixedNotAllowed s) = refl
 told-at i (exhausted s) = refl
@@ -156,8 +158,8 @@ plan-requests rs s out gs e = run-requests (poolsOf s) rs (ownersOf s) gs (plan-
 pub all-sounds : (s : State) → SoundFor kinds s → Sounds (ownersOf s)
 all-sounds s h k = (sound-ground s k (h k (every-kind k))) .1
 
-pub all-wide : (s : State) → SoundFor kinds s → (k : Kind) → Wide (poolsOf s) k
-all-wide s h k = (sound-ground s k (h k (every-kind k))) .0
+pub all-bounded : (s : State) → SoundFor kinds s → (k : Kind) → Bounded (poolsOf s) k
+all-bounded s h k = (sound-ground s k (h k (every-kind k))) .0
 
 pub all-fits : (s : State) → SoundFor kinds s → Fits (ownersOf s)
 unfolding Fits
@@ -168,7 +170,7 @@ pub run-done : (rs : List Request) (s : State) (gs : List Grant) → SoundFor ki
     → (k : Kind) → Sound (granting (allRows gs) s) k × (ownersOf (granting (allRows gs) s) k ≡ (ownersOf s ⊕ allRows gs) k)
 unfolding Fits
 run-done rs s gs h e k =
-    let (rows, few) = run-kept (poolsOf s) (all-wide s h) rs (ownersOf s) gs (all-sounds s h) (all-fits s h) e in
+    let (rows, few) = run-kept (poolsOf s) (all-bounded s h) rs (ownersOf s) gs (all-sounds s h) (all-fits s h) e in
     granting-sound s (allRows gs) k (h k (every-kind k)) (omega (arith, few k, length-put (ownersOf s) (allRows gs) k)) (rows k)
 
 pub plan-done : (rs : List Request) (s : State) (out : List ℕ) (gs : List Grant) → planRun rs s out ≡ done gs
@@ -228,7 +230,7 @@ module _ (s t : State) (rs : List Request) (out : List ℕ) (ps : List Grant) (o
       let j : T (sound kinds (starting s)) = rw is at (d .judged) in
       let h : SoundFor kinds (starting s) = sound-for kinds (starting s) j in
       let ran : run (poolsOf (starting s)) (ownersOf (starting s)) rs ≡ done gs = subst (λ (x : State). run (poolsOf x) (ownersOf x) rs ≡ done gs) is (d .ran) in
-      let ready : Ready (poolsOf (starting s)) (ownersOf (starting s)) gs = run-ready (poolsOf (starting s)) (all-wide (starting s) h) (a .inside) rs (ownersOf (starting s)) gs (all-sounds (starting s) h) (all-fits (starting s) h) ran in
+      let ready : Ready (poolsOf (starting s)) (ownersOf (starting s)) gs = run-ready (poolsOf (starting s)) (all-bounded (starting s) h) (a .inside) rs (ownersOf (starting s)) gs (all-sounds (starting s) h) (all-fits (starting s) h) ran in
       let few : length gs ≡ length rs = sym (length-map gs (λ g. g .request)) ∙ ap length (run-requests (poolsOf (starting s)) rs (ownersOf (starting s)) gs ran) in
       let n : length (map pinned ps) ≡ length ps = length-map ps pinned in (
         is′,

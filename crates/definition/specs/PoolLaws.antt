@@ -1,4 +1,4 @@
--- Adding a pool range keeps a pool table's rows good and in order; adding reservations keeps theirs good and apart. Assumes nothing.
+-- Adding pool ranges keeps a pool table's rows good and in order; adding reservations keeps theirs good and apart. Assumes nothing.
 use mathlib.Core.Path.{_≡_, refl, subst, ap, _∙_}
 use mathlib.Core.Logic.{_⊎_, inl, inr}
 use mathlib.Core.Bool.{Bool, true, false, not, _&&_, _||_}
@@ -8,10 +8,10 @@ use Prim.Native.Nat.{ℕ, suc, _≤_}
 use native.Mathlib.Omega.{arith}
 use lib.ListN.{length}
 use lib.Dec.{T, leb, ltb, leb→le, nltb→le, ltb→lt, le→leb}
-use Rattle.definition.specs.Base.{anyOf, allOf, pairsOf, firstOf, badInput, badOwner, emptyRange, full, Answer, accepted}
+use Rattle.definition.specs.Base.{anyOf, allOf, pairsOf, firstOf, badInput, badOwner, emptyRange, full, badLpi, Answer, accepted}
 use Rattle.definition.specs.BaseLaws.{and-l, and-r, and-i, or-l, or-r, or-cases, T-true, T-false, not-T→, →not-T, either, in-any, all-in, all-from, none-first}
-use Rattle.definition.specs.Tables.{poolLimit, Kind, sameKind, Span, sameDom, sameSpan, Row, meets, fits, fitsSpan, goodRow, goodSpan, inOrder}
-use Rattle.definition.specs.Pools.{insert, unlessThere, addRange, Holders, Claim, room, Hold, mmioHold, pioHold, hostHold, inputHold, deviceHold, eventHold, lpiHold, pairHold, heldRows, unreserved, allUnreserved, reserve}
+use Rattle.definition.specs.Tables.{poolLimit, Kind, sameKind, Span, sameDom, sameSpan, Row, meets, fits, fitsSpan, floored, goodRow, goodSpan, inOrder}
+use Rattle.definition.specs.Pools.{In, Pool, mmioPool, pioPool, hostPool, inputPool, msiPool, spans, insert, there, entered, hasPlace, admit, Holders, Claim, room, Hold, mmioHold, pioHold, hostHold, inputHold, deviceHold, eventHold, lpiHold, pairHold, heldRows, unreserved, allUnreserved, reserve}
 use Rattle.definition.specs.RowLaws.{dom-sym, dom-trans, span-eq, span-refl}
 use Rattle.definition.specs.ClaimLaws.{otherKind}
 use Rattle.definition.specs.RequestLaws.{not-accepted, require-accepted, required}
@@ -107,7 +107,7 @@ module _ (p : Span) where
       go t₁ t₂ below (inr u) = rw (insert-past x xs u)
           (and-i (allOf (inOrder x) (insert p xs)) (pairsOf inOrder (insert p xs)) (insert-all (inOrder x) (after u) xs t₁) below)
 
--- ---- adding a range
+-- ---- one range more
 
 -- the rows of a sound pool table
 pub record SoundSpans (k : Kind) (ps : List Span) : Type 0 where
@@ -115,32 +115,51 @@ pub record SoundSpans (k : Kind) (ps : List Span) : Type 0 where
   pub goods : T (allOf (goodSpan k) ps)
   pub order : T (pairsOf inOrder ps)
 
-pub range-added : (k : Kind) (p : Span) (ps qs : List Span) → SoundSpans k ps → addRange k p ps ≡ accepted qs → SoundSpans k qs
-unfolding addRange unlessThere goodSpan
-range-added k p ps qs s e =
-    let (f, e₁) = require-accepted (fitsSpan k p) badInput _ e in
-    let (l, e₂) = require-accepted (ltb (p .start) (p .end)) emptyRange _ e₁ in
-    go (and-i (fitsSpan k p) (ltb (p .start) (p .end)) f l) (anyOf (sameSpan p) ps) refl e₂
+pub entered-sound : (k : Kind) (p : Span) (ps : List Span) → SoundSpans k ps → T (goodSpan k p) → T (hasPlace p ps) → SoundSpans k (entered p ps)
+unfolding entered hasPlace there
+entered-sound k p ps s g t = go (anyOf (sameSpan p) ps) refl t
   where
-    go : T (goodSpan k p) → (b : Bool) → anyOf (sameSpan p) ps ≡ b → unlessThere b p ps ≡ accepted qs → SoundSpans k qs
-    go g true q h = let z : ps ≡ qs = cc in rw z at s
-    go g false q h =
-        let (few, h₁) = require-accepted (ltb (length ps) poolLimit) full _ h in
-        let z : insert p ps ≡ qs = cc in
-        let here : SoundSpans k (insert p ps) = record {
-          few = omega (arith, insert-length p ps, ltb→lt (length ps) poolLimit few);
-          goods = insert-all p (goodSpan k) g ps (s .goods);
-          order = insert-order p ps (λ x m u. subst T q (in-any (sameSpan p) m u)) (s .order);
-        } in
-        rw z at here
+    go : (b : Bool) → anyOf (sameSpan p) ps ≡ b → T (b || ltb (length ps) poolLimit) → SoundSpans k (elim b [ true ↦ ps | false ↦ insert p ps ])
+    go true q h = s
+    go false q h = record {
+      few = omega (arith, insert-length p ps, ltb→lt (length ps) poolLimit h);
+      goods = insert-all p (goodSpan k) g ps (s .goods);
+      order = insert-order p ps (λ x m u. subst T q (in-any (sameSpan p) m u)) (s .order);
+    }
 
--- an exact duplicate adds no row, even to a full table
-pub range-there : (k : Kind) (p : Span) (ps : List Span) → T (goodSpan k p) → T (anyOf (sameSpan p) ps) → addRange k p ps ≡ accepted ps
-unfolding addRange unlessThere goodSpan
-range-there k p ps g t =
-    required (fitsSpan k p) badInput _ (and-l (fitsSpan k p) (ltb (p .start) (p .end)) g)
-    ∙ required (ltb (p .start) (p .end)) emptyRange _ (and-r (fitsSpan k p) (ltb (p .start) (p .end)) g)
-    ∙ rw (T-true (anyOf (sameSpan p) ps) t)
+-- an exact duplicate adds no row, and needs none, even in a full table
+pub entered-there : (p : Span) (ps : List Span) → T (there p ps) → (entered p ps ≡ ps) × T (hasPlace p ps)
+unfolding entered hasPlace
+entered-there p ps t = (rw (T-true (there p ps) t, entered), or-l (there p ps) (ltb (length ps) poolLimit) t)
+
+pub entered-new : (p : Span) (ps : List Span) → (T (there p ps) → ⊥) → entered p ps ≡ insert p ps
+unfolding entered
+entered-new p ps n = rw (T-false (there p ps) n, entered)
+
+-- ---- adding ranges
+
+-- each range is good, and there is a place for it
+pub record Admitted (P : Kind → List Span) (cs : List (In Span)) : Type 0 where
+  pub goods : (c : In Span) → List·Memᴰ c cs → T (goodSpan (c .kind) (c .row))
+  pub places : (c : In Span) → List·Memᴰ c cs → T (hasPlace (c .row) (P (c .kind)))
+
+pub admit-says : (P : Kind → List Span) (cs ds : List (In Span)) → admit P cs ≡ accepted ds → (cs ≡ ds) × Admitted P cs
+unfolding admit goodSpan
+admit-says P cs ds e =
+    let (f, e₁) = require-accepted (allOf (λ c. fitsSpan (c .kind) (c .row)) cs) badInput _ e in
+    let (l, e₂) = require-accepted (allOf (λ c. ltb (c .row .start) (c .row .end)) cs) emptyRange _ e₁ in
+    let (o, e₃) = require-accepted (allOf (λ c. floored (c .kind) (c .row .start)) cs) badLpi _ e₂ in
+    let (r, e₄) = require-accepted (allOf (λ c. hasPlace (c .row) (P (c .kind))) cs) full (accepted cs) e₃ in (
+      cc,
+      record {
+        goods = λ c m.
+            let f₁ : T (fitsSpan (c .kind) (c .row)) = all-in (λ c. fitsSpan (c .kind) (c .row)) m f in
+            let l₁ : T (ltb (c .row .start) (c .row .end)) = all-in (λ c. ltb (c .row .start) (c .row .end)) m l in
+            let o₁ : T (floored (c .kind) (c .row .start)) = all-in (λ c. floored (c .kind) (c .row .start)) m o in
+            search (and-i);
+        places = λ c m. all-in (λ c. hasPlace (c .row) (P (c .kind))) m r;
+      },
+    )
 
 -- ---- reservations
 
@@ -173,14 +192,16 @@ reserve-says R cs ds e =
     let (f, e₁) = require-accepted (allOf (λ c. fits (c .kind) (c .row)) cs) badInput _ e in
     let (o, e₂) = require-accepted (allOf (λ c. ltb 0 (c .row .owner)) cs) badOwner _ e₁ in
     let (l, e₃) = require-accepted (allOf (λ c. ltb (c .row .start) (c .row .end)) cs) emptyRange _ e₂ in
-    let (u, e₄) = all-unreserved R cs _ e₃ in
-    let (r, e₅) = require-accepted (room R cs) full (accepted cs) e₄ in (
+    let (v, e₄) = require-accepted (allOf (λ c. floored (c .kind) (c .row .start)) cs) badLpi _ e₃ in
+    let (u, e₅) = all-unreserved R cs _ e₄ in
+    let (r, e₆) = require-accepted (room R cs) full (accepted cs) e₅ in (
       cc,
       record {
         goods = λ c m.
             let f₁ : T (fits (c .kind) (c .row)) = all-in (λ c. fits (c .kind) (c .row)) m f in
             let o₁ : T (ltb 0 (c .row .owner)) = all-in (λ c. ltb 0 (c .row .owner)) m o in
             let l₁ : T (ltb (c .row .start) (c .row .end)) = all-in (λ c. ltb (c .row .start) (c .row .end)) m l in
+            let v₁ : T (floored (c .kind) (c .row .start)) = all-in (λ c. floored (c .kind) (c .row .start)) m v in
             search (and-i);
         unmet = u;
         has-room = r;
@@ -198,3 +219,12 @@ held-apart o (deviceHold c i s e) = tt
 held-apart o (eventHold c i d s e) = tt
 held-apart o (lpiHold c s e) = tt
 held-apart o (pairHold c n t h) = tt
+
+-- .. nor adds two ranges to one
+pub spans-apart : (p : Pool) → T (pairsOf otherKind (spans p))
+unfolding pairsOf allOf otherKind sameKind
+spans-apart (mmioPool s e) = tt
+spans-apart (pioPool s e) = tt
+spans-apart (hostPool s e) = tt
+spans-apart (inputPool c s e) = tt
+spans-apart (msiPool c i ds de es ee ls le) = tt

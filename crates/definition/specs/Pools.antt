@@ -1,12 +1,12 @@
 -- Adding a pool range, an MSI domain, a reservation, over the used rows of the tables. Assumes nothing.
-use mathlib.Core.Bool.{Bool, true, false, _&&_}
+use mathlib.Core.Bool.{Bool, true, false, _&&_, _||_}
 use mathlib.Core.List.{List, [], _∷_, _++_}
 use mathlib.Core.Option.{Option, none, some}
 use Prim.Native.Nat.{ℕ, suc, min}
 use lib.Dec.{ltb}
 use lib.ListN.{length}
-use Rattle.definition.specs.Base.{anyOf, allOf, firstOf, badInput, badOwner, emptyRange, full, reserved, Answer, accepted, refused, require}
-use Rattle.definition.specs.Tables.{poolLimit, rowLimit, dom, Kind, mmio, pio, input, host, device, event, lpi, nature, sameKind, Span, span, sameDom, sameSpan, Row, rangeRow, wiredRow, meets, fits, fitsSpan}
+use Rattle.definition.specs.Base.{anyOf, allOf, firstOf, badInput, badOwner, emptyRange, full, badLpi, reserved, Answer, accepted, refused, require}
+use Rattle.definition.specs.Tables.{poolLimit, rowLimit, dom, Kind, mmio, pio, input, host, device, event, lpi, nature, sameKind, Span, span, sameDom, sameSpan, Row, rangeRow, wiredRow, meets, fits, fitsSpan, floored}
 
 pub record In (A : Type 0) : Type 0 where  -- a range or a row, and the kind of its table
   pub kind : Kind
@@ -33,12 +33,22 @@ unfoldable pub insert : Span → List Span → List Span  -- just before the fir
 insert p [] = p ∷ []
 insert p (x ∷ xs) = elim (sameDom (p .dom) (x .dom) && ltb (p .start) (x .start)) [ true ↦ p ∷ x ∷ xs | false ↦ x ∷ insert p xs ]
 
-unfoldable pub unlessThere : Bool → Span → List Span → Answer (List Span)  -- an exact duplicate is accepted and adds no row, even to a full table
-unlessThere true p ps = accepted ps
-unlessThere false p ps = require (ltb (length ps) poolLimit) full (accepted (insert p ps))
+unfoldable pub there : Span → List Span → Bool  -- an exact duplicate is among the rows
+there p ps = anyOf (sameSpan p) ps
 
-unfoldable pub addRange : Kind → Span → List Span → Answer (List Span)
-addRange k p ps = require (fitsSpan k p) badInput (require (ltb (p .start) (p .end)) emptyRange (unlessThere (anyOf (sameSpan p) ps) p ps))
+unfoldable pub entered : Span → List Span → List Span  -- the rows with the range among them: an exact duplicate adds no row
+entered p ps = elim (there p ps) [ true ↦ ps | false ↦ insert p ps ]
+
+unfoldable pub hasPlace : Span → List Span → Bool  -- .. and so needs none, even in a full table
+hasPlace p ps = there p ps || ltb (length ps) poolLimit
+
+unfoldable pub admit : (Kind → List Span) → List (In Span) → Answer (List (In Span))  -- all of the ranges or none: 2, 4, 12, then 9
+admit P cs =
+    require (allOf (λ c. fitsSpan (c .kind) (c .row)) cs) badInput
+    (require (allOf (λ c. ltb (c .row .start) (c .row .end)) cs) emptyRange
+    (require (allOf (λ c. floored (c .kind) (c .row .start)) cs) badLpi
+    (require (allOf (λ c. hasPlace (c .row) (P (c .kind))) cs) full
+    (accepted cs))))
 
 -- ---- rows at the ends of tables
 abbrev pub Holders : Type 0  -- the used rows of the seven tables, by kind, in table order
@@ -86,11 +96,12 @@ unfoldable pub allUnreserved : {A : Type 0} → Holders → List Claim → Answe
 allUnreserved R [] a = a
 allUnreserved R (c ∷ cs) a = unreserved (firstOf (meets (c .row)) (R (c .kind))) (allUnreserved R cs a)
 
-unfoldable pub reserve : Holders → List Claim → Answer (List Claim)  -- all of the rows or none: 2, 3, 4, 5, then 9
+unfoldable pub reserve : Holders → List Claim → Answer (List Claim)  -- all of the rows or none: 2, 3, 4, 12, 5, then 9
 reserve R cs =
     require (allOf (λ c. fits (c .kind) (c .row)) cs) badInput
     (require (allOf (λ c. ltb 0 (c .row .owner)) cs) badOwner
     (require (allOf (λ c. ltb (c .row .start) (c .row .end)) cs) emptyRange
+    (require (allOf (λ c. floored (c .kind) (c .row .start)) cs) badLpi
     (allUnreserved R cs
     (require (room R cs) full
-    (accepted cs)))))
+    (accepted cs))))))

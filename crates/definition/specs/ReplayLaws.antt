@@ -12,7 +12,7 @@ use Rattle.definition.specs.Pools.{Holders, Claim, rowsOf, _⊕_}
 use Rattle.definition.specs.Request.{Want, mmioWant, pioWant, inputWant, hostWant, msiWant, Request, Pools, resolve}
 use Rattle.definition.specs.Plan.{Grant, grant, done, after, run, allRows, record-of, recordOf, records, pinWant, pinned}
 use Rattle.definition.specs.ClaimLaws.{rows-append, Fits, length-put, FreeOf, Clear, clear-sym, free-put, put-free}
-use Rattle.definition.specs.RequestLaws.{AutoInFixed, Wide}
+use Rattle.definition.specs.RequestLaws.{AutoInFixed, Bounded}
 use Rattle.definition.specs.ResolveLaws.{Resolved, resolved, rows-kept}
 use Rattle.definition.specs.RunLaws.{run-accepted, run-refused, not-done, after-done, Sounds}
 
@@ -116,16 +116,16 @@ ready-join {P} {S} g hs f a r = record {
     again h (inl e) = rw e a
     again h (inr m) = r .agains h m
 
-pub run-ready : (P : Pools) → ((k : Kind) → Wide P k) → AutoInFixed P → (rs : List Request) (S : Holders) (gs : List Grant) → Sounds S → Fits S → run P S rs ≡ done gs → Ready P S gs
+pub run-ready : (P : Pools) → ((k : Kind) → Bounded P k) → AutoInFixed P → (rs : List Request) (S : Holders) (gs : List Grant) → Sounds S → Fits S → run P S rs ≡ done gs → Ready P S gs
 unfolding run
-run-ready P wide inside [] S gs s h e = let z : gs ≡ [] = cc in rw z (ready-nil h)
-run-ready P wide inside (r ∷ rs) S gs s h e = go (run-ready P wide inside rs) (resolve P S r) refl
+run-ready P bounded inside [] S gs s h e = let z : gs ≡ [] = cc in rw z (ready-nil h)
+run-ready P bounded inside (r ∷ rs) S gs s h e = go (run-ready P bounded inside rs) (resolve P S r) refl
   where
     go : ((X : Holders) (hs : List Grant) → Sounds X → Fits X → run P X rs ≡ done hs → Ready P X hs) → (a : Answer (List Claim)) → resolve P S r ≡ a → Ready P S gs
     go below (refused x) q = absurd (not-done (sym (run-refused P S r rs x q) ∙ e))
     go below (accepted cs) q =
         let (hs, e₁, z) = after-done (grant r cs) (run P (S ⊕ cs) rs) gs (sym (run-accepted P S r rs cs q) ∙ e) in
-        let a : Resolved P S r cs = resolved P S r cs (λ k m. (wide k, s k)) q in
+        let a : Resolved P S r cs = resolved P S r cs (λ k m. (bounded k, s k)) q in
         rw z (ready-join (grant r cs) hs (a .free-of) (a .again inside) (below (S ⊕ cs) hs (λ k. rows-kept P S r cs k a (s k)) (a .fits h) e₁))
 
 -- ---- running them again

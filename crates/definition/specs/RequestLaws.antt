@@ -10,9 +10,9 @@ use lib.Count.{onesIn}
 use lib.Dec.{T, leb, leb→le, eqb→eq, le→leb, lt→ltb}
 use Rattle.definition.specs.Base.{anyOf, allOf, Refusal, fixedNotAllowed, Answer, accepted, refused, require, _then_}
 use Rattle.definition.specs.BaseLaws.{and-l, and-r, and-i, eq→eqb, any-in, in-any, all-in, LeastAll, none-at-all, least-of-all}
-use Rattle.definition.specs.Tables.{top, lastTrigger, shared, Dom, dom, sameDom, within, poolDom, Kind, input, kinds, nature, Span, Row, fits, ends, ifWired, goodRow}
+use Rattle.definition.specs.Tables.{top, lastTrigger, shared, Dom, dom, sameDom, within, poolDom, Kind, input, kinds, nature, Span, Row, fits, ends, ifWired, floored, goodRow}
 use Rattle.definition.specs.Pools.{Holders}
-use Rattle.definition.specs.Request.{Choice, auto, at, oneBit, Need, rowAt, aligned, holds, free, allowed, obstacle, found, unopposed, automatic, fixed, Pools, place, need, inputNeed}
+use Rattle.definition.specs.Request.{Choice, auto, at, oneBit, Need, rowAt, aligned, holds, free, allowed, obstacle, found, unopposed, Use, automatic, fixed, Pools, place, need, inputNeed}
 use Rattle.definition.specs.Plan.{pinChoice}
 use Rattle.definition.specs.RowLaws.{every-kind, dom-trans, clash-meets, Beside, beside-clear, Apart, obstacle-beside, good-fits}
 use Rattle.definition.specs.SearchLaws.{IsFree, free-says, lowest-says}
@@ -64,9 +64,10 @@ inside-says P t k p m =
     let h₂ : T (leb (p .end) (q .end)) = search (and-l, and-r) in
     (q, n, record { dom = search (and-l, and-r); low = leb→le (q .start) (p .start) h₁; high = leb→le (p .end) (q .end) h₂ })
 
--- no automatic range passes its kind's width: so it is on sound tables
-abbrev pub Wide : Pools → Kind → Type 0
-Wide P k = (p : Span) → List·Memᴰ p (P automatic k) → p .end ≤ nature k .top
+-- no automatic range passes its kind's width, and no range starts below its kind's floor: so it is on sound tables
+pub record Bounded (P : Pools) (k : Kind) : Type 0 where
+  pub high : (p : Span) → List·Memᴰ p (P automatic k) → p .end ≤ nature k .top
+  pub low : (u : Use) (p : Span) → List·Memᴰ p (P u k) → nature k .floor ≤ p .start
 
 -- the rows of each table are good, and no two of them clash: so it is on sound tables
 abbrev pub SoundRows : Kind → List Row → Type 0
@@ -74,9 +75,9 @@ SoundRows k rows = T (allOf (goodRow k) rows) × Apart rows
 
 -- ---- one run of numbers
 
--- within the width, what is asked for makes a good row
+-- above the floor and within the width, what is asked for makes a good row
 abbrev pub Makes : Need → Type 0
-Makes n = (b : ℕ) → b + n .size ≤ nature (n .kind) .top → T (goodRow (n .kind) (rowAt n b))
+Makes n = (b : ℕ) → nature (n .kind) .floor ≤ b → b + n .size ≤ nature (n .kind) .top → T (goodRow (n .kind) (rowAt n b))
 
 -- what an accepted row says
 pub record Placed (P : Pools) (S : Holders) (n : Need) (c : Choice) (r : Row) : Type 0 where
@@ -86,7 +87,7 @@ pub record Placed (P : Pools) (S : Holders) (n : Need) (c : Choice) (r : Row) : 
   pub low : r .start ≤ nature (n .kind) .top
   pub again : AutoInFixed P → (S′ : Holders) → Beside (S′ (n .kind)) r → place P S′ n (at (r .start)) ≡ accepted r
 
-module _ (P : Pools) (n : Need) (wide : Wide P (n .kind)) (makes : Makes n) where
+module _ (P : Pools) (n : Need) (bounded : Bounded P (n .kind)) (makes : Makes n) where
   -- a base that the fixed pools allow is granted wherever its row clashes with nothing
   grants : (b : ℕ) → T (allowed (P fixed (n .kind)) n b) → (S : Holders) → Beside (S (n .kind)) (rowAt n b) → place P S n (at b) ≡ accepted (rowAt n b)
   unfolding place unopposed
@@ -96,7 +97,7 @@ module _ (P : Pools) (n : Need) (wide : Wide P (n .kind)) (makes : Makes n) wher
   unfolding allowed aligned holds
   auto-allowed S b f inside =
       let (q, m, i) = inside (n .kind) (f .pool) (f .in-pools) in
-      let w : f .pool .end ≤ nature (n .kind) .top = wide (f .pool) (f .in-pools) in
+      let w : f .pool .end ≤ nature (n .kind) .top = bounded .high (f .pool) (f .in-pools) in
       let d : T (sameDom (poolDom (n .dom)) (q .dom)) = dom-trans (poolDom (n .dom)) (f .pool .dom) (q .dom) (f .dom) (i .dom) in
       let l₁ : q .start ≤ b = omega arith in
       let l₂ : b + n .size ≤ q .end = omega arith in
@@ -105,9 +106,9 @@ module _ (P : Pools) (n : Need) (wide : Wide P (n .kind)) (makes : Makes n) wher
       let k : T (anyOf (holds n b) (P fixed (n .kind))) = in-any (holds n b) m h in
       search (and-i, le→leb, eq→eqb)
 
-  made : (S : Holders) (c : Choice) (b : ℕ) → pinChoice c b ≡ at b → b + n .size ≤ nature (n .kind) .top → (AutoInFixed P → T (allowed (P fixed (n .kind)) n b)) → Beside (S (n .kind)) (rowAt n b) → Placed P S n c (rowAt n b)
+  made : (S : Holders) (c : Choice) (b : ℕ) → pinChoice c b ≡ at b → nature (n .kind) .floor ≤ b → b + n .size ≤ nature (n .kind) .top → (AutoInFixed P → T (allowed (P fixed (n .kind)) n b)) → Beside (S (n .kind)) (rowAt n b) → Placed P S n c (rowAt n b)
   unfolding rowAt
-  made S c b pins high t h = record { beside = h; pins = pins; good = makes b high; low = omega arith; again = λ i. grants b (t i) }
+  made S c b pins low high t h = record { beside = h; pins = pins; good = makes b low high; low = omega arith; again = λ i. grants b (t i) }
 
   -- a free base is a good answer, however it was chosen
   pub placed-free : (S : Holders) (b : ℕ) (r : Row) → T (free (P automatic (n .kind)) (S (n .kind)) n b) → found n (some b) ≡ accepted r → Placed P S n auto r
@@ -115,8 +116,9 @@ module _ (P : Pools) (n : Need) (wide : Wide P (n .kind)) (makes : Makes n) wher
   placed-free S b r t e =
       let f : IsFree (P automatic (n .kind)) (S (n .kind)) n b = free-says (P automatic (n .kind)) (S (n .kind)) n b t in
       let q : rowAt n b ≡ r = cc in
-      let l : f .pool .end ≤ nature (n .kind) .top = wide (f .pool) (f .in-pools) in
-      rw q at (made S auto b refl (omega arith) (auto-allowed (S (n .kind)) b f) (λ x m w. f .clear x m (clash-meets (rowAt n b) x w)))
+      let l : f .pool .end ≤ nature (n .kind) .top = bounded .high (f .pool) (f .in-pools) in
+      let m : nature (n .kind) .floor ≤ f .pool .start = bounded .low automatic (f .pool) (f .in-pools) in
+      rw q at (made S auto b refl (omega arith) (omega arith) (auto-allowed (S (n .kind)) b f) (λ x m w. f .clear x m (clash-meets (rowAt n b) x w)))
 
   placed-auto : (S : Holders) (r : Row) {o : Option ℕ} → LeastAll (free (P automatic (n .kind)) (S (n .kind)) n) o → found n o ≡ accepted r → Placed P S n auto r
   unfolding found
@@ -127,6 +129,14 @@ module _ (P : Pools) (n : Need) (wide : Wide P (n .kind)) (makes : Makes n) wher
   unfolding allowed
   allowed-high ps b t = let l : T (leb (b + n .size) (nature (n .kind) .top)) = search (and-l, and-r) in leb→le (b + n .size) (nature (n .kind) .top) l
 
+  allowed-low : (b : ℕ) → T (allowed (P fixed (n .kind)) n b) → nature (n .kind) .floor ≤ b
+  unfolding allowed holds
+  allowed-low b t =
+      let t₁ : T (anyOf (holds n b) (P fixed (n .kind))) = search (and-l, and-r) in
+      let (q, m, h) = any-in (holds n b) (P fixed (n .kind)) t₁ in
+      let l : T (leb (q .start) b) = search (and-l, and-r) in
+      omega (arith, bounded .low fixed q m, leb→le (q .start) b l)
+
   placed-fixed : (S : Holders) (b : ℕ) (r : Row) (o : Option Row) → SoundRows (n .kind) (S (n .kind)) → T (allowed (P fixed (n .kind)) n b) → obstacle (rowAt n b) (S (n .kind)) ≡ o
       → unopposed n (rowAt n b) o ≡ accepted r → Placed P S n (at b) r
   unfolding unopposed
@@ -134,8 +144,8 @@ module _ (P : Pools) (n : Need) (wide : Wide P (n .kind)) (makes : Makes n) wher
   placed-fixed S b r none s t eo e =
       let q : rowAt n b ≡ r = cc in
       let high : b + n .size ≤ nature (n .kind) .top = allowed-high (P fixed (n .kind)) b t in
-      let f : T (fits (n .kind) (rowAt n b)) = good-fits (n .kind) (rowAt n b) (makes b high) in
-      rw q at (made S (at b) b refl high (λ i. t) (obstacle-beside (n .kind) (rowAt n b) (S (n .kind)) f (s .0) (s .1) eo))
+      let f : T (fits (n .kind) (rowAt n b)) = good-fits (n .kind) (rowAt n b) (makes b (allowed-low b t) high) in
+      rw q at (made S (at b) b refl (allowed-low b t) high (λ i. t) (obstacle-beside (n .kind) (rowAt n b) (S (n .kind)) f (s .0) (s .1) eo))
 
   pub placed : (S : Holders) (c : Choice) (r : Row) → SoundRows (n .kind) (S (n .kind)) → 0 < n .alignment → place P S n c ≡ accepted r → Placed P S n c r
   unfolding place
@@ -155,8 +165,8 @@ oneBit-pos w zero t = let e : onesIn w 0 ≡ 1 = eqb→eq (onesIn w 0) 1 t in le
 oneBit-pos w (suc a) t = omega arith
 
 pub range-made : (k : Kind) (d : Dom) (s a q : ℕ) → nature k .wired ≡ false → T (within d (nature k .domTop)) → 0 < s → 0 < q → q ≤ top 32 → Makes (need k d s a q)
-unfolding rowAt goodRow fits
-range-made k d s a q plain w pos own least b high =
+unfolding rowAt goodRow fits floored
+range-made k d s a q plain w pos own least b low high =
     let l₁ : b ≤ nature k .top = omega arith in
     let l₂ : b < b + s = omega arith in
     let e : T (ends (nature k .wired) (nature k .top) (rowAt (need k d s a q) b)) = rw plain (le→leb (b + s) (nature k .top) high) in
@@ -165,8 +175,8 @@ range-made k d s a q plain w pos own least b high =
     search (and-i, le→leb, lt→ltb) depth 10
 
 pub input-made : (c t h q : ℕ) → c ≤ top 32 → t ≤ lastTrigger → h ≤ shared → 0 < q → q ≤ top 32 → Makes (inputNeed c t h q)
-unfolding rowAt goodRow fits within
-input-made c t h q lc lt lh own least b high =
+unfolding rowAt goodRow fits floored within
+input-made c t h q lc lt lh own least b low high =
     let l₁ : b ≤ nature input .top = omega arith in
     let l₂ : b < b + 1 = omega arith in
     let e : b + 1 ≡ suc b = omega arith in

@@ -14,7 +14,7 @@ use Rattle.definition.specs.Request.{Choice, auto, at, Want, mmioWant, p
 use Rattle.definition.specs.Plan.{grant, pinChoice, pinWant, pinned}
 use Rattle.definition.specs.RowLaws.{clash-sym, Beside}
 use Rattle.definition.specs.ClaimLaws.{otherKind, goods-added, pairs-added, Fits, fits-one, fits-room, length-put, FreeOf}
-use Rattle.definition.specs.RequestLaws.{then-accepted, require-accepted, required, AutoInFixed, Wide, SoundRows, Makes, Placed, placed, oneBit-pos, range-made, input-made}
+use Rattle.definition.specs.RequestLaws.{then-accepted, require-accepted, required, AutoInFixed, Bounded, SoundRows, Makes, Placed, placed, oneBit-pos, range-made, input-made}
 
 -- ---- the rows of one request
 
@@ -56,9 +56,9 @@ three-good a b c ga gb gc x (List·Memᴰ·head e) = rw e ga
 three-good a b c ga gb gc x (List·Memᴰ·tail (List·Memᴰ·head e)) = rw e gb
 three-good a b c ga gb gc x (List·Memᴰ·tail (List·Memᴰ·tail m)) = rw (List·Memᴰ·eq-of-singleton m) gc
 
--- what an answer leans on: no automatic range of the kind passes its width, and the kind's rows are sound
+-- what an answer leans on: the kind's ranges keep to its floor and its width, and its rows are sound
 abbrev pub Ground : Pools → Holders → Kind → Type 0
-Ground P S k = Wide P k × SoundRows k (S k)
+Ground P S k = Bounded P k × SoundRows k (S k)
 
 module _ (P : Pools) (S : Holders) (q : ℕ) where
   -- a request of one row: its claims are one place, and so are those of its pinned form
@@ -68,9 +68,9 @@ module _ (P : Pools) (S : Holders) (q : ℕ) where
       → ((r : Row) → r .start ≤ nature (n .kind) .top → T (goodWant (pinWant w (at-kind (n .kind) r ∷ []))))
       → claims P S q w ≡ accepted cs → Claimed P S q w cs
   unfolding pairsOf allOf
-  single n w c cs (wide, rows) makes pos is is′ good e =
+  single n w c cs (bounded, rows) makes pos is is′ good e =
       let (r, e₁, e₂) = then-accepted (place P S n c) (λ x. accepted (at-kind (n .kind) x ∷ [])) (sym is ∙ e) in
-      let p : Placed P S n c r = placed P n wide makes S c r rows pos e₁ in
+      let p : Placed P S n c r = placed P n bounded makes S c r rows pos e₁ in
       let z : (at-kind (n .kind) r ∷ []) ≡ cs = cc in
       let here : Claimed P S q w (at-kind (n .kind) r ∷ []) = record {
         free-of = one-free S (n .kind) r (p .beside);
@@ -84,7 +84,7 @@ module _ (P : Pools) (S : Holders) (q : ℕ) where
   module _ (own : 0 < q) (least : q ≤ top 32) where
     triple : (k i n : ℕ) (d e l : Choice) (cs : List Claim) → Ground P S device → Ground P S event → Ground P S lpi → T (goodWant (msiWant k i n d e l)) → claims P S q (msiWant k i n d e l) ≡ accepted cs → Claimed P S q (msiWant k i n d e l) cs
     unfolding claims goodWant pinWant pairsOf allOf otherKind sameKind within
-    triple k i n d e l cs (wide-d, rows-d) (wide-e, rows-e) (wide-l, rows-l) g h =
+    triple k i n d e l cs (bounded-d, rows-d) (bounded-e, rows-e) (bounded-l, rows-l) g h =
         let g₁ : T (leb k (top 32)) = search (and-l, and-r) depth 8 in
         let g₂ : T (leb i (top 32)) = search (and-l, and-r) depth 8 in
         let g₃ : T (ltb 0 n) = search (and-l, and-r) depth 8 in
@@ -95,14 +95,14 @@ module _ (P : Pools) (S : Holders) (q : ℕ) where
         let pos : 0 < n = ltb→lt 0 n g₃ in
         let (rd, h₁, t₁) = then-accepted (place P S (need device (dom k i 0) 1 1 q) d) _ h in
         let wd : T (within (dom k i 0) (nature device .domTop)) = search (and-i) in
-        let pd : Placed P S (need device (dom k i 0) 1 1 q) d rd = placed P (need device (dom k i 0) 1 1 q) wide-d (range-made device (dom k i 0) 1 1 q refl wd (omega arith) own least) S d rd rows-d (omega arith) h₁ in
+        let pd : Placed P S (need device (dom k i 0) 1 1 q) d rd = placed P (need device (dom k i 0) 1 1 q) bounded-d (range-made device (dom k i 0) 1 1 q refl wd (omega arith) own least) S d rd rows-d (omega arith) h₁ in
         let (re, h₂, t₂) = then-accepted (place P S (need event (dom k i (rd .start)) n 1 q) e) _ t₁ in
         let ld : T (leb (rd .start) (top 32)) = le→leb (rd .start) (top 32) (pd .low) in
         let we : T (within (dom k i (rd .start)) (nature event .domTop)) = search (and-i) in
-        let pe : Placed P S (need event (dom k i (rd .start)) n 1 q) e re = placed P (need event (dom k i (rd .start)) n 1 q) wide-e (range-made event (dom k i (rd .start)) n 1 q refl we pos own least) S e re rows-e (omega arith) h₂ in
+        let pe : Placed P S (need event (dom k i (rd .start)) n 1 q) e re = placed P (need event (dom k i (rd .start)) n 1 q) bounded-e (range-made event (dom k i (rd .start)) n 1 q refl we pos own least) S e re rows-e (omega arith) h₂ in
         let (rl, h₃, t₃) = then-accepted (place P S (need lpi (dom k 0 0) n 1 q) l) _ t₂ in
         let wl : T (within (dom k 0 0) (nature lpi .domTop)) = search (and-i) in
-        let pl : Placed P S (need lpi (dom k 0 0) n 1 q) l rl = placed P (need lpi (dom k 0 0) n 1 q) wide-l (range-made lpi (dom k 0 0) n 1 q refl wl pos own least) S l rl rows-l (omega arith) h₃ in
+        let pl : Placed P S (need lpi (dom k 0 0) n 1 q) l rl = placed P (need lpi (dom k 0 0) n 1 q) bounded-l (range-made lpi (dom k 0 0) n 1 q refl wl pos own least) S l rl rows-l (omega arith) h₃ in
         let z : (at-kind device rd ∷ at-kind event re ∷ at-kind lpi rl ∷ []) ≡ cs = cc in
         let fd : T (goodChoice (nature device .top) (pinChoice d (rd .start))) = pin-good (nature device .top) (rd .start) d (pd .low) gd in
         let fe : T (goodChoice (nature event .top) (pinChoice e (re .start))) = pin-good (nature event .top) (re .start) e (pe .low) ge in

@@ -12,7 +12,7 @@ use Rattle.definition.specs.Pools.{Holders, Claim, rowsOf, _⊕_}
 use Rattle.definition.specs.Request.{Want, mmioWant, pioWant, inputWant, hostWant, msiWant, Request, goodRequest, Pools, resolve}
 use Rattle.definition.specs.Plan.{Grant, grant, Run, done, stopped, after, run, allRows, record-of, recordOf, records, pinned}
 use Rattle.definition.specs.ClaimLaws.{rows-append, Fits}
-use Rattle.definition.specs.RequestLaws.{Wide, SoundRows}
+use Rattle.definition.specs.RequestLaws.{Bounded, SoundRows}
 use Rattle.definition.specs.ResolveLaws.{Resolved, resolved, rows-kept}
 
 -- ---- one step
@@ -92,32 +92,32 @@ run-requests P (r ∷ rs) S gs e = go (run-requests P rs) (resolve P S r) refl
 abbrev pub Sounds : Holders → Type 0
 Sounds S = (k : Kind) → SoundRows k (S k)
 
-pub run-kept : (P : Pools) → ((k : Kind) → Wide P k) → (rs : List Request) (S : Holders) (gs : List Grant) → Sounds S → Fits S → run P S rs ≡ done gs → Sounds (S ⊕ allRows gs) × Fits (S ⊕ allRows gs)
+pub run-kept : (P : Pools) → ((k : Kind) → Bounded P k) → (rs : List Request) (S : Holders) (gs : List Grant) → Sounds S → Fits S → run P S rs ≡ done gs → Sounds (S ⊕ allRows gs) × Fits (S ⊕ allRows gs)
 unfolding run
-run-kept P wide [] S gs s f e = let z : gs ≡ [] = cc in rw (z, put-nil S) (s, f)
-run-kept P wide (r ∷ rs) S gs s f e = go (run-kept P wide rs) (resolve P S r) refl
+run-kept P bounded [] S gs s f e = let z : gs ≡ [] = cc in rw (z, put-nil S) (s, f)
+run-kept P bounded (r ∷ rs) S gs s f e = go (run-kept P bounded rs) (resolve P S r) refl
   where
     go : ((X : Holders) (hs : List Grant) → Sounds X → Fits X → run P X rs ≡ done hs → Sounds (X ⊕ allRows hs) × Fits (X ⊕ allRows hs)) → (a : Answer (List Claim)) → resolve P S r ≡ a
         → Sounds (S ⊕ allRows gs) × Fits (S ⊕ allRows gs)
     go below (refused x) q = absurd (not-done (sym (run-refused P S r rs x q) ∙ e))
     go below (accepted cs) q =
         let (hs, e₁, z) = after-done (grant r cs) (run P (S ⊕ cs) rs) gs (sym (run-accepted P S r rs cs q) ∙ e) in
-        let a : Resolved P S r cs = resolved P S r cs (λ k m. (wide k, s k)) q in
+        let a : Resolved P S r cs = resolved P S r cs (λ k m. (bounded k, s k)) q in
         rw (z, put-append S cs (allRows hs)) (below (S ⊕ cs) hs (λ k. rows-kept P S r cs k a (s k)) (a .fits f) e₁)
 
 -- every line of a run makes sense with its answer written back
-pub run-good : (P : Pools) → ((k : Kind) → Wide P k) → (rs : List Request) (S : Holders) (gs : List Grant) → Sounds S → run P S rs ≡ done gs
+pub run-good : (P : Pools) → ((k : Kind) → Bounded P k) → (rs : List Request) (S : Holders) (gs : List Grant) → Sounds S → run P S rs ≡ done gs
     → (g : Grant) → List·Memᴰ g gs → T (goodRequest (pinned g))
 unfolding run
-run-good P wide [] S gs s e g m = absurd (List·Memᴰ·not-nil (let z : gs ≡ [] = cc in rw z at m))
-run-good P wide (r ∷ rs) S gs s e g m = go (run-good P wide rs) (resolve P S r) refl
+run-good P bounded [] S gs s e g m = absurd (List·Memᴰ·not-nil (let z : gs ≡ [] = cc in rw z at m))
+run-good P bounded (r ∷ rs) S gs s e g m = go (run-good P bounded rs) (resolve P S r) refl
   where
     go : ((X : Holders) (hs : List Grant) → Sounds X → run P X rs ≡ done hs → (h : Grant) → List·Memᴰ h hs → T (goodRequest (pinned h))) → (a : Answer (List Claim)) → resolve P S r ≡ a
         → T (goodRequest (pinned g))
     go below (refused x) q = absurd (not-done (sym (run-refused P S r rs x q) ∙ e))
     go below (accepted cs) q =
         let (hs, e₁, z) = after-done (grant r cs) (run P (S ⊕ cs) rs) gs (sym (run-accepted P S r rs cs q) ∙ e) in
-        let a : Resolved P S r cs = resolved P S r cs (λ k n. (wide k, s k)) q in
+        let a : Resolved P S r cs = resolved P S r cs (λ k n. (bounded k, s k)) q in
         elim (List·Memᴰ·cases-cons (rw z at m)) [
           | inl h ↦ rw h (a .good)
           | inr n ↦ below (S ⊕ cs) hs (λ k. rows-kept P S r cs k a (s k)) e₁ g n

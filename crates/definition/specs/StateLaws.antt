@@ -1,23 +1,23 @@
 -- Soundness of the state: the fresh state is sound, and every call, accepted or refused, leaves sound what it judged. Assumes nothing.
-use mathlib.Core.Path.{_≡_, refl}
+use mathlib.Core.Path.{_≡_, refl, sym, ap, _∙_}
 use mathlib.Core.Bool.{Bool, true, false, not, _&&_}
-use mathlib.Core.List.{List, [], _∷_, _++_, List·Memᴰ}
+use mathlib.Core.List.{List, [], _∷_, _++_, List·Memᴰ, List·Memᴰ·head, List·Memᴰ·tail}
 use Prim.Native.Nat.{ℕ, _+_, _≤_}
 use native.Mathlib.Omega.{arith}
 use lib.ListN.{length}
 use lib.Dec.{T, leb, leb→le}
 use Rattle.definition.specs.Base.{allOf, pairsOf, Refusal, malformed, Said, silence, tell, Answer, accepted, refused, require, _then_}
-use Rattle.definition.specs.BaseLaws.{and-l, and-r, and-i, →not-T, not-T→, all-in, all-from}
-use Rattle.definition.specs.Tables.{poolLimit, rowLimit, Kind, nature, sameKind, Span, sameSpan, Row, sameRow, meets, clash, Table, used, blankSpan, blankRow, fitsSpan, goodRow, goodSpan, begins, inOrder, soundPool, soundHeld, soundOwners}
-use Rattle.definition.specs.Pools.{In, spans, Pool, addRange, Claim, rowsOf, _⊕_, Hold, heldRows, reserve}
+use Rattle.definition.specs.BaseLaws.{and-l, and-r, and-i, and-false, T-false, →not-T, not-T→, all-in, all-from}
+use Rattle.definition.specs.Tables.{poolLimit, rowLimit, Kind, nature, sameKind, Span, sameSpan, Row, sameRow, meets, clash, Table, used, blankSpan, blankRow, fitsSpan, floored, goodRow, goodSpan, begins, inOrder, soundPool, soundHeld, soundOwners}
+use Rattle.definition.specs.Pools.{In, spans, Pool, entered, hasPlace, admit, Claim, rowsOf, _⊕_, Hold, heldRows, reserve}
 use Rattle.definition.specs.Request.{Request, Use, automatic, fixed, resolve}
-use Rattle.definition.specs.Calls.{State, fresh, poolsOf, heldOf, ownersOf, givenAt, soundAt, given, sound, saying, holding, granting, starting, stored, sameUse, pooling, Call, pool, hold, start, want, settle, addAll, serve}
+use Rattle.definition.specs.Calls.{State, fresh, poolsOf, heldOf, ownersOf, givenAt, soundAt, given, sound, saying, holding, granting, starting, stored, sameUse, pooling, entering, Call, pool, hold, start, want, settle, serve}
 use Rattle.definition.specs.RowLaws.{same-kind, row-refl, span-refl, clash-meets, meets-sym}
-use Rattle.definition.specs.ClaimLaws.{otherKind, goods-added, pairs-added, fits-one}
+use Rattle.definition.specs.ClaimLaws.{otherKind, apart-kinds, goods-added, pairs-added, fits-one}
 use Rattle.definition.specs.RequestLaws.{required, SoundRows}
 use Rattle.definition.specs.ResolveLaws.{kindsOf, Ground, Resolved, resolved, rows-kept}
 use Rattle.definition.specs.TableLaws.{SoundTable, table-says, says-table, table-length, table-grown, table-fresh, stored-sound}
-use Rattle.definition.specs.PoolLaws.{SoundSpans, range-added, Reserved, reserve-says, held-apart}
+use Rattle.definition.specs.PoolLaws.{SoundSpans, entered-sound, Admitted, admit-says, spans-apart, Reserved, reserve-says, held-apart}
 
 -- ---- what the tests say
 
@@ -145,14 +145,10 @@ pooling-given u j ps s k g f = record { pools = λ v. go v u; held = g .held }
     go fixed automatic = g .pools fixed
     go fixed fixed = chosen (sameKind k j) (stored ps) (s .pools fixed k) (SoundPool k) new (g .pools fixed)
 
-module _ (u : Use) (c : In Span) (cs : List (In Span)) (s : State) where
-  pub add-accepted : (ps : List Span) → addRange (c .kind) (c .row) (used (s .pools u (c .kind))) ≡ accepted ps → addAll u (c ∷ cs) s ≡ addAll u cs (pooling u (c .kind) ps s)
-  unfolding addAll
-  add-accepted ps e = rw (e, addAll)
-
-  pub add-refused : (x : Refusal) → addRange (c .kind) (c .row) (used (s .pools u (c .kind))) ≡ refused x → addAll u (c ∷ cs) s ≡ saying (tell 0 x) s
-  unfolding addAll
-  add-refused x e = rw (e, addAll)
+-- the tables of the other kinds are as they were
+pub pooling-other : (u : Use) (j : Kind) (ps : List Span) (s : State) (v : Use) (k : Kind) → (k ≡ j → ⊥) → pooling u j ps s .pools v k ≡ s .pools v k
+pooling-other u j ps s v k n =
+    ap (λ (b : Bool). elim b [ true ↦ stored ps | false ↦ s .pools v k ]) (ap (λ b. sameUse v u && b) (T-false (sameKind k j) (λ t. n (same-kind k j t))) ∙ and-false (sameUse v u))
 
 -- pools change, and nothing else
 pub record Pooled (ks : List Kind) (s s′ : State) : Type 0 where
@@ -160,22 +156,46 @@ pub record Pooled (ks : List Kind) (s s′ : State) : Type 0 where
   pub held : s′ .held ≡ s .held
   pub owners : s′ .owners ≡ s .owners
 
-pub add-given : (ks : List Kind) (u : Use) (cs : List (In Span)) (s : State) → GivenFor ks s → Pooled ks s (addAll u cs s)
-unfolding addAll
-add-given ks u [] s g = record { given = λ k m. given-saying silence s k (g k m); held = refl; owners = refl }
-add-given ks u (c ∷ cs) s g = go (add-given ks u cs) (addRange (c .kind) (c .row) (used (s .pools u (c .kind)))) refl
+pub entering-given : (ks : List Kind) (u : Use) (cs : List (In Span)) (s : State) → T (pairsOf otherKind cs) → Admitted (poolsOf s u) cs → GivenFor ks s → Pooled ks s (entering u cs s)
+unfolding entering pairsOf
+entering-given ks u [] s a o g = record { given = λ k m. given-saying silence s k (g k m); held = refl; owners = refl }
+entering-given ks u (c ∷ cs) s a o g =
+    let below : Pooled ks next (entering u cs next) = entering-given ks u cs next a₂ rest (λ k m. pooling-given u (c .kind) rows s k (g k m) (λ t. here k m (same-kind k (c .kind) t))) in
+    record { given = below .given; held = below .held; owners = below .owners }
   where
-    spans-of : (ps : List Span) → addRange (c .kind) (c .row) (used (s .pools u (c .kind))) ≡ accepted ps → (k : Kind) → List·Memᴰ k ks → k ≡ c .kind → SoundSpans k ps
-    spans-of ps e k m z =
-        let h : SoundPool (c .kind) (s .pools u (c .kind)) = rw z at (g k m .pools u) in
-        rw z (range-added (c .kind) (c .row) (used (s .pools u (c .kind))) ps (pool-spans (c .kind) (s .pools u (c .kind)) h) e)
+    rows : List Span
+    rows = entered (c .row) (used (s .pools u (c .kind)))
 
-    go : ((t : State) → GivenFor ks t → Pooled ks t (addAll u cs t)) → (a : Answer (List Span)) → addRange (c .kind) (c .row) (used (s .pools u (c .kind))) ≡ a → Pooled ks s (addAll u (c ∷ cs) s)
-    go below (refused x) e = rw (add-refused u c cs s x e) record { given = λ k m. given-saying (tell 0 x) s k (g k m); held = refl; owners = refl }
-    go below (accepted ps) e =
-        let b : Pooled ks (pooling u (c .kind) ps s) (addAll u cs (pooling u (c .kind) ps s)) =
-        below (pooling u (c .kind) ps s) (λ k m. pooling-given u (c .kind) ps s k (g k m) (λ t. spans-of ps e k m (same-kind k (c .kind) t))) in
-        rw (add-accepted u c cs s ps e) record { given = b .given; held = b .held; owners = b .owners }
+    next : State
+    next = pooling u (c .kind) rows s
+
+    a₁ : T (allOf (otherKind c) cs)
+    a₁ = and-l (allOf (otherKind c) cs) (pairsOf otherKind cs) a
+
+    a₂ : T (pairsOf otherKind cs)
+    a₂ = and-r (allOf (otherKind c) cs) (pairsOf otherKind cs) a
+
+    here : (k : Kind) → List·Memᴰ k ks → k ≡ c .kind → SoundSpans k rows
+    here k m z =
+        let h : SoundPool (c .kind) (s .pools u (c .kind)) = rw z at (g k m .pools u) in
+        rw z (entered-sound (c .kind) (c .row) (used (s .pools u (c .kind))) (pool-spans (c .kind) (s .pools u (c .kind)) h) (o .goods c (List·Memᴰ·head refl)) (o .places c (List·Memᴰ·head refl)))
+
+    -- the other ranges find their tables as they were
+    rest : Admitted (poolsOf next u) cs
+    rest = record {
+      goods = λ d m. o .goods d (List·Memᴰ·tail m);
+      places = λ d m. rw (pooling-other u (c .kind) rows s u (d .kind) (λ z. apart-kinds c d (all-in (otherKind c) m a₁) (sym z))) (o .places d (List·Memᴰ·tail m));
+    }
+
+-- .. whatever the answer
+pub admitted-given : (ks : List Kind) (u : Use) (p : Pool) (s : State) → GivenFor ks s → Pooled ks s (settle s (admit (poolsOf s u) (spans p) then λ cs. accepted (entering u cs s)))
+admitted-given ks u p s g = go (admit (poolsOf s u) (spans p)) refl
+  where
+    go : (a : Answer (List (In Span))) → admit (poolsOf s u) (spans p) ≡ a → Pooled ks s (settle s (a then λ cs. accepted (entering u cs s)))
+    go (refused x) e = record { given = λ k m. given-saying (tell 0 x) s k (g k m); held = refl; owners = refl }
+    go (accepted cs) e =
+        let (z, o) = admit-says (poolsOf s u) (spans p) cs e in
+        rw (← z) (entering-given ks u (spans p) s (spans-apart p) o g)
 
 -- ---- adding reservations
 
@@ -225,12 +245,18 @@ start-sound s k g = record {
 -- ---- requests
 
 pub sound-ground : (s : State) (k : Kind) → Sound s k → Ground (poolsOf s) (ownersOf s) k
-unfolding goodSpan fitsSpan
+unfolding goodSpan fitsSpan floored
 sound-ground s k h = (
-  λ p m.
-      let g : T (goodSpan k p) = all-in (goodSpan k) m (h .given .pools automatic .goods) in
-      let l : T (leb (p .end) (nature k .top)) = search (and-l, and-r) in
-      leb→le (p .end) (nature k .top) l,
+  record {
+    high = λ p m.
+        let g : T (goodSpan k p) = all-in (goodSpan k) m (h .given .pools automatic .goods) in
+        let l : T (leb (p .end) (nature k .top)) = search (and-l, and-r) in
+        leb→le (p .end) (nature k .top) l;
+    low = λ u p m.
+        let g : T (goodSpan k p) = all-in (goodSpan k) m (h .given .pools u .goods) in
+        let l : T (leb (nature k .floor) (p .start)) = search (and-l, and-r) in
+        leb→le (nature k .floor) (p .start) l;
+  },
   (h .owners .goods, h .owners .pairs),
 )
 
@@ -278,18 +304,18 @@ serve-given ks c s g = go c
     wants false a = λ k m. given-saying (tell 0 malformed) s k (g k m)
 
     go : (d : Call) → GivenFor ks (serve ks d s)
-    go (pool u p) = rw (required (given ks s) malformed (accepted (addAll u (spans p) s)) (for-given ks s g)) (add-given ks u (spans p) s g .given)
+    go (pool u p) = rw (required (given ks s) malformed (admit (poolsOf s u) (spans p) then λ cs. accepted (entering u cs s)) (for-given ks s g)) (admitted-given ks u p s g .given)
     go (hold o h) = rw (required (given ks s) malformed (reserve (heldOf s) (heldRows o h) then λ cs. accepted (holding cs s)) (for-given ks s g)) (held-go o h (reserve (heldOf s) (heldRows o h)) refl)
     go start = rw (required (given ks s) malformed (accepted (starting s)) (for-given ks s g)) (λ k m. record { pools = g k m .pools; held = g k m .held })
     go (want r) = wants (sound ks s) (resolve (poolsOf s) (ownersOf s) r)
 
--- adding a pool range or an MSI domain leaves a sound state sound, rows before a refused range too
+-- adding a pool range or an MSI domain leaves a sound state sound
 pub pool-sound : (ks : List Kind) (u : Use) (p : Pool) (s : State) → SoundFor ks s → SoundFor ks (serve ks (pool u p) s)
 unfolding serve
 pool-sound ks u p s h =
     let g : GivenFor ks s = λ k m. h k m .given in
-    let a : Pooled ks s (addAll u (spans p) s) = add-given ks u (spans p) s g in
-    rw (required (given ks s) malformed (accepted (addAll u (spans p) s)) (for-given ks s g))
+    let a : Pooled ks s (settle s (admit (poolsOf s u) (spans p) then λ cs. accepted (entering u cs s))) = admitted-given ks u p s g in
+    rw (required (given ks s) malformed (admit (poolsOf s u) (spans p) then λ cs. accepted (entering u cs s)) (for-given ks s g))
     (λ k m. record { given = a .given k m; owners = rw (a .owners) (h k m .owners); begin = rw (a .owners, a .held) (h k m .begin) })
 
 -- start makes a sound state of sound pools and reservations, whatever the owner tables held

@@ -19,7 +19,7 @@ planLimit = 128
 abbrev pub recordSize : ℕ
 recordSize = 9
 
--- ---- widths: the largest number of so many bits; the last trigger code; the sharing code Shared
+-- ---- widths: the largest number of so many bits; the last trigger code; the sharing code Shared; the least LPI
 abbrev pub top : ℕ → ℕ
 top bits = 2 ^ bits - 1
 
@@ -28,6 +28,9 @@ lastTrigger = 3
 
 abbrev pub shared : ℕ
 shared = 1
+
+abbrev pub firstLpi : ℕ  -- C-12: LPIs start here
+firstLpi = 8192
 
 pub record Dom : Type 0 where  -- a domain
   pub controller : ℕ
@@ -57,20 +60,21 @@ pub record Nature : Type 0 where
   pub number : ℕ  -- tells kinds apart
   pub namespace : ℕ  -- that a refusal names: 1 MMIO, 2 PIO, 3 input of a controller, 4 host IRQ, 5 an ITS of a controller, 6 LPI of a controller
   pub wired : Bool  -- its rows are one number with a trigger and a sharing; all other rows hold a range
+  pub floor : ℕ  -- the least number at which its ranges may start
   pub top : ℕ  -- the largest number of its width
   pub domTop : Dom  -- the largest numbers of its rows' domain; a number that it does not use is 0
 
-abbrev pub is : ℕ → ℕ → Bool → ℕ → Dom → Nature
-is number namespace wired most d = record { number = number; namespace = namespace; wired = wired; top = most; domTop = d }
+abbrev pub is : ℕ → ℕ → Bool → ℕ → ℕ → Dom → Nature
+is number namespace wired least most d = record { number = number; namespace = namespace; wired = wired; floor = least; top = most; domTop = d }
 
 abbrev pub nature : Kind → Nature
-nature mmio = is 1 1 false (top 64) (dom 0 0 0)
-nature pio = is 2 2 false (top 16) (dom 0 0 0)
-nature input = is 3 3 true (top 64) (dom (top 32) 0 0)
-nature host = is 4 4 false (top 64) (dom 0 0 0)
-nature device = is 5 5 false (top 32) (dom (top 32) (top 32) 0)
-nature event = is 6 5 false (top 32) (dom (top 32) (top 32) (top 32))
-nature lpi = is 7 6 false (top 32) (dom (top 32) 0 0)
+nature mmio = is 1 1 false 0 (top 64) (dom 0 0 0)
+nature pio = is 2 2 false 0 (top 16) (dom 0 0 0)
+nature input = is 3 3 true 0 (top 64) (dom (top 32) 0 0)
+nature host = is 4 4 false 0 (top 64) (dom 0 0 0)
+nature device = is 5 5 false 0 (top 32) (dom (top 32) (top 32) 0)
+nature event = is 6 5 false 0 (top 32) (dom (top 32) (top 32) (top 32))
+nature lpi = is 7 6 false firstLpi (top 32) (dom (top 32) 0 0)
 
 unfoldable pub sameKind : Kind → Kind → Bool
 sameKind j k = eqb (nature j .number) (nature k .number)
@@ -150,11 +154,14 @@ fits k r =
 unfoldable pub fitsSpan : Kind → Span → Bool
 fitsSpan k p = within (p .dom) (poolDom (nature k .domTop)) && (leb (p .start) (nature k .top) && leb (p .end) (nature k .top))
 
-unfoldable pub goodRow : Kind → Row → Bool  -- .. and those that hold a range have start below end; no used reservation or owner row has owner 0
-goodRow k r = fits k r && (ltb (r .start) (r .end) && ltb 0 (r .owner))
+unfoldable pub floored : Kind → ℕ → Bool  -- no range starts below its kind's floor, wherever it ends
+floored k s = leb (nature k .floor) s
+
+unfoldable pub goodRow : Kind → Row → Bool  -- .. and those that hold a range have start below end, none below its floor; no used reservation or owner row has owner 0
+goodRow k r = fits k r && (ltb (r .start) (r .end) && (floored k (r .start) && ltb 0 (r .owner)))
 
 unfoldable pub goodSpan : Kind → Span → Bool
-goodSpan k p = fitsSpan k p && ltb (p .start) (p .end)
+goodSpan k p = fitsSpan k p && (ltb (p .start) (p .end) && floored k (p .start))
 
 unfoldable pub begins : List Row → List Row → Bool  -- each owner table begins with its reservation table's rows in order
 begins [] rs = true

@@ -7,16 +7,16 @@ use Rattle.definition.specs.Base.{require}
 use Rattle.definition.specs.BaseLaws.{T-true}
 use Rattle.definition.specs.Pools.{Pool, spans, Hold, heldRows}
 use Rattle.definition.specs.Request.{Use}
-use Rattle.definition.specs.Calls.{State, given, starting, addAll, pool, hold, start, serve}
+use Rattle.definition.specs.Calls.{State, given, starting, pool, hold, start, serve}
 use Rattle.request.specs.Calls.{callOf}
 use Rattle.request.specs.declared.call.Call.{Call}
 use Rattle.request.specs.declared.call.Call.the-variants as C
 use Rattle.adding.specs.Adds.{passesOf, startsOf}
 use Rattle.door.specs.Applied.{applyOf}
-use Rattle.door.proofs.HeldLaws.{heldAfter}
+use Rattle.door.proofs.AfterLaws.{poolAfter, heldAfter}
 
 module _ (s : State) (g : T (given kinds s)) where
-  pub serve-pool : (u : Use) (p : Pool) → serve kinds (pool u p) s ≡ addAll u (spans p) s
+  pub serve-pool : (u : Use) (p : Pool) → serve kinds (pool u p) s ≡ poolAfter u (spans p) s
   unfolding serve require
   serve-pool u p = rw (T-true (given kinds s) g)
 

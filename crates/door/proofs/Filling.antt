@@ -34,7 +34,7 @@ use Rattle.adding.proofs.enter.range as put
 use Rattle.inplace.proofs.Plain.{Plain, plainOf, Good}
 use Rattle.door.specs.Kept.{kindIn, TidyPools, PoolsKept}
 use Rattle.door.proofs.KindLaws.{every}
-use Rattle.door.proofs.AddLaws.{tidy-at}
+use Rattle.door.proofs.GivenLaws.{tidy-at}
 use Rattle.inplace.proofs.Parts.{Stands, comes-plain, lends}
 use Rattle.door.proofs.Lending.{one-asks}
 use Rattle.door.proofs.KeptLaws.{idle-pools}

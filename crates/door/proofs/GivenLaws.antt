@@ -7,10 +7,15 @@ use Rattle.definition.specs.Calls.{given}
 use Rattle.definition.specs.RowLaws.{every-kind}
 use Rattle.definition.specs.TableLaws.{says-tidy}
 use Rattle.definition.specs.StateLaws.{given-for}
-use Rattle.tables.specs.Views.{poolOf, holdersView, stateView}
+use Rattle.tables.specs.Views.{poolOf, poolView, holdersView, stateView}
+use Rattle.tables.specs.declared.Pools.{Pools}
 use Rattle.tables.specs.declared.State.{State}
 use Rattle.adding.specs.Looks.{Fit}
 use Rattle.door.specs.Kept.{TidyPools}
+
+pub tidy-at : (p : Pools) → TidyPools p → (k : Kind) → T (tidy poolLimit (sameSpan blankSpan) (poolView (poolOf p k)))
+unfolding TidyPools
+tidy-at p t k = t k
 
 module _ (s : State) (g : T (given kinds (stateView s))) where
   tidied : (u : Use) (k : Kind) → T (tidy poolLimit (sameSpan blankSpan) (stateView s .pools u k))

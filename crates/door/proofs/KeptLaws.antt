@@ -1,13 +1,13 @@
 -- What a verdict stores, and what it leaves. Assumes nothing.
-use mathlib.Core.Path.{_≡_, refl, sym, _∙_, ap, subst}
+use mathlib.Core.Path.{_≡_, refl, sym, _∙_, ap}
 use mathlib.Core.Bool.{Bool, true, false, not}
 use lib.Dec.{T}
-use Rattle.definition.specs.Tables.{Span, Table, used}
+use Rattle.definition.specs.Tables.{Span, Table}
 use Rattle.tables.specs.Views.{spanOf, poolOf, poolView}
 use Rattle.tables.specs.declared.Pools.{Pools}
-use Rattle.insert.specs.Answers.{storedOr, addAny}
+use Rattle.insert.specs.Answers.{enteredOr}
 use Rattle.adding.specs.Adds.{pick, rangeFor}
-use Rattle.adding.specs.Judged.{sameTo, staysOf, idleOf, poolPutOf, enteredView}
+use Rattle.adding.specs.Judged.{sameTo, staysOf, idleOf, enteredView}
 use Rattle.adding.specs.declared.PoolPut.{PoolPut}
 use Rattle.tables.specs.declared.Kind.{Kind}
 use Rattle.adding.specs.declared.To.{To}
@@ -21,7 +21,7 @@ use Rattle.insert.specs.declared.Reply.{Reply}
 use Rattle.decide.specs.Kept.{kept}
 use Rattle.decide.specs.declared.Granted.{Granted}
 use Rattle.plan.proofs.OpenLaws.{kept-none}
-use Rattle.door.specs.Kept.{kindIn, PoolsKept, heldWith, state, withAuto, withFixed, withHeld, withOwners, Tells, Kept}
+use Rattle.door.specs.Kept.{kindIn, PoolsKept, heldWith, withAuto, withFixed, withHeld, withOwners, Tells, Kept}
 
 idle-stays : (v : Verdict) (to : To) (k : Kind) → T (idleOf v to) → staysOf v to k ≡ false
 idle-stays v to k t = go _ (sameTo (v .adds .to) to) t
@@ -33,13 +33,13 @@ idle-stays v to k t = go _ (sameTo (v .adds .to) to) t
 -- a use that the verdict has no row for keeps its tables
 pub idle-pools : (v : Verdict) (to : To) (p : Pools) → T (idleOf v to) → PoolsKept v to p p
 idle-pools v to p t k =
-    sym (ap (λ (g : Bool). pick g (storedOr (poolView (poolOf p k)) (addAny (spanOf (rangeFor (v .adds) (kindIn k))) (used (poolView (poolOf p k))))) (poolView (poolOf p k))) (idle-stays v to (kindIn k) t))
+    sym (ap (λ (g : Bool). pick g (enteredOr (spanOf (rangeFor (v .adds) (kindIn k))) (poolView (poolOf p k))) (poolView (poolOf p k))) (idle-stays v to (kindIn k) t))
 
 -- a table that has no range coming stays as it is
 pub resting : (p : PoolPut) (t : Table Span) → T (not (p .go)) → t ≡ enteredView p t
 resting p t n = go (p .go) n
   where
-    go : (g : Bool) → T (not g) → t ≡ pick g (storedOr t (addAny (spanOf (p .row)) (used t))) t
+    go : (g : Bool) → T (not g) → t ≡ pick g (enteredOr (spanOf (p .row)) t) t
     go true n = absurd n
     go false n = refl
 

@@ -9,7 +9,7 @@ use Rattle.definition.specs.Tables.{top, dom, Kind, device, event, lpi, nature,
 use Rattle.definition.specs.Pools.{at-kind, Holders, Claim, _⊕_, room}
 use Rattle.definition.specs.Request.{Want, mmioWant, pioWant, inputWant, hostWant, msiWant, Request, goodRequest, Pools, need, place, claims, resolve}
 use Rattle.definition.specs.Plan.{Grant, grant, done, run, baseAt}
-use Rattle.definition.specs.RequestLaws.{then-accepted, require-accepted, Wide}
+use Rattle.definition.specs.RequestLaws.{then-accepted, require-accepted, Bounded}
 use Rattle.definition.specs.ResolveLaws.{Resolved, resolved, rows-kept}
 use Rattle.definition.specs.RunLaws.{run-accepted, run-refused, not-done, after-done, Sounds}
 
@@ -55,14 +55,14 @@ resolve-good P S r cs a e =
     let e₄ : claims P S (r .requester) (r .want) ≡ accepted cs = rw z at e₂ in
     (g, narrow P S (r .requester) (r .want) cs e₄ (a .goods))
 
-pub run-good : (P : Pools) → ((k : Kind) → Wide P k) → (rs : List Request) (S : Holders) (gs : List Grant) → Sounds S → run P S rs ≡ done gs → AllGood gs
+pub run-good : (P : Pools) → ((k : Kind) → Bounded P k) → (rs : List Request) (S : Holders) (gs : List Grant) → Sounds S → run P S rs ≡ done gs → AllGood gs
 unfolding run
-run-good P wide [] S gs s e = let z : gs ≡ [] = cc in rw z tt
-run-good P wide (r ∷ rs) S gs s e = go (run-good P wide rs) (resolve P S r) refl
+run-good P bounded [] S gs s e = let z : gs ≡ [] = cc in rw z tt
+run-good P bounded (r ∷ rs) S gs s e = go (run-good P bounded rs) (resolve P S r) refl
   where
     go : ((X : Holders) (hs : List Grant) → Sounds X → run P X rs ≡ done hs → AllGood hs) → (a : Answer (List Claim)) → resolve P S r ≡ a → AllGood gs
     go below (refused x) q = absurd (not-done (sym (run-refused P S r rs x q) ∙ e))
     go below (accepted cs) q =
         let (hs, e₁, z) = after-done (grant r cs) (run P (S ⊕ cs) rs) gs (sym (run-accepted P S r rs cs q) ∙ e) in
-        let a : Resolved P S r cs = resolved P S r cs (λ k m. (wide k, s k)) q in
+        let a : Resolved P S r cs = resolved P S r cs (λ k m. (bounded k, s k)) q in
         rw z (resolve-good P S r cs a q, below (S ⊕ cs) hs (λ k. rows-kept P S r cs k a (s k)) e₁)

@@ -1,118 +1,83 @@
--- Reservations, by the ways out of the code: the answer is the definition's, and so is the table afterwards. Assumes nothing.
+-- Reservations, by the ways out of the code: the answer is the definition's. Assumes nothing.
 use mathlib.Core.Path.{_≡_, refl, sym, _∙_, ap}
-use mathlib.Core.Bool.{Bool, true, false, _&&_}
-use mathlib.Core.List.{List, [], _∷_}
-use mathlib.Core.Option.{Option, some, none}
+use mathlib.Core.Bool.{true, false, _&&_}
+use mathlib.Core.List.{List}
 use Prim.Native.Nat.{ℕ, suc, _<_, _≤_}
 use native.Mathlib.Omega.{arith}
 use lib.Dec.{T, leb, ltb, eqb, ltb→lt}
 use lib.ListN.{length}
 use borrow.Author.Tests.{lt-ltb, le-ltb, le-leb, lt-leb, eq-eqb}
-use Rattle.definition.specs.Base.{allOf, firstOf, badOwner, emptyRange, full, reserved, Answer, accepted, refused, require}
-use Rattle.definition.specs.Tables.{rowLimit, top, lastTrigger, shared, dom, Kind, input, Row, wiredRow, sameDom, within, overlap, meets, Table, used, fits}
-use Rattle.definition.specs.Pools.{at-kind, Claim, rowsOf, room, unreserved, allUnreserved, reserve}
-use Rattle.definition.specs.Calls.{pushAll}
+use Rattle.definition.specs.Base.{allOf, firstOf, badOwner, emptyRange, full, badLpi, Answer, accepted, require}
+use Rattle.definition.specs.Tables.{rowLimit, top, lastTrigger, shared, dom, Kind, input, nature, Row, wiredRow, sameDom, within, overlap, meets, Table, used, fits, floored}
+use Rattle.definition.specs.Pools.{room, unreserved, allUnreserved, reserve}
 use Rattle.definition.specs.BaseLaws.{and-l, and-r, and-true, and-false, T-true, T-false, true-T}
-use Rattle.definition.specs.RowLaws.{kind-same}
-use Rattle.definition.specs.ClaimLaws.{rows-same}
-use Rattle.definition.specs.PoolLaws.{reserve-says}
-use Rattle.definition.specs.PlanLaws.{tell-number}
 use Rattle.definition.specs.TableLaws.{used-length}
 use Rattle.tables.specs.Below.{first}
 use Rattle.tables.specs.declared.Hit.the-variants.{At, Clear}
 use Rattle.tables.proofs.ListedLaws.{listed-length}
 use Rattle.tables.proofs.TableLaws.{table}
-use Rattle.insert.specs.Answers.{telling, heard, pushedOr, reserveOne, reserveAny, Told, Held}
+use Rattle.insert.specs.Answers.{telling, heard, faultOf, reserveAny, Told}
 use Rattle.insert.specs.declared.Reply.{Reply}
 use Rattle.insert.proofs.FirstLaws.{used-hit, used-clear}
+use Rattle.insert.proofs.TellLaws.{tell-required, tell-unreserved, fault-told, fault-none}
 
--- ---- one row, whatever its kind
+-- ---- one row, whatever its kind, beside the used rows of a table: what is told
 
-module _ (r : Row) (rows : List Row) where
-  any-owner : r .owner ≡ 0 → reserveAny r rows ≡ refused badOwner
-  unfolding reserveAny require
-  any-owner e = rw e
+module _ (floor : ℕ) (r : Row) (f : ℕ → Row) (n : ℕ) (few : n ≤ rowLimit) where
+  abbrev rows : List Row
+  rows = used (table rowLimit f n)
 
-  module _ (own : 0 < r .owner) where
-    any-empty : r .end ≤ r .start → reserveAny r rows ≡ refused emptyRange
-    unfolding reserveAny require
-    any-empty l = rw (lt-ltb 0 (r .owner) own, le-ltb (r .start) (r .end) l)
-
-    module _ (long : r .start < r .end) where
-      any-met : (x : Row) → firstOf (meets r) rows ≡ some x → reserveAny r rows ≡ refused (reserved (x .owner))
-      unfolding reserveAny require unreserved
-      any-met x e = rw (lt-ltb 0 (r .owner) own, lt-ltb (r .start) (r .end) long, e)
-
-      module _ (free : firstOf (meets r) rows ≡ none) where
-        any-full : rowLimit ≤ length rows → reserveAny r rows ≡ refused full
-        unfolding reserveAny require unreserved
-        any-full l = rw (lt-ltb 0 (r .owner) own, lt-ltb (r .start) (r .end) long, free, le-ltb (length rows) rowLimit l)
-
-        any-taken : length rows < rowLimit → reserveAny r rows ≡ accepted tt
-        unfolding reserveAny require unreserved
-        any-taken l = rw (lt-ltb 0 (r .owner) own, lt-ltb (r .start) (r .end) long, free, lt-ltb (length rows) rowLimit l)
-
--- .. beside the used rows of a table: what is told
-
-module _ (r : Row) (f : ℕ → Row) (n : ℕ) (few : n ≤ rowLimit) where
   abbrev Tells : Reply → Type 0
-  Tells a = heard a ≡ telling (reserveAny r (used (table rowLimit f n)))
+  Tells a = heard a ≡ telling (reserveAny floor r rows)
 
-  count : length (used (table rowLimit f n)) ≡ n
+  -- after the owner the range by itself is judged, and then the rest
+  abbrev rest : Answer (Unit {0})
+  rest = unreserved (firstOf (meets r) rows) (require (ltb (length rows) rowLimit) full (accepted tt))
+
+  abbrev range : Answer (Unit {0})
+  range = require (ltb (r .start) (r .end)) emptyRange (require (leb floor (r .start)) badLpi rest)
+
+  count : length rows ≡ n
   count = used-length (table rowLimit f n) (omega (arith, listed-length f rowLimit))
 
   pub tell-owner : r .owner ≡ 0 → Tells (record { number = 3; owner = 0 })
-  tell-owner e = ap telling (sym (any-owner r (used (table rowLimit f n)) e))
+  unfolding reserveAny require
+  tell-owner e = rw e
 
   module _ (own : r .owner ≡ 0 → ⊥) where
-    owner-above : 0 < r .owner
-    owner-above = omega arith
+    owned : reserveAny floor r rows ≡ range
+    unfolding reserveAny require
+    owned = rw (lt-ltb 0 (r .owner) (omega arith))
 
-    pub tell-empty : r .end ≤ r .start → Tells (record { number = 4; owner = 0 })
-    tell-empty l = ap telling (sym (any-empty r (used (table rowLimit f n)) owner-above l))
+    pub tell-fault : (faultOf (r .start) (r .end) floor ≡ 0 → ⊥) → Tells (record { number = faultOf (r .start) (r .end) floor; owner = 0 })
+    tell-fault z = fault-told (r .start) (r .end) floor rest z ∙ ap telling (sym owned)
 
-    module _ (long : r .start < r .end) where
+    module _ (fine : faultOf (r .start) (r .end) floor ≡ 0) where
+      told : telling rest ≡ telling (reserveAny floor r rows)
+      told = ap telling (sym (fault-none (r .start) (r .end) floor rest fine) ∙ sym owned)
+
       pub tell-met : (i : ℕ) → At i ≡ first (λ j. meets r (f j)) n → Tells (record { number = 5; owner = f i .owner })
-      tell-met i e = ap telling (sym (any-met r (used (table rowLimit f n)) owner-above long (f i) (used-hit (meets r) rowLimit f n few i e)))
+      unfolding unreserved
+      tell-met i e = sym (rw (used-hit (meets r) rowLimit f n few i e)) ∙ told
 
       module _ (free : Clear ≡ first (λ j. meets r (f j)) n) where
         pub tell-full : rowLimit ≤ n → Tells (record { number = 9; owner = 0 })
-        tell-full l = ap telling (sym (any-full r (used (table rowLimit f n)) owner-above long (used-clear (meets r) rowLimit f n few free) (omega (arith, count))))
+        unfolding require unreserved
+        tell-full l = sym (rw (used-clear (meets r) rowLimit f n few free, le-ltb (length rows) rowLimit (omega (arith, count)))) ∙ told
 
         pub tell-taken : n < rowLimit → Tells (record { number = 0; owner = 0 })
-        tell-taken l = ap telling (sym (any-taken r (used (table rowLimit f n)) owner-above long (used-clear (meets r) rowLimit f n few free) (omega (arith, count))))
+        unfolding require unreserved
+        tell-taken l = sym (rw (used-clear (meets r) rowLimit f n few free, lt-ltb (length rows) rowLimit (omega (arith, count)))) ∙ told
 
 -- ---- a row that fits its kind is answered so
 
-rows-one : (k : Kind) (r : Row) → rowsOf k (at-kind k r ∷ []) ≡ r ∷ []
-unfolding rowsOf
-rows-one k r = rows-same k (at-kind k r) [] (kind-same k)
-
-abbrev claimed : Kind → Row → Answer (Unit {0}) → Answer (List Claim)
-claimed k r (accepted a) = accepted (at-kind k r ∷ [])
-claimed k r (refused x) = refused x
-
-module _ (k : Kind) (r : Row) where
-  turns : (o g : Bool) (m : Option Row) (l : Bool) → require (o && true) badOwner (require (g && true) emptyRange (unreserved m (require (l && true) full (accepted (at-kind k r ∷ [])))))
-      ≡ claimed k r (require o badOwner (require g emptyRange (unreserved m (require l full (accepted tt)))))
-  unfolding require unreserved
-  turns false g m l = refl
-  turns true false m l = refl
-  turns true true (some x) l = refl
-  turns true true none false = refl
-  turns true true none true = refl
-
-  module _ (t : Table Row) (ok : T (fits k r)) where
-    one-any : reserveOne k r (used t) ≡ claimed k r (reserveAny r (used t))
-    unfolding reserve reserveAny allOf allUnreserved room require
-    one-any = rw (T-true (fits k r) ok) (turns (ltb 0 (r .owner)) (ltb (r .start) (r .end)) (firstOf (meets r) (used t)) (ltb (length (used t)) rowLimit))
-
-    pub told-as : (a : Reply) → heard a ≡ telling (reserveAny r (used t)) → Told k r t a
-    told-as a h = record { said = h ∙ go (reserveAny r (used t)) ∙ ap telling (sym one-any) }
-      where
-        go : (x : Answer (Unit {0})) → telling x ≡ telling (claimed k r x)
-        go (accepted u) = refl
-        go (refused x) = refl
+module _ (k : Kind) (r : Row) (t : Table Row) (ok : T (fits k r)) where
+  pub told-as : (a : Reply) → heard a ≡ telling (reserveAny (nature k .floor) r (used t)) → Told k r t a
+  unfolding reserve reserveAny allOf allUnreserved room require floored
+  told-as a h = record {
+    said = h ∙ rw (T-true (fits k r) ok, and-true (ltb 0 (r .owner)), and-true (ltb (r .start) (r .end)), and-true (leb (nature k .floor) (r .start)), and-true (ltb (length (used t)) rowLimit))
+        (tell-required _ _ (tell-required _ _ (tell-required _ _ (tell-unreserved _ _ (tell-required _ _ refl (ltb (length (used t)) rowLimit) full) (firstOf (meets r) (used t))) (leb (nature k .floor) (r .start)) badLpi) (ltb (r .start) (r .end)) emptyRange) (ltb 0 (r .owner)) badOwner);
+  }
 
 -- ---- inputs
 
@@ -152,28 +117,3 @@ module _ (c x t s o c′ x′ t′ s′ o′ : ℕ) where
   unfolding meets overlap sameDom
   inputs-level h =
       rw (lt-ltb x (suc x′) (omega arith), lt-ltb x′ (suc x) (omega arith)) (and-true (eqb c c′ && true) ∙ and-true (eqb c c′))
-
--- ---- the table afterwards
-
-module _ (k : Kind) (r : Row) (t : Table Row) (a : Reply) (h : Told k r t a) where
-  pub held-refused : (a .number ≡ 0 → ⊥) → Held k r t t a
-  held-refused n = record { rows = go (reserveOne k r (used t)) (h .said); said = h .said }
-    where
-      go : (x : Answer (List Claim)) → heard a ≡ telling x → t ≡ pushedOr k t x
-      go (accepted cs) e = absurd (n (ap (λ s. s .number) e))
-      go (refused x) e = refl
-
-  pub held-accepted : (u : Table Row) → a .number ≡ 0 → u ≡ pushAll t (r ∷ []) → Held k r t u a
-  held-accepted u n e = record { rows = e ∙ go (reserveOne k r (used t)) refl (h .said); said = h .said }
-    where
-      go : (x : Answer (List Claim)) → reserveOne k r (used t) ≡ x → heard a ≡ telling x → pushAll t (r ∷ []) ≡ pushedOr k t x
-      go (refused x) q s = absurd (tell-number 0 x (sym (ap (λ s. s .number) s) ∙ n))
-      go (accepted cs) q s = ap (pushAll t) (sym (rows-one k r) ∙ ap (rowsOf k) (reserve-says (λ j. used t) (at-kind k r ∷ []) cs q .0))
-
--- .. so an accepted one has pushed its row
-pub held-pushed : (k : Kind) (r : Row) (t u : Table Row) (a : Reply) → Held k r t u a → a .number ≡ 0 → u ≡ pushAll t (r ∷ [])
-held-pushed k r t u a h n = go (reserveOne k r (used t)) refl (h .rows) (h .said)
-  where
-    go : (x : Answer (List Claim)) → reserveOne k r (used t) ≡ x → u ≡ pushedOr k t x → heard a ≡ telling x → u ≡ pushAll t (r ∷ [])
-    go (refused x) q e s = absurd (tell-number 0 x (sym (ap (λ w. w .number) s) ∙ n))
-    go (accepted cs) q e s = e ∙ ap (pushAll t) (ap (rowsOf k) (sym (reserve-says (λ j. used t) (at-kind k r ∷ []) cs q .0)) ∙ rows-one k r)

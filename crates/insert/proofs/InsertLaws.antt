@@ -1,18 +1,19 @@
 -- Adding a pool range, by the ways out of the code: the table afterwards is the definition's. Assumes nothing.
-use mathlib.Core.Path.{_≡_, refl, sym, _∙_, ap, ap₂}
+use mathlib.Core.Path.{_≡_, sym, _∙_, ap, ap₂}
 use mathlib.Core.Bool.{Bool, true, false}
-use mathlib.Core.List.{List, [], _∷_}
+use mathlib.Core.List.{[], _∷_}
 use Prim.Native.Nat.{ℕ, zero, suc, _<_, _≤_}
 use native.Mathlib.Numerals.{add-one}
 use native.Mathlib.Omega.{arith}
 use lib.Dec.{T}
 use lib.ListN.{length}
 use borrow.Author.Tests.{lt-ltb, le-ltb}
-use Rattle.definition.specs.Tables.{poolLimit, Kind, Span, sameSpan, Table, used, blankSpan, tidy, fitsSpan}
-use Rattle.definition.specs.Base.{says, Answer, accepted, refused, emptyRange, full, require}
-use Rattle.definition.specs.Pools.{insert, unlessThere, addRange}
+use Rattle.definition.specs.Tables.{poolLimit, Span, sameSpan, used, blankSpan, tidy}
+use Rattle.definition.specs.Base.{anyOf, full, Answer, accepted, require}
+use Rattle.definition.specs.Pools.{insert, there, hasPlace}
 use Rattle.definition.specs.Calls.{stored}
-use Rattle.definition.specs.BaseLaws.{T-true}
+use Rattle.definition.specs.BaseLaws.{T-true, true-T, false-T}
+use Rattle.definition.specs.PoolLaws.{entered-there, entered-new}
 use Rattle.definition.specs.TableLaws.{Tidy, tidy-says, stored-same, used-length}
 use Rattle.tables.specs.Below.{listed, first}
 use Rattle.tables.specs.Views.{spanOf, poolAt, poolView}
@@ -23,11 +24,11 @@ use Rattle.tables.specs.declared.PoolRow.{PoolRow}
 use Rattle.tables.proofs.ListedLaws.{listed-length, listed-ext, drop-out, drop-in}
 use Rattle.tables.proofs.TableLaws.{table, used-is}
 use Rattle.insert.specs.Places.{before, placeOf, Opened}
-use Rattle.insert.specs.Answers.{addAny, Entered, telling, heard, storedOr}
-use Rattle.insert.specs.declared.Inserted.{Inserted}
+use Rattle.insert.specs.Answers.{telling, heard, enteredOr, faultOf, admitAny}
 use Rattle.insert.specs.declared.Reply.{Reply}
 use Rattle.tables.proofs.IndexLaws.{FirstIs, first-is}
 use Rattle.insert.proofs.FirstLaws.{used-any, used-none}
+use Rattle.insert.proofs.TellLaws.{fault-told, fault-none}
 
 -- ---- a row put where the definition puts it
 
@@ -79,10 +80,10 @@ place-le q n at e = rw e (go (first q n) (first-is q n))
 
 -- ---- the whole table
 
-module _ (t u : Pool) (at : ℕ) (r : PoolRow) (room : t .n < poolLimit) (o : Opened t u at r) where
-  abbrev rowOf : Pool → ℕ → Span
-  rowOf x k = spanOf (poolAt x k)
+abbrev rowOf : Pool → ℕ → Span
+rowOf x k = spanOf (poolAt x k)
 
+module _ (t u : Pool) (at : ℕ) (r : PoolRow) (room : t .n < poolLimit) (o : Opened t u at r) where
   pub opened-used : Placed (spanOf r) (rowOf t) (t .n) at → used (poolView u) ≡ insert (spanOf r) (used (poolView t))
   opened-used w =
       ap (λ n. used (table poolLimit (rowOf u) n)) (o .count ∙ add-one (t .n))
@@ -113,79 +114,84 @@ module _ (t u : Pool) (at : ℕ) (r : PoolRow) (room : t .n < poolLimit) (o : Op
       sym (stored-same (poolView u) (opened-tidy (tidy-says poolLimit (sameSpan blankSpan) (poolView t) h)))
       ∙ ap stored (opened-used (rw e (placed (spanOf r) (rowOf t) (t .n) (first (λ k. before (spanOf r) (rowOf t k)) (t .n)) (first-is (λ k. before (spanOf r) (rowOf t k)) (t .n)))))
 
--- ---- the ways out of `insert_range`
-
-entered : (t : Pool) (x : Inserted) (b a : Answer (List Span)) → b ≡ a → poolView (x .pool) ≡ storedOr (poolView t) a → says 0 (x .number) 0 0 0 ≡ telling a → Entered b (poolView t) x
-entered t x b a e rows said = record { rows = rows ∙ ap (storedOr (poolView t)) (sym e); said = said ∙ ap telling (sym e) }
-
--- a range that fits its kind is answered so
-pub add-as : (k : Kind) (p : Span) (t : Table Span) (x : Inserted) → T (fitsSpan k p) → Entered (addAny p (used t)) t x → Entered (addRange k p (used t)) t x
-unfolding addRange addAny require
-add-as k p t x ok h = rw (T-true (fitsSpan k p) ok) h
-
-module _ (t : Pool) (r : PoolRow) (good : T (tidy poolLimit (sameSpan blankSpan) (poolView t))) where
-  pub tidy-within : t .n ≤ poolLimit
-  tidy-within = tidy-says poolLimit (sameSpan blankSpan) (poolView t) good .within
-
-  used-count : length (used (poolView t)) ≡ t .n
-  used-count = used-length (poolView t) (omega (arith, tidy-within, listed-length (λ k. spanOf (poolAt t k)) poolLimit))
-
-  abbrev Enters : Inserted → Type 0
-  Enters x = Entered (addAny (spanOf r) (used (poolView t))) (poolView t) x
-
-  pub enter-empty : r .end ≤ r .start → Enters (record { pool = t; number = 4 })
-  unfolding addAny require
-  enter-empty l = entered t _ _ (refused emptyRange) (rw (le-ltb (r .start) (r .end) l)) refl refl
-
-  module _ (l : r .start < r .end) where
-    pub enter-there : (i : ℕ) → At i ≡ first (λ j. sameSpan (spanOf r) (spanOf (poolAt t j))) (t .n) → Enters (record { pool = t; number = 0 })
-    unfolding addAny require unlessThere
-    enter-there i e =
-        entered t _ _ (accepted (used (poolView t)))
-        (rw (lt-ltb (r .start) (r .end) l, used-any (sameSpan (spanOf r)) poolLimit (λ j. spanOf (poolAt t j)) (t .n) tidy-within i e))
-        (sym (stored-same (poolView t) (tidy-says poolLimit (sameSpan blankSpan) (poolView t) good))) refl
-
-    module _ (e : Clear ≡ first (λ j. sameSpan (spanOf r) (spanOf (poolAt t j))) (t .n)) where
-      pub enter-full : poolLimit ≤ t .n → Enters (record { pool = t; number = 9 })
-      unfolding addAny require unlessThere
-      enter-full f =
-          entered t _ _ (refused full)
-          (rw (lt-ltb (r .start) (r .end) l, used-none (sameSpan (spanOf r)) poolLimit (λ j. spanOf (poolAt t j)) (t .n) tidy-within e, used-count, le-ltb (t .n) poolLimit f)) refl refl
-
-      pub enter-new : (u : Pool) (at : ℕ) → t .n < poolLimit → at ≡ placeOf (first (λ j. before (spanOf r) (spanOf (poolAt t j))) (t .n)) (t .n) → Opened t u at r
-          → Enters (record { pool = u; number = 0 })
-      unfolding addAny require unlessThere
-      enter-new u at f q o =
-          entered t _ _ (accepted (insert (spanOf r) (used (poolView t))))
-          (rw (lt-ltb (r .start) (r .end) l, used-none (sameSpan (spanOf r)) poolLimit (λ j. spanOf (poolAt t j)) (t .n) tidy-within e, used-count, lt-ltb (t .n) poolLimit f))
-          (opened-stored t u at r f o good q) refl
-
--- ---- what is told, beside the used rows of a table
+-- ---- a table that has the range, or a place for it, or neither
 
 module _ (p : Span) (f : ℕ → Span) (n : ℕ) (good : T (tidy poolLimit (sameSpan blankSpan) (table poolLimit f n))) where
-  abbrev Says : Reply → Type 0
-  Says a = heard a ≡ telling (addAny p (used (table poolLimit f n)))
-
   pub rows-within : n ≤ poolLimit
   rows-within = tidy-says poolLimit (sameSpan blankSpan) (table poolLimit f n) good .within
 
   rows-count : length (used (table poolLimit f n)) ≡ n
   rows-count = used-length (table poolLimit f n) (omega (arith, rows-within, listed-length f poolLimit))
 
-  pub say-empty : p .end ≤ p .start → Says (record { number = 4; owner = 0 })
-  unfolding addAny require
-  say-empty l = rw (le-ltb (p .start) (p .end) l)
+  rows-there : (i : ℕ) → At i ≡ first (λ j. sameSpan p (f j)) n → T (there p (used (table poolLimit f n)))
+  unfolding there
+  rows-there i e = true-T (anyOf (sameSpan p) (used (table poolLimit f n))) (used-any (sameSpan p) poolLimit f n rows-within i e)
 
-  module _ (l : p .start < p .end) where
-    pub say-there : (i : ℕ) → At i ≡ first (λ j. sameSpan p (f j)) n → Says (record { number = 0; owner = 0 })
-    unfolding addAny require unlessThere
-    say-there i e = rw (lt-ltb (p .start) (p .end) l, used-any (sameSpan p) poolLimit f n rows-within i e)
+  place-there : (i : ℕ) → At i ≡ first (λ j. sameSpan p (f j)) n → hasPlace p (used (table poolLimit f n)) ≡ true
+  place-there i e = T-true (hasPlace p (used (table poolLimit f n))) (entered-there p (used (table poolLimit f n)) (rows-there i e) .1)
 
-    module _ (e : Clear ≡ first (λ j. sameSpan p (f j)) n) where
-      pub say-full : poolLimit ≤ n → Says (record { number = 9; owner = 0 })
-      unfolding addAny require unlessThere
-      say-full m = rw (lt-ltb (p .start) (p .end) l, used-none (sameSpan p) poolLimit f n rows-within e, rows-count, le-ltb n poolLimit m)
+  module _ (e : Clear ≡ first (λ j. sameSpan p (f j)) n) where
+    rows-new : there p (used (table poolLimit f n)) ≡ false
+    unfolding there
+    rows-new = used-none (sameSpan p) poolLimit f n rows-within e
 
-      pub say-new : n < poolLimit → Says (record { number = 0; owner = 0 })
-      unfolding addAny require unlessThere
-      say-new m = rw (lt-ltb (p .start) (p .end) l, used-none (sameSpan p) poolLimit f n rows-within e, rows-count, lt-ltb n poolLimit m)
+    place-none : poolLimit ≤ n → hasPlace p (used (table poolLimit f n)) ≡ false
+    unfolding hasPlace
+    place-none m = rw (rows-new, rows-count, le-ltb n poolLimit m)
+
+    place-new : n < poolLimit → hasPlace p (used (table poolLimit f n)) ≡ true
+    unfolding hasPlace
+    place-new m = rw (rows-new, rows-count, lt-ltb n poolLimit m)
+
+  -- ---- what is told
+
+  abbrev gate : Bool → Answer (Unit {0})
+  gate b = require b full (accepted tt)
+
+  module _ (floor : ℕ) where
+    abbrev Says : Reply → Type 0
+    Says a = heard a ≡ telling (admitAny floor p (used (table poolLimit f n)))
+
+    pub say-fault : (faultOf (p .start) (p .end) floor ≡ 0 → ⊥) → Says (record { number = faultOf (p .start) (p .end) floor; owner = 0 })
+    unfolding admitAny
+    say-fault z = fault-told (p .start) (p .end) floor (gate (hasPlace p (used (table poolLimit f n)))) z
+
+    module _ (fine : faultOf (p .start) (p .end) floor ≡ 0) where
+      said : {b : Bool} → hasPlace p (used (table poolLimit f n)) ≡ b → telling (gate b) ≡ telling (admitAny floor p (used (table poolLimit f n)))
+      unfolding admitAny
+      said e = ap telling (ap gate (sym e) ∙ sym (fault-none (p .start) (p .end) floor (gate (hasPlace p (used (table poolLimit f n)))) fine))
+
+      pub say-there : (i : ℕ) → At i ≡ first (λ j. sameSpan p (f j)) n → Says (record { number = 0; owner = 0 })
+      unfolding require
+      say-there i e = said (place-there i e)
+
+      module _ (e : Clear ≡ first (λ j. sameSpan p (f j)) n) where
+        pub say-full : poolLimit ≤ n → Says (record { number = 9; owner = 0 })
+        unfolding require
+        say-full m = said (place-none e m)
+
+        pub say-new : n < poolLimit → Says (record { number = 0; owner = 0 })
+        unfolding require
+        say-new m = said (place-new e m)
+
+-- ---- the ways out of `insert_range`
+
+module _ (t : Pool) (r : PoolRow) (good : T (tidy poolLimit (sameSpan blankSpan) (poolView t))) where
+  abbrev Enters : Pool → Type 0
+  Enters u = poolView u ≡ enteredOr (spanOf r) (poolView t)
+
+  pub enter-there : (i : ℕ) → At i ≡ first (λ j. sameSpan (spanOf r) (rowOf t j)) (t .n) → Enters t
+  enter-there i e =
+      rw (place-there (spanOf r) (rowOf t) (t .n) good i e)
+      (sym (stored-same (poolView t) (tidy-says poolLimit (sameSpan blankSpan) (poolView t) good))
+      ∙ ap stored (sym (entered-there (spanOf r) (used (poolView t)) (rows-there (spanOf r) (rowOf t) (t .n) good i e) .0)))
+
+  module _ (e : Clear ≡ first (λ j. sameSpan (spanOf r) (rowOf t j)) (t .n)) where
+    pub enter-full : poolLimit ≤ t .n → Enters t
+    enter-full f = rw (place-none (spanOf r) (rowOf t) (t .n) good e f)
+
+    pub enter-new : (u : Pool) (at : ℕ) → t .n < poolLimit → at ≡ placeOf (first (λ j. before (spanOf r) (rowOf t j)) (t .n)) (t .n) → Opened t u at r → Enters u
+    enter-new u at f q o =
+        rw (place-new (spanOf r) (rowOf t) (t .n) good e f)
+        (opened-stored t u at r f o good q
+        ∙ ap stored (sym (entered-new (spanOf r) (used (poolView t)) (false-T (there (spanOf r) (used (poolView t))) (rows-new (spanOf r) (rowOf t) (t .n) good e)))))

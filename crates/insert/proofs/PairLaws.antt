@@ -3,14 +3,15 @@ use mathlib.Core.Path.{_≡_, refl, _∙_}
 use mathlib.Core.Bool.{Bool, true, false, _&&_}
 use mathlib.Core.List.{List, [], _∷_}
 use mathlib.Core.Option.{Option, some, none}
-use lib.Dec.{eqb, ltb}
+use lib.Dec.{eqb, ltb, leb·zero}
 use lib.ListN.{length}
 use borrow.Author.Tests.{eqb-true, eqb-false}
 use Rattle.definition.specs.Base.{allOf, firstOf, Answer, accepted, badInput, badOwner, emptyRange, full, require}
-use Rattle.definition.specs.Tables.{rowLimit, Kind, Row, meets, fits}
+use Rattle.definition.specs.Tables.{rowLimit, Kind, nature, Row, meets, fits, floored}
 use Rattle.definition.specs.Pools.{at-kind, Holders, Claim, room, unreserved, allUnreserved, reserve}
-use Rattle.insert.specs.Answers.{telling, heard, reserveOne, pick, earlierOf}
+use Rattle.insert.specs.Answers.{telling, heard, reserveOne, pick, comesBefore, earlierOf}
 use Rattle.insert.specs.declared.Reply.{Reply}
+use Rattle.insert.proofs.TellLaws.{reply, replies}
 
 -- the turns of one row, and of two
 unfoldable one : List Claim → Bool → Bool → Bool → Option Row → Bool → Answer (List Claim)
@@ -22,13 +23,9 @@ two cs f o g m r f′ o′ g′ m′ r′ =
     require (f && (f′ && true)) badInput (require (o && (o′ && true)) badOwner (require (g && (g′ && true)) emptyRange
     (unreserved m (unreserved m′ (require (r && (r′ && true)) full (accepted cs))))))
 
--- an answer as a reply
-abbrev reply : Answer (List Claim) → Reply
-reply a = record { number = telling a .number; owner = telling a .owner }
-
 turns : (cs ds es : List Claim) (f o g : Bool) (m : Option Row) (r f′ o′ g′ : Bool) (m′ : Option Row) (r′ : Bool)
     → heard (earlierOf (reply (one ds f o g m r)) (reply (one es f′ o′ g′ m′ r′))) ≡ telling (two cs f o g m r f′ o′ g′ m′ r′)
-unfolding one two require unreserved earlierOf
+unfolding one two require unreserved earlierOf comesBefore
 turns cs ds es false o g m r false o′ g′ m′ r′ = refl
 turns cs ds es false o g m r true false g′ m′ r′ = refl
 turns cs ds es false o g m r true true false m′ r′ = refl
@@ -66,23 +63,21 @@ turns cs ds es true true true none true true true true (some x′) r′ = refl
 turns cs ds es true true true none true true true true none false = refl
 turns cs ds es true true true none true true true true none true = refl
 
-replies : (a : Reply) (x : Answer (List Claim)) → heard a ≡ telling x → a ≡ reply x
-replies a x e = λ i. record { number = e i .number; owner = e i .owner }
-
-module _ (R : Holders) (j k : Kind) (p q : Row) where
+-- of kinds whose ranges start anywhere
+module _ (R : Holders) (j k : Kind) (p q : Row) (j-low : nature j .floor ≡ 0) (k-low : nature k .floor ≡ 0) where
   pub pair-told : (a b : Reply) → heard a ≡ telling (reserveOne j p (R j)) → heard b ≡ telling (reserveOne k q (R k))
       → heard (earlierOf a b) ≡ telling (reserve R (at-kind j p ∷ at-kind k q ∷ []))
-  unfolding reserve allOf allUnreserved room one two
+  unfolding reserve allOf allUnreserved room one two floored require
   pair-told a b e h =
       (λ i. heard (earlierOf (replies a (reserveOne j p (R j)) e i) (replies b (reserveOne k q (R k)) h i)))
-      ∙ turns (at-kind j p ∷ at-kind k q ∷ []) (at-kind j p ∷ []) (at-kind k q ∷ [])
+      ∙ rw (j-low, k-low, leb·zero (p .start), leb·zero (q .start)) (turns (at-kind j p ∷ at-kind k q ∷ []) (at-kind j p ∷ []) (at-kind k q ∷ [])
       (fits j p) (ltb 0 (p .owner)) (ltb (p .start) (p .end)) (firstOf (meets p) (R j)) (ltb (length (R j)) rowLimit)
-      (fits k q) (ltb 0 (q .owner)) (ltb (q .start) (q .end)) (firstOf (meets q) (R k)) (ltb (length (R k)) rowLimit)
+      (fits k q) (ltb 0 (q .owner)) (ltb (q .start) (q .end)) (firstOf (meets q) (R k)) (ltb (length (R k)) rowLimit))
 
 -- neither is refused just when the earlier is not
 pub earlier-zero : (a b : Reply) → earlierOf a b .number ≡ 0 → (a .number ≡ 0) × (b .number ≡ 0)
 unfolding earlierOf
-earlier-zero a b e = go (eqb (a .number) 0) refl (eqb (b .number) 0) refl (ltb (b .number) (a .number)) e
+earlier-zero a b e = go (eqb (a .number) 0) refl (eqb (b .number) 0) refl (comesBefore (b .number) (a .number)) e
   where
     go : (x : Bool) → eqb (a .number) 0 ≡ x → (y : Bool) → eqb (b .number) 0 ≡ y → (z : Bool) → pick x b (pick y a (pick z b a)) .number ≡ 0 → (a .number ≡ 0) × (b .number ≡ 0)
     go true p y q z h = (eqb-true (a .number) 0 p, h)

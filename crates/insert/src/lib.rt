@@ -13,22 +13,21 @@ ghost use Rattle.definition.specs.Tables.{poolLimit, rowLimit, top, sameSpan, b
 ghost use Rattle.tables.specs.Below.{first};
 ghost use Rattle.tables.specs.Views.{pool, ranges, spanOf, rangeOf, poolAt, poolView, rangesView};
 ghost use Rattle.insert.specs.Places.{stops, placeOf, Opened};
-ghost use Rattle.insert.specs.Answers.{telling, heard, addAny, Entered, reserveAny, earlierOf};
+ghost use Rattle.insert.specs.Answers.{telling, heard, admitAny, enteredOr, reserveAny, faultOf, comesBefore, earlierOf};
 
 pub mod wired;
 
 const TOP_64: u64 = 18446744073709551615;
 
+// C-12's number, and the one that it comes directly after.
+const BAD_LPI: u64 = 12;
+
+const EMPTY_RANGE: u64 = 4;
+
 // The answer of a call on one table: 01's number, and the owner that a 5 names. Both are 0 where it is accepted.
 pub struct Reply {
     pub number: u64,
     pub owner: u64,
-}
-
-// A pool table afterwards, and the number of its answer.
-pub struct Inserted {
-    pub pool: Pool,
-    pub number: u64,
 }
 
 // A narrower number as a wide one, which keeps to its width.
@@ -54,7 +53,33 @@ pub fn past(x: u64) -> u64
     x
 }
 
-// Of two answers the one whose turn comes first. Turns come in the order of their numbers, and `a`'s comes first where both have one number.
+// What a range answers by itself: 4 where it is empty, 12 where it starts below its kind's `floor`, else 0.
+fn range_fault(start: u64, end: u64, floor: u64) -> u64
+    ensures { λ n. ⌜ n ≡ faultOf start end floor ⌝ }
+{
+    if end <= start {
+        return EMPTY_RANGE;
+    }
+    if start < floor {
+        return BAD_LPI;
+    }
+    0
+}
+
+// Whether refusal `a` comes before refusal `b`: in the order of their numbers, but 12 comes directly after 4.
+fn comes_before(a: u64, b: u64) -> bool
+    ensures { λ r. ⌜ r ≡ comesBefore a b ⌝ }
+{
+    if b == BAD_LPI {
+        return a <= EMPTY_RANGE;
+    }
+    if a == BAD_LPI {
+        return EMPTY_RANGE < b;
+    }
+    a < b
+}
+
+// Of two answers the one whose turn comes first, and `a` where both have one number.
 pub fn earlier(a: Reply, b: Reply) -> Reply
     ensures { λ r. ⌜ r ≡ earlierOf a b ⌝ }
 {
@@ -64,7 +89,7 @@ pub fn earlier(a: Reply, b: Reply) -> Reply
     if b.number == 0 {
         return a;
     }
-    if b.number < a.number {
+    if comes_before(b.number, a.number) {
         return b;
     }
     a
@@ -158,45 +183,40 @@ fn open_row(t: Pool, at: usize, r: PoolRow) -> Pool
     next
 }
 
-// One pool range more. An exact duplicate adds no row, even to a full table; an empty range is 4, and a row more than there are is 9.
-pub fn insert_range(t: Pool, r: PoolRow) -> Inserted
+// The table with one pool range more. An exact duplicate adds no row, and a full table takes none.
+pub fn insert_range(t: Pool, r: PoolRow) -> Pool
     requires { ⌜ T (tidy poolLimit (sameSpan blankSpan) (poolView t)) ⌝ }
-    ensures { λ x. ⌜ Entered (addAny (spanOf r) (used (poolView t))) (poolView t) x ⌝ }
+    ensures { λ x. ⌜ poolView x ≡ enteredOr (spanOf r) (poolView t) ⌝ }
 {
-    if r.end <= r.start {
-        return Inserted { pool: t, number: 4 };
-    }
     let n = t.n;
     let there = first_stop(n, &t.controller, &t.its, &t.start, &t.end, true, r);
     if let Hit::At(_) = there {
-        return Inserted { pool: t, number: 0 };
+        return t;
     }
     if POOL_ROWS <= n {
-        return Inserted { pool: t, number: 9 };
+        return t;
     }
     let at = place(n, &t.controller, &t.its, &t.start, &t.end, r);
-    let next = open_row(t, at, r);
-    Inserted {
-        pool: next,
-        number: 0,
-    }
+    open_row(t, at, r)
 }
 
-// What adding `r` to a table of `n` rows answers: 4, 9, or 0 where it goes in or is there already.
+// What adding `r`, of a kind whose ranges start at `floor` or above, to a table of `n` rows answers: 4, 12, 9, or 0 where it goes in or is there already.
 pub fn refuse_pool<'a>(
     n: usize,
     controller: &'a [u32; POOL_ROWS],
     its: &'a [u32; POOL_ROWS],
     start: &'a [u64; POOL_ROWS],
     end: &'a [u64; POOL_ROWS],
+    floor: u64,
     r: PoolRow,
 ) -> Reply
     requires { ⌜ T (tidy poolLimit (sameSpan blankSpan) (poolView (pool n (now controller) (now its) (now start) (now end)))) ⌝ }
-    ensures { λ a. ⌜ heard a ≡ telling (addAny (spanOf r) (used (poolView (pool n (now (controller .entry)) (now (its .entry)) (now (start .entry)) (now (end .entry)))))) ⌝ }
+    ensures { λ a. ⌜ heard a ≡ telling (admitAny floor (spanOf r) (used (poolView (pool n (now (controller .entry)) (now (its .entry)) (now (start .entry)) (now (end .entry)))))) ⌝ }
 {
-    if r.end <= r.start {
+    let fault = range_fault(r.start, r.end, floor);
+    if fault != 0 {
         return Reply {
-            number: 4,
+            number: fault,
             owner: 0,
         };
     }
@@ -221,7 +241,7 @@ pub fn refuse_pool<'a>(
 
 // ---- reservations
 
-// What a reservation of `r` beside the first `n` rows answers: 3, 4, 5 with the owner of the first row that it overlaps, 9.
+// What a reservation of `r`, of a kind whose ranges start at `floor` or above, beside the first `n` rows answers: 3, 4, 12, 5 with the owner of the first row that it overlaps, 9.
 pub fn refuse_range<'a>(
     n: usize,
     controller: &'a [u32; ROWS],
@@ -230,10 +250,11 @@ pub fn refuse_range<'a>(
     start: &'a [u64; ROWS],
     end: &'a [u64; ROWS],
     owner: &'a [u32; ROWS],
+    floor: u64,
     r: RangeRow,
 ) -> Reply
     requires { ⌜ n ≤ rowLimit ⌝ }
-    ensures told { λ a. ⌜ heard a ≡ telling (reserveAny (rangeOf r) (used (rangesView (ranges n (now (controller .entry)) (now (its .entry)) (now (device .entry)) (now (start .entry)) (now (end .entry)) (now (owner .entry)))))) ⌝ }
+    ensures told { λ a. ⌜ heard a ≡ telling (reserveAny floor (rangeOf r) (used (rangesView (ranges n (now (controller .entry)) (now (its .entry)) (now (device .entry)) (now (start .entry)) (now (end .entry)) (now (owner .entry)))))) ⌝ }
     ensures room { λ a. ⌜ (a .number ≡ 0 → n < rowLimit) ⌝ }
 {
     if r.owner == 0 {
@@ -242,9 +263,10 @@ pub fn refuse_range<'a>(
             owner: 0,
         };
     }
-    if r.end <= r.start {
+    let fault = range_fault(r.start, r.end, floor);
+    if fault != 0 {
         return Reply {
-            number: 4,
+            number: fault,
             owner: 0,
         };
     }

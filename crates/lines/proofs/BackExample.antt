@@ -7,10 +7,10 @@ use Prim.Native.String.{String}
 use lib.Dec.{lit≤}
 use lib.ListN.{length}
 use Rattle.definition.specs.Base.{anyOf, allOf, pairsOf, firstOf, lower, leastOf, require}
-use Rattle.definition.specs.Tables.{sameKind, sameDom, within, sameSpan, sameRow, overlap, meets, joins, clash, tidy, fits, fitsSpan, goodRow, goodSpan, begins, inOrder, soundTable}
-use Rattle.definition.specs.Pools.{insert, unlessThere, addRange, rowsOf, room, unreserved, allUnreserved, reserve, _⊕_}
+use Rattle.definition.specs.Tables.{sameKind, sameDom, within, sameSpan, sameRow, overlap, meets, joins, clash, tidy, fits, fitsSpan, floored, goodRow, goodSpan, begins, inOrder, soundTable}
+use Rattle.definition.specs.Pools.{insert, there, entered, hasPlace, admit, rowsOf, room, unreserved, allUnreserved, reserve, _⊕_}
 use Rattle.definition.specs.Request.{goodChoice, oneBit, goodWant, goodRequest, rowAt, aligned, holds, free, alignUp, candidates, lowest, allowed, unjoined, obstacle, detail, found, unopposed, place, claims, resolve}
-use Rattle.definition.specs.Calls.{poolsOf, givenAt, soundAt, given, sound, pushAll, addAll, serve}
+use Rattle.definition.specs.Calls.{poolsOf, givenAt, soundAt, given, sound, pushAll, entering, serve}
 use Rattle.definition.specs.Plan.{run, recordOf, records, allocateInto, pinWant, pinned}
 use Rattle.definition.specs.RequestLaws.{AutoInFixed, insideOne, autoInFixed, inside-says}
 use Rattle.definition.specs.ReplayLaws.{now, later, Pick, stop, pick}
@@ -37,12 +37,12 @@ pinned-text : List ℕ
 pinned-text = bytes head ++ bytes "want\t3\t1\tmsi\t1\t2\t2\t8\t0\t8192\nwant\t3\t2\tinput\t1\t0\t1\t33\nwant\t4\t0\tinput\t1\t0\t1\t32\nwant\t3\t3\tmmio\t256\t256\t6144\nwant\t3\t4\tpio\t4\t4\t96\nwant\t3\t5\thost\t41\nwant\t4\t1\tmsi\t1\t2\t1\t9\t0\t8194\n"
 
 accepted-text : accepts (ended text .said) ≡ true
-unfolding text lib.Count.onesIn anyOf allOf pairsOf firstOf lower leastOf sameDom within sameKind sameSpan sameRow overlap meets joins clash require tidy fits fitsSpan goodRow goodSpan begins inOrder soundTable insert unlessThere addRange rowsOf room unreserved allUnreserved reserve goodChoice oneBit goodWant goodRequest rowAt aligned holds free alignUp candidates lowest allowed unjoined obstacle detail found unopposed place claims resolve givenAt soundAt given sound pushAll addAll serve recordOf allocateInto same grow split when _andThen_ _orElse_ valueFrom plain number entry numbers form _gives_ tries useOf behindPool behindHold behindWant byWord byFields readLine setUp opened answered ask step feedParts feed unfinished close ended
+unfolding text lib.Count.onesIn anyOf allOf pairsOf firstOf lower leastOf sameDom within sameKind sameSpan sameRow overlap meets joins clash require tidy fits fitsSpan floored goodRow goodSpan begins inOrder soundTable insert there entered hasPlace admit rowsOf room unreserved allUnreserved reserve goodChoice oneBit goodWant goodRequest rowAt aligned holds free alignUp candidates lowest allowed unjoined obstacle detail found unopposed place claims resolve givenAt soundAt given sound pushAll entering serve recordOf allocateInto same grow split when _andThen_ _orElse_ valueFrom plain number entry numbers form _gives_ tries useOf behindPool behindHold behindWant byWord byFields readLine setUp opened answered ask step feedParts feed unfinished close ended
 accepted-text = refl
 
 -- what is written, byte for byte
 written-text : back text ≡ pinned-text
-unfolding text pinned-text lib.Count.onesIn anyOf allOf pairsOf firstOf lower leastOf sameDom within sameKind sameSpan sameRow overlap meets joins clash require tidy fits fitsSpan goodRow goodSpan begins inOrder soundTable insert unlessThere addRange rowsOf room unreserved allUnreserved reserve goodChoice oneBit goodWant goodRequest rowAt aligned holds free alignUp candidates lowest allowed unjoined obstacle detail found unopposed place claims resolve givenAt soundAt given sound pushAll addAll serve run _⊕_ pinWant pinned same grow split when _andThen_ _orElse_ valueFrom plain number digitsUpTo digits behind entry numbers form _gives_ tries useOf behindPool behindHold behindWant byWord byFields readLine fieldOf fieldsOf lineFrom lineOf callsOf calls heads wants served setUpBy grants pinnedCalls linesOf back
+unfolding text pinned-text lib.Count.onesIn anyOf allOf pairsOf firstOf lower leastOf sameDom within sameKind sameSpan sameRow overlap meets joins clash require tidy fits fitsSpan floored goodRow goodSpan begins inOrder soundTable insert there entered hasPlace admit rowsOf room unreserved allUnreserved reserve goodChoice oneBit goodWant goodRequest rowAt aligned holds free alignUp candidates lowest allowed unjoined obstacle detail found unopposed place claims resolve givenAt soundAt given sound pushAll entering serve run _⊕_ pinWant pinned same grow split when _andThen_ _orElse_ valueFrom plain number digitsUpTo digits behind entry numbers form _gives_ tries useOf behindPool behindHold behindWant byWord byFields readLine fieldOf fieldsOf lineFrom lineOf callsOf calls heads wants served setUpBy grants pinnedCalls linesOf back
 written-text = refl
 
 -- .. is read as what was meant
@@ -59,7 +59,7 @@ unfolding chosen indices
 picked = pick (later (later (later (later (later (later now)))))) (pick (later (later (later (later now)))) (pick (later (later now)) (pick now stop)))
 
 inside : AutoInFixed (poolsOf (setUpBy text))
-unfolding autoInFixed insideOne text lib.Count.onesIn anyOf allOf pairsOf firstOf lower leastOf sameDom within sameKind sameSpan sameRow overlap meets joins clash require tidy fits fitsSpan goodRow goodSpan begins inOrder soundTable insert unlessThere addRange rowsOf room unreserved allUnreserved reserve goodChoice oneBit goodWant goodRequest rowAt aligned holds free alignUp candidates lowest allowed unjoined obstacle detail found unopposed place claims resolve givenAt soundAt given sound pushAll addAll serve run _⊕_ pinWant pinned same grow split when _andThen_ _orElse_ valueFrom plain number digitsUpTo digits behind entry numbers form _gives_ tries useOf behindPool behindHold behindWant byWord byFields readLine fieldOf fieldsOf lineFrom lineOf callsOf calls heads wants served setUpBy grants pinnedCalls linesOf back
+unfolding autoInFixed insideOne text lib.Count.onesIn anyOf allOf pairsOf firstOf lower leastOf sameDom within sameKind sameSpan sameRow overlap meets joins clash require tidy fits fitsSpan floored goodRow goodSpan begins inOrder soundTable insert there entered hasPlace admit rowsOf room unreserved allUnreserved reserve goodChoice oneBit goodWant goodRequest rowAt aligned holds free alignUp candidates lowest allowed unjoined obstacle detail found unopposed place claims resolve givenAt soundAt given sound pushAll entering serve run _⊕_ pinWant pinned same grow split when _andThen_ _orElse_ valueFrom plain number digitsUpTo digits behind entry numbers form _gives_ tries useOf behindPool behindHold behindWant byWord byFields readLine fieldOf fieldsOf lineFrom lineOf callsOf calls heads wants served setUpBy grants pinnedCalls linesOf back
 inside = inside-says (poolsOf (setUpBy text)) tt
 
 short : length (back text) ≤ textLimit
@@ -72,10 +72,10 @@ again = record { was-accepted = accepted-text; was-written = short; inside = ins
 
 -- the text of these lines
 selected : selection text chosen ≡ bytes head ++ bytes "want\t4\t1\tmsi\t1\t2\t1\t9\t0\t8194\nwant\t3\t4\tpio\t4\t4\t96\nwant\t4\t0\tinput\t1\t0\t1\t32\nwant\t3\t1\tmsi\t1\t2\t2\t8\t0\t8192\n"
-unfolding chosen text lib.Count.onesIn anyOf allOf pairsOf firstOf lower leastOf sameDom within sameKind sameSpan sameRow overlap meets joins clash require tidy fits fitsSpan goodRow goodSpan begins inOrder soundTable insert unlessThere addRange rowsOf room unreserved allUnreserved reserve goodChoice oneBit goodWant goodRequest rowAt aligned holds free alignUp candidates lowest allowed unjoined obstacle detail found unopposed place claims resolve givenAt soundAt given sound pushAll addAll serve run _⊕_ pinWant pinned same grow split when _andThen_ _orElse_ valueFrom plain number digitsUpTo digits behind entry numbers form _gives_ tries useOf behindPool behindHold behindWant byWord byFields readLine fieldOf fieldsOf lineFrom lineOf callsOf calls heads wants served setUpBy grants pinnedCalls linesOf back
+unfolding chosen text lib.Count.onesIn anyOf allOf pairsOf firstOf lower leastOf sameDom within sameKind sameSpan sameRow overlap meets joins clash require tidy fits fitsSpan floored goodRow goodSpan begins inOrder soundTable insert there entered hasPlace admit rowsOf room unreserved allUnreserved reserve goodChoice oneBit goodWant goodRequest rowAt aligned holds free alignUp candidates lowest allowed unjoined obstacle detail found unopposed place claims resolve givenAt soundAt given sound pushAll entering serve run _⊕_ pinWant pinned same grow split when _andThen_ _orElse_ valueFrom plain number digitsUpTo digits behind entry numbers form _gives_ tries useOf behindPool behindHold behindWant byWord byFields readLine fieldOf fieldsOf lineFrom lineOf callsOf calls heads wants served setUpBy grants pinnedCalls linesOf back
 selected = refl
 
 -- .. is answered with the numbers that they had
 answers : output (selection text chosen) ≡ bytes "got\t4\t1\tmsi\t1\t2\t9\t0\t8194\t1\ngot\t3\t4\tpio\t96\t4\ngot\t4\t0\tinput\t1\t32\t0\t1\ngot\t3\t1\tmsi\t1\t2\t8\t0\t8192\t2\nend\t4\n"
-unfolding chosen recordOf records lineWith carriedBy gotLine gotLines endLine text lib.Count.onesIn anyOf allOf pairsOf firstOf lower leastOf sameDom within sameKind sameSpan sameRow overlap meets joins clash require tidy fits fitsSpan goodRow goodSpan begins inOrder soundTable insert unlessThere addRange rowsOf room unreserved allUnreserved reserve goodChoice oneBit goodWant goodRequest rowAt aligned holds free alignUp candidates lowest allowed unjoined obstacle detail found unopposed place claims resolve givenAt soundAt given sound pushAll addAll serve run _⊕_ pinWant pinned same grow split when _andThen_ _orElse_ valueFrom plain number digitsUpTo digits behind entry numbers form _gives_ tries useOf behindPool behindHold behindWant byWord byFields readLine fieldOf fieldsOf lineFrom lineOf callsOf calls heads wants served setUpBy grants pinnedCalls linesOf back
+unfolding chosen recordOf records lineWith carriedBy gotLine gotLines endLine text lib.Count.onesIn anyOf allOf pairsOf firstOf lower leastOf sameDom within sameKind sameSpan sameRow overlap meets joins clash require tidy fits fitsSpan floored goodRow goodSpan begins inOrder soundTable insert there entered hasPlace admit rowsOf room unreserved allUnreserved reserve goodChoice oneBit goodWant goodRequest rowAt aligned holds free alignUp candidates lowest allowed unjoined obstacle detail found unopposed place claims resolve givenAt soundAt given sound pushAll entering serve run _⊕_ pinWant pinned same grow split when _andThen_ _orElse_ valueFrom plain number digitsUpTo digits behind entry numbers form _gives_ tries useOf behindPool behindHold behindWant byWord byFields readLine fieldOf fieldsOf lineFrom lineOf callsOf calls heads wants served setUpBy grants pinnedCalls linesOf back
 answers = same-answers text chosen again

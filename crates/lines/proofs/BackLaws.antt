@@ -19,10 +19,10 @@ use Rattle.definition.specs.Calls.{State, poolsOf, heldOf, starting, Call, pool
 use Rattle.definition.specs.Plan.{Grant, done, run, records, baseAt, pinChoice, pinWant, pinned}
 use Rattle.definition.specs.StateLaws.{SoundFor, given-for, start-sound}
 use Rattle.definition.specs.RunLaws.{run-requests, run-good}
-use Rattle.definition.specs.PlanLaws.{all-wide, all-sounds}
+use Rattle.definition.specs.PlanLaws.{all-bounded, all-sounds}
 use Rattle.lines.specs.Base.{newline, split}
 use Rattle.lines.specs.Forms.{wantSpelling}
-use Rattle.lines.specs.Line.{readLine, lineOf, within, spellable, sayable}
+use Rattle.lines.specs.Line.{readLine, lineOf, numbersFit, spellable, sayable}
 use Rattle.lines.specs.Text.{sofar, accepts, ended}
 use Rattle.lines.specs.Back.{calls, heads, wants, setUpBy, grants, pinnedCalls, linesOf, back}
 use Rattle.lines.proofs.PartLaws.{split-some}
@@ -35,7 +35,7 @@ use Rattle.lines.proofs.RunTextLaws.{standing, Accepted, takes-accepted
 
 -- what makes sense then fits the fields of its line
 pinned-fits : (q slot : ℕ) (w : Want) (cs : List Claim) → T (spellable (wantSpelling q slot w)) → T (goodWant (pinWant w cs)) → T (spellable (wantSpelling q slot (pinWant w cs)))
-unfolding within goodWant goodChoice pinWant
+unfolding numbersFit goodWant goodChoice pinWant
 pinned-fits q slot (mmioWant size a auto) cs s g = search (and-l, and-r, and-i)
 pinned-fits q slot (mmioWant size a (at b)) cs s g = s
 pinned-fits q slot (pioWant size a auto) cs s g = search (and-l, and-r, and-i)
@@ -158,7 +158,7 @@ module _ (text : List ℕ) (a : accepts (ended text .said) ≡ true) where
   grant-sayable : (g : Grant) → List·Memᴰ g gs → T (sayable (want (pinned g)))
   grant-sayable g m =
       let asked : List·Memᴰ (g .request) (wants cs) = subst (List·Memᴰ (g .request)) requests-are (Memᴰ·map (λ h. h .request) m) in
-      let good : T (goodRequest (pinned g)) = run-good (poolsOf s) (all-wide (starting s) set-up-sound) (wants cs) (heldOf s) gs (all-sounds (starting s) set-up-sound) ran g m in
+      let good : T (goodRequest (pinned g)) = run-good (poolsOf s) (all-bounded (starting s) set-up-sound) (wants cs) (heldOf s) gs (all-sounds (starting s) set-up-sound) ran g m in
       pinned-sayable g (call-sayable (want (g .request)) (wants-in cs (g .request) asked)) good
 
   -- .. and so has any selection of the wants, pinned

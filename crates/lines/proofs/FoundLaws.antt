@@ -16,7 +16,7 @@ use Rattle.definition.specs.Calls.{Call, pool, hold, want}
 use Rattle.lines.specs.Base.{bytes, same, when, pick, _andThen_, _orElse_}
 use Rattle.lines.specs.Numbers.{digits}
 use Rattle.lines.specs.Forms.{theAuto, Form, poolForms, holdForms, wantForms, entry, numbers, form, _gives_, tries, fieldOf, fieldsOf, Spelling, poolSpelling, holdSpelling, wantSpelling}
-use Rattle.lines.specs.Line.{within}
+use Rattle.lines.specs.Line.{numbersFit}
 use Rattle.lines.proofs.FormLaws.{and-both}
 use Rattle.lines.proofs.SpellLaws.{same-refl, auto-no-digits, narrow, numbers-of}
 
@@ -64,7 +64,7 @@ pub data Among (f : Form) : List Form → Type 0 where
   here : {forms : List Form} → Among f (f ∷ forms)
   past : {g : Form} {forms : List Form} → apart g f ≡ true → Among f forms → Among f (g ∷ forms)
 
-pub tries-among : {f : Form} {forms : List Form} → Among f forms → (vs : List ℕ) → narrow (f .fields) ≡ true → within (f .fields) vs ≡ true
+pub tries-among : {f : Form} {forms : List Form} → Among f forms → (vs : List ℕ) → narrow (f .fields) ≡ true → numbersFit (f .fields) vs ≡ true
     → tries forms (bytes (f .word)) (fieldsOf (f .fields) (λ i. getD vs i 0)) ≡ some (f .says (λ i. getD vs i 0))
 unfolding tries form when _gives_ _orElse_
 tries-among {f} here vs small inside = rw (same-refl (bytes (f .word)), numbers-of (f .fields) vs small inside, _gives_, _orElse_)

@@ -21,7 +21,7 @@ use Rattle.lines.specs.Output.{field}
 use Rattle.lines.proofs.DigitLaws.{digits-length}
 use Rattle.lines.proofs.RoundTrip.{all-append, digits-digits}
 use Rattle.lines.proofs.FormLaws.{and-both}
-use Rattle.lines.proofs.SpellLaws.{digit-between, narrow, without, fields-parted}
+use Rattle.lines.proofs.SpellLaws.{digit-between, narrow, without, fields-parted, behind-append}
 use Rattle.lines.proofs.FoundLaws.{tries-among, among-all, Spelled, Spells}
 
 -- ---- fields have no tab and no newline: all their bytes come behind these
@@ -85,11 +85,6 @@ fields-length [] n = omega arith
 fields-length (m ∷ ms) n =
     let rest : List ℕ = behind (fieldsOf ms (λ i. n (suc i))) in
     omega (arith, length-append (fieldOf m (n 0)) rest, field-length m (n 0), fields-length ms (λ i. n (suc i)))
-
-behind-join : (a b : List (List ℕ)) → length (behind (a ++ b)) ≡ length (behind a) + length (behind b)
-unfolding behind
-behind-join [] b = omega arith
-behind-join (f ∷ a) b = omega (arith, length-append f (behind (a ++ b)), length-append f (behind a), behind-join a b)
 
 -- ---- the line of a form, behind a word and heads
 
@@ -162,7 +157,7 @@ module _ {word : String} {heads : List (List ℕ)} {forms : List Form} (F : Fram
               omega (
                 arith,
                 length-append (bytes word) (behind all),
-                behind-join heads (bytes (s .form .word) ∷ own),
+                ap length (behind-append heads (bytes (s .form .word) ∷ own)) ∙ length-append (behind heads) (behind (bytes (s .form .word) ∷ own)),
                 length-append (bytes (s .form .word)) (behind own),
                 fields-length (s .form .fields) (λ i. getD (s .numbers) i 0),
                 form-fair .short,

@@ -16,7 +16,7 @@ use Rattle.definition.specs.Calls.{Call, pool, hold, start, want}
 use Rattle.lines.specs.Base.{lineLimit, bytes, tab, newline, same, split, when, pick, _andThen_, _orElse_}
 use Rattle.lines.specs.Numbers.{number, digits}
 use Rattle.lines.specs.Forms.{n32, Form, poolForms, holdForms, wantForms, numbers, form, _gives_, tries, fieldsOf, Spelling, poolSpelling, holdSpelling, wantSpelling}
-use Rattle.lines.specs.Line.{behind, useWord, useOf, behindPool, behindHold, behindWant, byWord, byFields, readLine, lineFrom, lineOf, within, spellable, sayable}
+use Rattle.lines.specs.Line.{behind, useWord, useOf, behindPool, behindHold, behindWant, byWord, byFields, readLine, lineFrom, lineOf, numbersFit, spellable, sayable}
 use Rattle.lines.proofs.RoundTrip.{number-digits}
 use Rattle.lines.proofs.FormLaws.{when-some, and-both, number-within}
 use Rattle.lines.proofs.SpellLaws.{same-eq, and-then-some, number-back, narrow, numbers-back, numbers-within, valuesOf, values-within, fields-joined}
@@ -38,7 +38,7 @@ ofCall c = record { line = lineOf c; fits = sayable c }
 
 -- .. as they are spelled behind a word and heads; ok is what else the call's numbers ask
 abbrev ofForm : String → List (List ℕ) → (Bool → Bool) → (ℕ → ℕ) → Form → Written
-ofForm word heads ok n f = record { line = lineFrom word heads (some (spelled f n)); fits = ok (within (f .fields) (valuesOf (f .fields) n)) }
+ofForm word heads ok n f = record { line = lineFrom word heads (some (spelled f n)); fits = ok (numbersFit (f .fields) (valuesOf (f .fields) n)) }
 
 abbrev wantFits : ℕ → ℕ → Bool → Bool
 wantFits q s b = leb q n32 && (leb s n32 && b)
@@ -75,7 +75,7 @@ module _ (word : String) (heads : List (List ℕ)) (ok : Bool → Bool) where
   form-said f k fs vs told small e =
       let (s, t) = when-some (same k (bytes (f .word))) (numbers (f .fields) fs) vs e in
       let here : k ≡ bytes (f .word) = same-eq k (bytes (f .word)) s in
-      let inside : within (f .fields) vs ≡ true = numbers-within (f .fields) fs vs t in
+      let inside : numbersFit (f .fields) vs ≡ true = numbers-within (f .fields) fs vs t in
       let values : valuesOf (f .fields) (λ i. getD vs i 0) ≡ vs = values-within (f .fields) vs inside in
       let back : fieldsOf (f .fields) (λ i. getD vs i 0) ≡ fs = numbers-back (f .fields) fs vs small t in
       record { line = ap (λ (w : Written). w .line) told ∙ rw (values, back, here); fits = ap (λ (w : Written). w .fits) told ∙ rw (values, inside) }

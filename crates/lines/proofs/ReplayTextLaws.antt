@@ -13,7 +13,7 @@ use Rattle.definition.specs.Calls.{State, poolsOf, heldOf, ownersOf, starting, 
 use Rattle.definition.specs.Plan.{Grant, done, run, allRows, records, pinned}
 use Rattle.definition.specs.RequestLaws.{AutoInFixed}
 use Rattle.definition.specs.RunLaws.{run-requests}
-use Rattle.definition.specs.PlanLaws.{all-wide, all-sounds, all-fits, run-done}
+use Rattle.definition.specs.PlanLaws.{all-bounded, all-sounds, all-fits, run-done}
 use Rattle.definition.specs.ReplayLaws.{Take, now, later, Pick, stop, pick, take-mem, take-sub, pick-length, Ready, run-ready, kept, replay-run, kept-rows, kept-records}
 use Rattle.definition.specs.PickLaws.{indices, nth, pick-nth}
 use Rattle.lines.specs.Base.{textLimit, newline}
@@ -92,7 +92,7 @@ module _ (text is : List ℕ) (a : Again text is) where
   ready : Ready (poolsOf s) (heldOf s) gs
   ready =
       let h = set-up-sound text (a .was-accepted) in
-      run-ready (poolsOf s) (all-wide (starting s) h) (a .inside) (wants cs) (heldOf s) gs (all-sounds (starting s) h) (all-fits (starting s) h) (ran text (a .was-accepted))
+      run-ready (poolsOf s) (all-bounded (starting s) h) (a .inside) (wants cs) (heldOf s) gs (all-sounds (starting s) h) (all-fits (starting s) h) (ran text (a .was-accepted))
 
   -- such a text is never longer than the written one
   pub selection-fits : length (selection text is) ≤ textLimit

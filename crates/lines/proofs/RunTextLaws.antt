@@ -25,7 +25,6 @@ use Rattle.definition.specs.ResolveLaws.{Resolved, resolved, rows-kept}
 use Rattle.definition.specs.StateLaws.{Sound, GivenFor, SoundFor, for-given, for-sound, sound-for, fresh-sound, serve-given, start-sound, sound-ground, sound-fits, granting-sound}
 use Rattle.definition.specs.RunLaws.{run-accepted, run-refused, not-done, after-done}
 use Rattle.definition.specs.PlanLaws.{tell-number, granting-append, start-is}
-use Rattle.definition.specs.HaltLaws.{Halted, pool-halts}
 use Rattle.definition.specs.RefusedLaws.{Leaves, went, left, call-leaves}
 use Rattle.definition.specs.ServeLaws.{Served, granted, turned-down, serve-says}
 use Rattle.lines.specs.Text.{Sofar, sofar, beginning, accepts, next, refuse, setUp, opened, answered, ask, take-line}
@@ -162,16 +161,13 @@ run-accepts (r ∷ rs) t u gs o h q l e =
 
 -- ---- pools and holds
 
-leaves-silent : {s s′ : State} → Leaves s s′ → accepts (s′ .said) ≡ true → s′ .said ≡ silence
-leaves-silent (went z) a = z
-leaves-silent (left x) a = never-told 0 x a
-
-pool-silent : (u : Use) (p : Pool) (s : State) → T (given kinds s) → accepts (serve kinds (pool u p) s .said) ≡ true → serve kinds (pool u p) s .said ≡ silence
-pool-silent u p s g a = go (pool-halts kinds u p s g)
+-- a call whose number is 0 is accepted, and all its numbers are
+silent : (c : Call) (s : State) → accepts (serve kinds c s .said) ≡ true → serve kinds c s .said ≡ silence
+silent c s = go (call-leaves kinds c s)
   where
-    go : (serve kinds (pool u p) s .said ≡ silence) ⊎ Halted u (spans p) s (serve kinds (pool u p) s) → serve kinds (pool u p) s .said ≡ silence
-    go (inl z) = z
-    go (inr h) = never-told 0 (h .why) (ap (λ (x : State). accepts (x .said)) (sym (h .leaves)) ∙ a)
+    go : {s′ : State} → Leaves s s′ → accepts (s′ .said) ≡ true → s′ .said ≡ silence
+    go (went z) a = z
+    go (left x) a = never-told 0 x a
 
 -- before the first want
 abbrev atHead : ℕ → State → Sofar
@@ -182,7 +178,6 @@ record Head (c : Call) : Type 0 where
   headed : (cs : List Call) → heads (c ∷ cs) ≡ c ∷ heads cs
   unwanted : (cs : List Call) → wants (c ∷ cs) ≡ wants cs
   taken : (l : ℕ) (s : State) → take-line (atHead l s) (some c) ≡ atHead (suc l) (serve kinds c s)
-  silent : (s : State) → T (given kinds s) → accepts (serve kinds c s .said) ≡ true → serve kinds c s .said ≡ silence
   late : (t : Sofar) (n : ℕ) → t .wants ≡ suc n → take-line t (some c) ≡ refuse t badLine
 
 set-late : (t : Sofar) (c : Call) (n : ℕ) → t .wants ≡ suc n → setUp t c ≡ refuse t badLine
@@ -191,11 +186,11 @@ set-late t c n e = ap (λ (b : Bool). elim b [ true ↦ next t (serve kinds c (t
 
 pool-head : (u : Use) (p : Pool) → Head (pool u p)
 unfolding heads wants setUp
-pool-head u p = record { headed = λ cs. refl; unwanted = λ cs. refl; taken = λ l s. refl; silent = pool-silent u p; late = λ t. set-late t (pool u p) }
+pool-head u p = record { headed = λ cs. refl; unwanted = λ cs. refl; taken = λ l s. refl; late = λ t. set-late t (pool u p) }
 
 hold-head : (o : ℕ) (h : Hold) → Head (hold o h)
 unfolding heads wants setUp
-hold-head o h = record { headed = λ cs. refl; unwanted = λ cs. refl; taken = λ l s. refl; silent = λ s g. leaves-silent (call-leaves kinds (hold o h) s tt); late = λ t. set-late t (hold o h) }
+hold-head o h = record { headed = λ cs. refl; unwanted = λ cs. refl; taken = λ l s. refl; late = λ t. set-late t (hold o h) }
 
 -- none is accepted after a want
 head-late : {A : Type 0} (c : Call) → Head c → (cs : List Call) (t : Sofar) (n : ℕ) → t .wants ≡ suc n → accepts (takes t (c ∷ cs) .said) ≡ true → A
@@ -238,7 +233,7 @@ module _ (cs : List Call) (l : ℕ) (s : State) (q : s .said ≡ silence) where
   unfolding served
   head-more c d g a below =
       let is : take-line (atHead l s) (some c) ≡ atHead (suc l) (serve kinds c s) = d .taken l s in
-      let z : serve kinds c s .said ≡ silence = d .silent s (for-given kinds s g) (ap (λ (t : Sofar). accepts (t .said)) (sym is) ∙ here (atHead l s) c cs a) in
+      let z : serve kinds c s .said ≡ silence = silent c s (ap (λ (t : Sofar). accepts (t .said)) (sym is) ∙ here (atHead l s) c cs a) in
       let b : Headed (suc l) (serve kinds c s) cs = below (serve-given kinds c s g) z (subst (λ (t : Sofar). accepts (takes t cs .said) ≡ true) is (later (atHead l s) c cs a)) in
       let n : suc l + length (heads cs) ≡ l + suc (length (heads cs)) = omega arith in
       record {

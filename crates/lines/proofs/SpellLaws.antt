@@ -1,7 +1,7 @@
 -- Laws of spelling: a field that was read is the one that is written, and one that is written is read; a text joined is parted again. Assumes nothing.
 use mathlib.Core.Path.{_≡_, refl, sym, _∙_, ap}
 use mathlib.Core.Bool.{Bool, true, false, not, _&&_}
-use mathlib.Core.List.{List, [], _∷_, _++_, append-nil}
+use mathlib.Core.List.{List, [], _∷_, _++_, append-assoc, append-nil}
 use mathlib.Core.Option.{Option, none, some}
 use Prim.Native.Nat.{ℕ, suc, _+_, _*_, _-_, _/_, _%_, _≤_}
 use native.Mathlib.Omega.{arith}
@@ -15,7 +15,7 @@ use Rattle.definition.specs.BaseLaws.{true-T}
 use Rattle.lines.specs.Base.{bytes, tab, same, grow, split, pick, when, _andThen_}
 use Rattle.lines.specs.Numbers.{digit, valueFrom, plain, number, digits}
 use Rattle.lines.specs.Forms.{theAuto, entry, numbers, fieldOf, fieldsOf}
-use Rattle.lines.specs.Line.{behind, within}
+use Rattle.lines.specs.Line.{behind, numbersFit}
 use Rattle.lines.proofs.PartLaws.{split-some}
 use Rattle.lines.proofs.NumberLaws.{value-grows}
 use Rattle.lines.proofs.DigitLaws.{digits-small, digits-more}
@@ -161,8 +161,8 @@ numbers-back (m ∷ ms) (f ∷ fs) vs n e =
     rw (← r, entry-back m f v h p, numbers-back ms fs l t q)
 
 -- .. and each is within its field
-pub numbers-within : (ms : List ℕ) (fs : List (List ℕ)) (vs : List ℕ) → numbers ms fs ≡ some vs → within ms vs ≡ true
-unfolding numbers within
+pub numbers-within : (ms : List ℕ) (fs : List (List ℕ)) (vs : List ℕ) → numbers ms fs ≡ some vs → numbersFit ms vs ≡ true
+unfolding numbers numbersFit
 numbers-within [] [] vs e = let q : [] ≡ vs = cc in rw (← q)
 numbers-within [] (f ∷ fs) vs e = absurd (let z : _≡_ {A = ℕ} 0 1 = cc in omega arith)
 numbers-within (m ∷ ms) [] vs e = absurd (let z : _≡_ {A = ℕ} 0 1 = cc in omega arith)
@@ -171,14 +171,14 @@ numbers-within (m ∷ ms) (f ∷ fs) vs e =
     rw (← r, le-leb v m (entry-within m f v p)) (numbers-within ms fs l q)
 
 -- numbers within a form's are read from the fields that are written of them
-pub numbers-of : (ms vs : List ℕ) → narrow ms ≡ true → within ms vs ≡ true → numbers ms (fieldsOf ms (λ i. getD vs i 0)) ≡ some vs
-unfolding numbers fieldsOf within _andThen_
+pub numbers-of : (ms vs : List ℕ) → narrow ms ≡ true → numbersFit ms vs ≡ true → numbers ms (fieldsOf ms (λ i. getD vs i 0)) ≡ some vs
+unfolding numbers fieldsOf numbersFit _andThen_
 numbers-of [] [] n e = refl
 numbers-of [] (v ∷ vs) n e = absurd (true-T false e)
 numbers-of (m ∷ ms) [] n e = absurd (true-T false e)
 numbers-of (m ∷ ms) (v ∷ vs) n e =
     let (h, t) = narrow-head m ms n in
-    let (p, q) = and-both (leb v m) (within ms vs) e in
+    let (p, q) = and-both (leb v m) (numbersFit ms vs) e in
     rw (entry-of m v h (leb-true v m p), _andThen_, numbers-of ms vs t q)
 
 -- the numbers that a form's fields are written of: none at an `auto`
@@ -186,13 +186,13 @@ unfoldable pub valuesOf : List ℕ → (ℕ → ℕ) → List ℕ
 valuesOf [] n = []
 valuesOf (m ∷ ms) n = pick (eqb m theAuto) 0 (n 0) ∷ valuesOf ms (λ i. n (suc i))
 
-pub values-within : (ms vs : List ℕ) → within ms vs ≡ true → valuesOf ms (λ i. getD vs i 0) ≡ vs
-unfolding valuesOf within
+pub values-within : (ms vs : List ℕ) → numbersFit ms vs ≡ true → valuesOf ms (λ i. getD vs i 0) ≡ vs
+unfolding valuesOf numbersFit
 values-within [] [] e = refl
 values-within [] (v ∷ vs) e = absurd (true-T false e)
 values-within (m ∷ ms) [] e = absurd (true-T false e)
 values-within (m ∷ ms) (v ∷ vs) e =
-    let (p, q) = and-both (leb v m) (within ms vs) e in
+    let (p, q) = and-both (leb v m) (numbersFit ms vs) e in
     let small : v ≤ m = leb-true v m p in
     rw (values-within ms vs q) (ap (λ (x : ℕ). x ∷ vs) (go (eqb m theAuto) refl small))
   where
@@ -263,3 +263,10 @@ fields-parted w fs e d = rw (← after-tab fs) (parted tab w fs e d)
 
 pub fields-joined : (l w : List ℕ) (fs : List (List ℕ)) → split tab l ≡ w ∷ fs → w ++ behind fs ≡ l
 fields-joined l w fs e = rw (← after-tab fs) (joined tab l w fs e)
+
+-- the fields of one list behind those of another
+pub behind-append : (fs gs : List (List ℕ)) → behind (fs ++ gs) ≡ behind fs ++ behind gs
+unfolding behind
+behind-append [] gs = refl
+behind-append (f ∷ fs) gs =
+    ap {B = List ℕ} (λ l. tab ∷ l) (ap (λ l. f ++ l) (behind-append fs gs) ∙ sym (append-assoc f (behind fs) (behind gs)))

@@ -7,10 +7,10 @@ use Prim.Native.Nat.{ℕ, suc}
 use Prim.Native.String.{String}
 use lib.ListN.{replicate}
 use Rattle.definition.specs.Base.{anyOf, allOf, pairsOf, firstOf, lower, leastOf, require}
-use Rattle.definition.specs.Tables.{sameDom, within, sameKind, sameSpan, sameRow, overlap, meets, joins, clash, tidy, fits, fitsSpan, goodRow, goodSpan, begins, inOrder, soundTable}
-use Rattle.definition.specs.Pools.{insert, unlessThere, addRange, rowsOf, room, unreserved, allUnreserved, reserve}
+use Rattle.definition.specs.Tables.{sameDom, within, sameKind, sameSpan, sameRow, overlap, meets, joins, clash, tidy, fits, fitsSpan, floored, goodRow, goodSpan, begins, inOrder, soundTable}
+use Rattle.definition.specs.Pools.{insert, there, entered, hasPlace, admit, rowsOf, room, unreserved, allUnreserved, reserve}
 use Rattle.definition.specs.Request.{goodChoice, oneBit, goodWant, goodRequest, rowAt, aligned, holds, free, alignUp, candidates, lowest, allowed, unjoined, obstacle, detail, found, unopposed, place, claims, resolve}
-use Rattle.definition.specs.Calls.{Call, givenAt, soundAt, given, sound, pushAll, addAll, serve}
+use Rattle.definition.specs.Calls.{Call, givenAt, soundAt, given, sound, pushAll, entering, serve}
 use Rattle.definition.specs.Plan.{recordOf, allocateInto}
 use Rattle.lines.specs.Base.{textLimit, bytes, same, grow, split, when, _andThen_, _orElse_}
 use Rattle.lines.specs.Numbers.{valueFrom, plain, number, digitsUpTo, digits}
@@ -72,7 +72,7 @@ cases =
     ∷ []
 
 outputs : map (λ c. output (c .text)) cases ≡ map (λ c. c .written) cases
-unfolding lib.Count.onesIn anyOf allOf pairsOf firstOf lower leastOf sameDom within sameKind sameSpan sameRow overlap meets joins clash require tidy fits fitsSpan goodRow goodSpan begins inOrder soundTable insert unlessThere addRange rowsOf room unreserved allUnreserved reserve goodChoice oneBit goodWant goodRequest rowAt aligned holds free alignUp candidates lowest allowed unjoined obstacle detail found unopposed place claims resolve givenAt soundAt given sound pushAll addAll serve recordOf allocateInto same grow split when _andThen_ _orElse_ valueFrom plain number digitsUpTo digits behind lineWith entry numbers form _gives_ tries useOf behindPool behindHold behindWant byWord byFields readLine carriedBy gotLine gotLines endLine noLine setUp opened answered ask step feedParts feed unfinished close answer ended output
+unfolding lib.Count.onesIn anyOf allOf pairsOf firstOf lower leastOf sameDom within sameKind sameSpan sameRow overlap meets joins clash require tidy fits fitsSpan floored goodRow goodSpan begins inOrder soundTable insert there entered hasPlace admit rowsOf room unreserved allUnreserved reserve goodChoice oneBit goodWant goodRequest rowAt aligned holds free alignUp candidates lowest allowed unjoined obstacle detail found unopposed place claims resolve givenAt soundAt given sound pushAll entering serve recordOf allocateInto same grow split when _andThen_ _orElse_ valueFrom plain number digitsUpTo digits behind lineWith entry numbers form _gives_ tries useOf behindPool behindHold behindWant byWord byFields readLine carriedBy gotLine gotLines endLine noLine setUp opened answered ask step feedParts feed unfinished close answer ended output
 outputs = refl
 
 -- lines that are 10, each for one fault

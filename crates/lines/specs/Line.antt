@@ -76,15 +76,15 @@ lineOf start = []
 lineOf (want r) = lineFrom "want" (digits (r .requester) ∷ digits (r .slot) ∷ []) (wantSpelling (r .requester) (r .slot) (r .want))
 
 -- each number is at most what its field holds
-unfoldable pub within : List ℕ → List ℕ → Bool
-within [] [] = true
-within [] (v ∷ vs) = false
-within (m ∷ ms) [] = false
-within (m ∷ ms) (v ∷ vs) = leb v m && within ms vs
+unfoldable pub numbersFit : List ℕ → List ℕ → Bool
+numbersFit [] [] = true
+numbersFit [] (v ∷ vs) = false
+numbersFit (m ∷ ms) [] = false
+numbersFit (m ∷ ms) (v ∷ vs) = leb v m && numbersFit ms vs
 
 abbrev pub spellable : Option Spelling → Bool
 spellable none = false
-spellable (some spelling) = within (spelling .form .fields) (spelling .numbers)
+spellable (some spelling) = numbersFit (spelling .form .fields) (spelling .numbers)
 
 -- a line says the call
 unfoldable pub sayable : Call → Bool

@@ -82,7 +82,7 @@ pub fn base(turn: u32, fixed: u64, next: u64) -> u64 {
     fixed
 }
 
-// The nine numbers of a request's record. An automatic MSI request has a device of its own, so that its events begin at 0.
+// The nine numbers of a request's record. An automatic MSI request has a device of its own, so that its events begin where their pool does.
 pub fn record(turn: u32) -> [u64; RECORD] {
     let k = turn as u64;
     let kind = turn % 5;
@@ -112,9 +112,9 @@ pub fn record(turn: u32) -> [u64; RECORD] {
     }
     r[3] = 1;
     r[4] = 2;
-    r[5] = base(turn, 4096 + 4 * k, k / 10);
-    r[6] = base(turn, 4096 + 4 * k, 0);
-    r[7] = base(turn, 4096 + 4 * k, 4 * (k / 10));
+    r[5] = base(turn, 12288 + 4 * k, 8192 + k / 10);
+    r[6] = base(turn, 12288 + 4 * k, 8192);
+    r[7] = base(turn, 12288 + 4 * k, 8192 + 4 * (k / 10));
     r[8] = 4;
     r
 }

@@ -24,7 +24,7 @@ pub const CONFLICT: usize = 64;
 
 const CALLS: u64 = 12;
 
-// A pool of MSI numbers, all three from and to the same.
+// A pool of MSI numbers, all three from and to the same: from where LPIs start.
 pub fn domain(from: u32, to: u32) -> PoolRange {
     let d = Devices {
         start: DeviceId(from),
@@ -55,7 +55,7 @@ pub fn automatic(i: u64) -> PoolRange {
     if i == 3 {
         return PoolRange::Host(0, 4096);
     }
-    domain(0, 4096)
+    domain(8192, 12288)
 }
 
 // Those that fixed requests are allowed in.
@@ -72,7 +72,7 @@ pub fn fixed(i: u64) -> PoolRange {
     if i == 3 {
         return PoolRange::Host(4096, 8192);
     }
-    domain(4096, 8192)
+    domain(12288, 16384)
 }
 
 // The calls that make the tables: five pools and five, one reservation, start.
@@ -173,7 +173,7 @@ pub fn want(turn: u32) -> Want {
             choice: chosen(turn, 4096 + k),
         };
     }
-    msi(turn, 4096 + 4 * (turn % 256))
+    msi(turn, 12288 + 4 * (turn % 256))
 }
 
 pub fn request(turn: u32) -> Request {

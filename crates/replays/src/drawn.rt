@@ -112,7 +112,7 @@ pub fn msi(seed: u32, i: u64, j: u64) -> u64 {
     if j % 2 == 0 {
         return code(seed, i, j);
     }
-    5000 + i % 128 * 16
+    13000 + i % 128 * 16
 }
 
 // The j-th number of the i-th line.

@@ -40,8 +40,8 @@ pub fn msi(seed: u32) -> PoolRange {
         end: EventId(b + 4 + long(seed, 6) as u32),
     };
     let l = Lpis {
-        start: Lpi(a),
-        end: Lpi(a + 16 + 4 * long(seed, 7) as u32),
+        start: Lpi(8192 + a),
+        end: Lpi(8208 + a + 4 * long(seed, 7) as u32),
     };
     PoolRange::Msi(1, 2, d, e, l)
 }
@@ -92,15 +92,15 @@ pub fn fixed(i: u64) -> PoolRange {
         2,
         Devices {
             start: DeviceId(0),
-            end: DeviceId(8192),
+            end: DeviceId(16384),
         },
         Events {
             start: EventId(0),
-            end: EventId(8192),
+            end: EventId(16384),
         },
         Lpis {
-            start: Lpi(0),
-            end: Lpi(8192),
+            start: Lpi(8192),
+            end: Lpi(16384),
         },
     )
 }

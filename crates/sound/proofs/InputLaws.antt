@@ -6,7 +6,7 @@ use native.Mathlib.Omega.{arith}
 use lib.Dec.{eqb, leb, ltb, eqb→eq, ltb→lt, lt→ltb}
 use lib.ListN.{getD}
 use borrow.Author.Tests.{le-leb, lt-ltb, eq-eqb, ne-eqb}
-use Rattle.definition.specs.Tables.{rowLimit, top, lastTrigger, shared, input, wiredRow, sameDom, within, overlap, meets, joins, clash, sameRow, fits, goodRow, used, begins}
+use Rattle.definition.specs.Tables.{rowLimit, top, lastTrigger, shared, input, wiredRow, sameDom, within, overlap, meets, joins, clash, sameRow, fits, floored, goodRow, used, begins}
 use Rattle.tables.specs.Below.{allBelow, allFrom}
 use Rattle.tables.specs.Views.{inputOf, inputAt, inputsView}
 use Rattle.tables.specs.declared.Inputs.{Inputs}
@@ -22,9 +22,9 @@ use Rattle.table_tests.proofs.HighLaws.{high-at}
 pub input-good :
     (c x t s o : ℕ) → c ≤ top 32 → x ≤ top 64 → o ≤ top 32
     → goodRow input (wiredRow c x t s o) ≡ leb t lastTrigger && (leb s shared && ltb 0 o)
-unfolding goodRow fits within
+unfolding goodRow fits floored within
 input-good c x t s o p q r =
-    rw (le-leb c (top 32) p, le-leb x (top 64) q, eq-eqb (suc x) (suc x) refl, le-leb o (top 32) r, lt-ltb x (suc x) (omega arith))
+    rw (le-leb c (top 32) p, le-leb x (top 64) q, eq-eqb (suc x) (suc x) refl, le-leb o (top 32) r, lt-ltb x (suc x) (omega arith), le-leb 0 x (omega arith))
     (turn (leb t lastTrigger) (leb s shared) (ltb 0 o))
   where
     turn : (a b c : Bool) → (a && (b && true)) && c ≡ a && (b && c)

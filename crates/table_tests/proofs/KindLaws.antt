@@ -4,7 +4,7 @@ use mathlib.Core.Bool.{Bool, true, false, not, _&&_}
 use Prim.Native.Nat.{ℕ}
 use native.Mathlib.Omega.{arith}
 use lib.Dec.{T, leb, ltb, leb→le, le→leb, ltb→lt}
-use Rattle.definition.specs.Tables.{poolLimit, rowLimit, top, Dom, dom, within, Kind, nature, span, sameSpan, Row, rangeRow, sameRow, meets, joins, clash, blankSpan, blankRow, fits, fitsSpan, goodRow, goodSpan, inOrder, soundTable, soundPool, soundHeld, soundOwners}
+use Rattle.definition.specs.Tables.{poolLimit, rowLimit, top, Dom, dom, within, Kind, nature, span, sameSpan, Row, rangeRow, sameRow, meets, joins, clash, blankSpan, blankRow, fits, fitsSpan, floored, goodRow, goodSpan, inOrder, soundTable, soundPool, soundHeld, soundOwners}
 use Rattle.tables.specs.Views.{spanOf, poolAt, poolView, rangeOf, rangeAt, rangesView}
 use Rattle.tables.specs.declared.Pool.{Pool}
 use Rattle.tables.specs.declared.Ranges.{Ranges}
@@ -18,25 +18,27 @@ within-width s e m a b = le→leb s m (omega (arith, ltb→lt s e a, leb→le e 
 
 -- ---- pools: every kind
 
-pool-turn : (c i s e C I M : ℕ) → ((leb c C && (leb i I && true)) && (leb s M && leb e M)) && ltb s e ≡ leb c C && (leb i I && (ltb s e && leb e M))
-pool-turn c i s e C I M = T-ext _ _
+pool-turn : (c i s e C I F M : ℕ) → ((leb c C && (leb i I && true)) && (leb s M && leb e M)) && (ltb s e && leb F s) ≡ leb c C && (leb i I && (ltb s e && (leb F s && leb e M)))
+pool-turn c i s e C I F M = T-ext _ _
     (λ t.
     let p : T (leb c C) = search (and-l, and-r) depth 8 in
     let q : T (leb i I) = search (and-l, and-r) depth 8 in
     let r : T (ltb s e) = search (and-l, and-r) depth 8 in
+    let f : T (leb F s) = search (and-l, and-r) depth 8 in
     let u : T (leb e M) = search (and-l, and-r) depth 8 in
-    search and-i depth 8)
+    search and-i depth 10)
     (λ t.
     let p : T (leb c C) = search (and-l, and-r) depth 8 in
     let q : T (leb i I) = search (and-l, and-r) depth 8 in
     let r : T (ltb s e) = search (and-l, and-r) depth 8 in
-    let u : T (leb e M) = search (and-l, and-r) depth 8 in
+    let f : T (leb F s) = search (and-l, and-r) depth 8 in
+    let u : T (leb e M) = search (and-l, and-r) depth 10 in
     let v : T (leb s M) = within-width s e M r u in
-    search and-i depth 8)
+    search and-i depth 10)
 
 pool-good : (k : Kind) (c i s e : ℕ) → goodSpan k (span (dom c i 0) s e) ≡ goodPool (limitsOf k) (span (dom c i 0) s e)
-unfolding goodSpan fitsSpan within goodPool
-pool-good k c i s e = pool-turn c i s e (nature k .domTop .controller) (nature k .domTop .its) (nature k .top)
+unfolding goodSpan fitsSpan floored within goodPool
+pool-good k c i s e = pool-turn c i s e (nature k .domTop .controller) (nature k .domTop .its) (nature k .floor) (nature k .top)
 
 pub pool-kind : (k : Kind) (t : Pool) → soundPool k (poolView t) ≡ soundPoolIn (limitsOf k) t
 unfolding soundPoolIn
@@ -47,38 +49,40 @@ pool-kind k t =
 -- ---- ranges: every kind but inputs
 
 range-turn :
-    (c i d s e o C I D M W : ℕ)
-    → ((leb c C && (leb i I && leb d D)) && (leb s M && (leb e M && leb o W))) && (ltb s e && ltb 0 o)
-    ≡ leb c C && (leb i I && (leb d D && (ltb s e && (leb e M && (leb o W && ltb 0 o)))))
-range-turn c i d s e o C I D M W = T-ext _ _
+    (c i d s e o C I D F M W : ℕ)
+    → ((leb c C && (leb i I && leb d D)) && (leb s M && (leb e M && leb o W))) && (ltb s e && (leb F s && ltb 0 o))
+    ≡ leb c C && (leb i I && (leb d D && (ltb s e && (leb F s && (leb e M && (leb o W && ltb 0 o))))))
+range-turn c i d s e o C I D F M W = T-ext _ _
     (λ t.
     let p : T (leb c C) = search (and-l, and-r) depth 8 in
     let q : T (leb i I) = search (and-l, and-r) depth 8 in
     let r : T (leb d D) = search (and-l, and-r) depth 8 in
     let u : T (ltb s e) = search (and-l, and-r) depth 8 in
+    let f : T (leb F s) = search (and-l, and-r) depth 8 in
     let v : T (leb e M) = search (and-l, and-r) depth 8 in
     let w : T (leb o W) = search (and-l, and-r) depth 8 in
     let x : T (ltb 0 o) = search (and-l, and-r) depth 8 in
-    search and-i depth 14)
+    search and-i depth 16)
     (λ t.
     let p : T (leb c C) = search (and-l, and-r) depth 8 in
     let q : T (leb i I) = search (and-l, and-r) depth 8 in
     let r : T (leb d D) = search (and-l, and-r) depth 8 in
     let u : T (ltb s e) = search (and-l, and-r) depth 8 in
-    let v : T (leb e M) = search (and-l, and-r) depth 10 in
-    let w : T (leb o W) = search (and-l, and-r) depth 12 in
-    let x : T (ltb 0 o) = search (and-l, and-r) depth 12 in
+    let f : T (leb F s) = search (and-l, and-r) depth 10 in
+    let v : T (leb e M) = search (and-l, and-r) depth 12 in
+    let w : T (leb o W) = search (and-l, and-r) depth 14 in
+    let x : T (ltb 0 o) = search (and-l, and-r) depth 14 in
     let y : T (leb s M) = within-width s e M u v in
-    search and-i depth 14)
+    search and-i depth 16)
 
 -- a kind whose rows hold ranges; a named kind shows it by `refl`
 abbrev pub Ranged : Kind → Type 0
 Ranged k = nature k .wired ≡ false
 
 range-good : (k : Kind) → Ranged k → (c i d s e o : ℕ) → goodRow k (rangeRow (dom c i d) s e o) ≡ goodRange (limitsOf k) (rangeRow (dom c i d) s e o)
-unfolding goodRow fits within goodRange
+unfolding goodRow fits floored within goodRange
 range-good k w c i d s e o =
-    rw w (range-turn c i d s e o (nature k .domTop .controller) (nature k .domTop .its) (nature k .domTop .device) (nature k .top) (top 32))
+    rw w (range-turn c i d s e o (nature k .domTop .controller) (nature k .domTop .its) (nature k .domTop .device) (nature k .floor) (nature k .top) (top 32))
 
 range-blank : (k : Kind) → Ranged k → blankRow k ≡ blankRange
 range-blank k w = rw w

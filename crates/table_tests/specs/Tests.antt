@@ -16,6 +16,7 @@ use Rattle.table_tests.specs.declared.limits.Limits.{Limits}
 abbrev pub limitsOf : Kind → Limits
 limitsOf kind =
     record {
+      floor = nature kind .floor;
       top = nature kind .top;
       controller = nature kind .domTop .controller;
       its = nature kind .domTop .its;
@@ -29,7 +30,7 @@ NoneAbove h col n = (j : ℕ) → j < n → getD col j 0 ≤ h
 -- ---- pool ranges
 
 unfoldable pub goodPool : Limits → Span → Bool
-goodPool l p = leb (p .dom .controller) (l .controller) && (leb (p .dom .its) (l .its) && (ltb (p .start) (p .end) && leb (p .end) (l .top)))
+goodPool l p = leb (p .dom .controller) (l .controller) && (leb (p .dom .its) (l .its) && (ltb (p .start) (p .end) && (leb (l .floor) (p .start) && leb (p .end) (l .top))))
 
 -- row k is good and in order with each row before it
 unfoldable pub poolOk : Limits → Pool → ℕ → Bool
@@ -50,7 +51,7 @@ blankRange = blankRow mmio
 unfoldable pub goodRange : Limits → Row → Bool
 goodRange l r =
     leb (r .dom .controller) (l .controller) && (leb (r .dom .its) (l .its) && (leb (r .dom .device) (l .device)
-    && (ltb (r .start) (r .end) && (leb (r .end) (l .top) && (leb (r .owner) (top 32) && ltb 0 (r .owner))))))
+    && (ltb (r .start) (r .end) && (leb (l .floor) (r .start) && (leb (r .end) (l .top) && (leb (r .owner) (top 32) && ltb 0 (r .owner)))))))
 
 abbrev pub apart : Row → Row → Bool
 apart a b = not (meets a b)

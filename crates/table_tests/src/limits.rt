@@ -7,13 +7,17 @@ ghost use Rattle.definition.specs.Tables.{rowLimit};
 ghost use Rattle.tables.specs.Views.{kindOf};
 ghost use Rattle.table_tests.specs.Tests.{limitsOf};
 
-// The largest number of a kind's width, and of each number of its domain: 0 where the kind does not use it.
+// The least number at which a kind's ranges may start, the largest of its width, and of each number of its domain: 0 where the kind does not use it.
 pub struct Limits {
+    pub floor: u64,
     pub top: u64,
     pub controller: u32,
     pub its: u32,
     pub device: u32,
 }
+
+// C-12: LPIs start here.
+const FIRST_LPI: u64 = 8192;
 
 const TOP_64: u64 = 18446744073709551615;
 
@@ -25,42 +29,49 @@ pub fn limits_of(kind: Kind) -> Limits
 {
     match kind {
         Kind::Mmio => Limits {
+            floor: 0,
             top: TOP_64,
             controller: 0,
             its: 0,
             device: 0,
         },
         Kind::Pio => Limits {
+            floor: 0,
             top: 65535,
             controller: 0,
             its: 0,
             device: 0,
         },
         Kind::Input => Limits {
+            floor: 0,
             top: TOP_64,
             controller: TOP_32,
             its: 0,
             device: 0,
         },
         Kind::Host => Limits {
+            floor: 0,
             top: TOP_64,
             controller: 0,
             its: 0,
             device: 0,
         },
         Kind::Device => Limits {
+            floor: 0,
             top: 4294967295,
             controller: TOP_32,
             its: TOP_32,
             device: 0,
         },
         Kind::Event => Limits {
+            floor: 0,
             top: 4294967295,
             controller: TOP_32,
             its: TOP_32,
             device: TOP_32,
         },
         Kind::Lpi => Limits {
+            floor: FIRST_LPI,
             top: 4294967295,
             controller: TOP_32,
             its: 0,

@@ -53,6 +53,9 @@ pub fn good_row(l: Limits, r: PoolRow) -> bool
     if r.end <= r.start {
         return false;
     }
+    if r.start < l.floor {
+        return false;
+    }
     r.end <= l.top
 }
 

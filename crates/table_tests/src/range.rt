@@ -67,6 +67,9 @@ pub fn good_row(l: Limits, r: RangeRow) -> bool
     if r.end <= r.start {
         return false;
     }
+    if r.start < l.floor {
+        return false;
+    }
     if l.top < r.end {
         return false;
     }

@@ -4,10 +4,10 @@ use mathlib.Core.Bool.{true}
 use Prim.Native.Nat.{suc, min}
 use lib.Dec.{eqb}
 use Rattle.definition.specs.Base.{anyOf, allOf, pairsOf, firstOf, require}
-use Rattle.definition.specs.Tables.{top, kinds, sameKind, sameDom, within, sameSpan, sameRow, overlap, meets, joins, clash, tidy, fits, fitsSpan, goodRow, goodSpan, begins, inOrder, soundTable}
-use Rattle.definition.specs.Pools.{mmioPool, insert, unlessThere, addRange, rowsOf, room, mmioHold, hostHold, inputHold, pairHold, unreserved, allUnreserved, reserve}
+use Rattle.definition.specs.Tables.{top, kinds, sameKind, sameDom, within, sameSpan, sameRow, overlap, meets, joins, clash, tidy, fits, fitsSpan, floored, goodRow, goodSpan, begins, inOrder, soundTable}
+use Rattle.definition.specs.Pools.{mmioPool, insert, there, entered, hasPlace, admit, rowsOf, room, mmioHold, hostHold, inputHold, pairHold, unreserved, allUnreserved, reserve}
 use Rattle.definition.specs.Request.{automatic}
-use Rattle.definition.specs.Calls.{State, fresh, givenAt, given, pushAll, Call, pool, hold, start, addAll, serve}
+use Rattle.definition.specs.Calls.{State, fresh, givenAt, given, pushAll, entering, Call, pool, hold, start, serve}
 
 -- a state that is a call on a state that is known
 pub next : (c : Call) {u v w : State} → v ≡ u → w ≡ serve kinds c v → w ≡ serve kinds c u
@@ -60,37 +60,37 @@ state7 = serve kinds call7 state6
 -- ---- what they answer
 
 pub answer1 : (v : State) → v ≡ state1 → eqb (v .said .number) 0 ≡ true
-unfolding anyOf allOf pairsOf firstOf sameKind sameDom within sameSpan sameRow overlap meets joins clash require tidy fits fitsSpan goodRow goodSpan begins inOrder soundTable insert unlessThere addRange rowsOf room unreserved allUnreserved reserve givenAt given pushAll addAll serve
+unfolding anyOf allOf pairsOf firstOf sameKind sameDom within sameSpan sameRow overlap meets joins clash require tidy fits fitsSpan floored goodRow goodSpan begins inOrder soundTable insert there entered hasPlace admit rowsOf room unreserved allUnreserved reserve givenAt given pushAll entering serve
 answer1 v e = ap (λ (x : State). eqb (x .said .number) 0) e
 
 pub answer2 : (v : State) → v ≡ state2 → eqb (v .said .number) 0 ≡ true
-unfolding anyOf allOf pairsOf firstOf sameKind sameDom within sameSpan sameRow overlap meets joins clash require tidy fits fitsSpan goodRow goodSpan begins inOrder soundTable insert unlessThere addRange rowsOf room unreserved allUnreserved reserve givenAt given pushAll addAll serve
+unfolding anyOf allOf pairsOf firstOf sameKind sameDom within sameSpan sameRow overlap meets joins clash require tidy fits fitsSpan floored goodRow goodSpan begins inOrder soundTable insert there entered hasPlace admit rowsOf room unreserved allUnreserved reserve givenAt given pushAll entering serve
 answer2 v e = ap (λ (x : State). eqb (x .said .number) 0) e
 
 pub answer3 : (v : State) → v ≡ state3 → eqb (v .said .number) 5 ≡ true
-unfolding anyOf allOf pairsOf firstOf sameKind sameDom within sameSpan sameRow overlap meets joins clash require tidy fits fitsSpan goodRow goodSpan begins inOrder soundTable insert unlessThere addRange rowsOf room unreserved allUnreserved reserve givenAt given pushAll addAll serve
+unfolding anyOf allOf pairsOf firstOf sameKind sameDom within sameSpan sameRow overlap meets joins clash require tidy fits fitsSpan floored goodRow goodSpan begins inOrder soundTable insert there entered hasPlace admit rowsOf room unreserved allUnreserved reserve givenAt given pushAll entering serve
 answer3 v e = ap (λ (x : State). eqb (x .said .number) 5) e
 
 pub answer4 : (v : State) → v ≡ state3 → eqb (v .said .owner) 7 ≡ true
-unfolding anyOf allOf pairsOf firstOf sameKind sameDom within sameSpan sameRow overlap meets joins clash require tidy fits fitsSpan goodRow goodSpan begins inOrder soundTable insert unlessThere addRange rowsOf room unreserved allUnreserved reserve givenAt given pushAll addAll serve
+unfolding anyOf allOf pairsOf firstOf sameKind sameDom within sameSpan sameRow overlap meets joins clash require tidy fits fitsSpan floored goodRow goodSpan begins inOrder soundTable insert there entered hasPlace admit rowsOf room unreserved allUnreserved reserve givenAt given pushAll entering serve
 answer4 v e = ap (λ (x : State). eqb (x .said .owner) 7) e
 
 pub answer5 : (v : State) → v ≡ state4 → eqb (v .said .number) 0 ≡ true
-unfolding anyOf allOf pairsOf firstOf sameKind sameDom within sameSpan sameRow overlap meets joins clash require tidy fits fitsSpan goodRow goodSpan begins inOrder soundTable insert unlessThere addRange rowsOf room unreserved allUnreserved reserve givenAt given pushAll addAll serve
+unfolding anyOf allOf pairsOf firstOf sameKind sameDom within sameSpan sameRow overlap meets joins clash require tidy fits fitsSpan floored goodRow goodSpan begins inOrder soundTable insert there entered hasPlace admit rowsOf room unreserved allUnreserved reserve givenAt given pushAll entering serve
 answer5 v e = ap (λ (x : State). eqb (x .said .number) 0) e
 
 pub answer6 : (v : State) → v ≡ state5 → eqb (v .said .number) 5 ≡ true
-unfolding anyOf allOf pairsOf firstOf sameKind sameDom within sameSpan sameRow overlap meets joins clash require tidy fits fitsSpan goodRow goodSpan begins inOrder soundTable insert unlessThere addRange rowsOf room unreserved allUnreserved reserve givenAt given pushAll addAll serve
+unfolding anyOf allOf pairsOf firstOf sameKind sameDom within sameSpan sameRow overlap meets joins clash require tidy fits fitsSpan floored goodRow goodSpan begins inOrder soundTable insert there entered hasPlace admit rowsOf room unreserved allUnreserved reserve givenAt given pushAll entering serve
 answer6 v e = ap (λ (x : State). eqb (x .said .number) 5) e
 
 pub answer7 : (v : State) → v ≡ state5 → eqb (v .said .owner) 4 ≡ true
-unfolding anyOf allOf pairsOf firstOf sameKind sameDom within sameSpan sameRow overlap meets joins clash require tidy fits fitsSpan goodRow goodSpan begins inOrder soundTable insert unlessThere addRange rowsOf room unreserved allUnreserved reserve givenAt given pushAll addAll serve
+unfolding anyOf allOf pairsOf firstOf sameKind sameDom within sameSpan sameRow overlap meets joins clash require tidy fits fitsSpan floored goodRow goodSpan begins inOrder soundTable insert there entered hasPlace admit rowsOf room unreserved allUnreserved reserve givenAt given pushAll entering serve
 answer7 v e = ap (λ (x : State). eqb (x .said .owner) 4) e
 
 pub answer8 : (v : State) → v ≡ state6 → eqb (v .said .number) 0 ≡ true
-unfolding anyOf allOf pairsOf firstOf sameKind sameDom within sameSpan sameRow overlap meets joins clash require tidy fits fitsSpan goodRow goodSpan begins inOrder soundTable insert unlessThere addRange rowsOf room unreserved allUnreserved reserve givenAt given pushAll addAll serve
+unfolding anyOf allOf pairsOf firstOf sameKind sameDom within sameSpan sameRow overlap meets joins clash require tidy fits fitsSpan floored goodRow goodSpan begins inOrder soundTable insert there entered hasPlace admit rowsOf room unreserved allUnreserved reserve givenAt given pushAll entering serve
 answer8 v e = ap (λ (x : State). eqb (x .said .number) 0) e
 
 pub answer9 : (v : State) → v ≡ state7 → eqb (v .said .number) 0 ≡ true
-unfolding anyOf allOf pairsOf firstOf sameKind sameDom within sameSpan sameRow overlap meets joins clash require tidy fits fitsSpan goodRow goodSpan begins inOrder soundTable insert unlessThere addRange rowsOf room unreserved allUnreserved reserve givenAt given pushAll addAll serve
+unfolding anyOf allOf pairsOf firstOf sameKind sameDom within sameSpan sameRow overlap meets joins clash require tidy fits fitsSpan floored goodRow goodSpan begins inOrder soundTable insert there entered hasPlace admit rowsOf room unreserved allUnreserved reserve givenAt given pushAll entering serve
 answer9 v e = ap (λ (x : State). eqb (x .said .number) 0) e

@@ -15,18 +15,13 @@ use Rattle.definition.specs.Request.{Choice, auto, at, Want, mmioWant, pioWant,
 use Rattle.definition.specs.Calls.{Call, pool, hold, start, want}
 use Rattle.definition.specs.Plan.{Grant, grant, baseAt, record-of, recordOf, pinChoice, pinWant, pinned}
 use Rattle.lines.specs.Base.{tab, bytes, pick}
-use Rattle.lines.specs.Numbers.{digitsUpTo, digits}
+use Rattle.lines.specs.Numbers.{digitLimit, digitsUpTo, digits}
 use Rattle.lines.specs.Forms.{fieldOf, fieldsOf, wantSpelling}
+use Rattle.lines.proofs.SpellLaws.{behind-append}
 use Rattle.lines.specs.Line.{behind, useWord, lineFrom, lineOf, spellable, sayable}
 use Rattle.write_back.specs.Bytes.{isWant, endsInAuto, autoSize, grantedIn, pinnedBytes, Plain}
 
 -- ---- fields behind fields
-
-behind-append : (fs gs : List (List ℕ)) → behind (fs ++ gs) ≡ behind fs ++ behind gs
-unfolding behind
-behind-append [] gs = refl
-behind-append (f ∷ fs) gs =
-    ap {B = List ℕ} (λ l. tab ∷ l) (ap (λ l. f ++ l) (behind-append fs gs) ∙ sym (append-assoc f (behind fs) (behind gs)))
 
 -- a line whose last fields are gs
 more-fields : (w : List ℕ) (fs gs : List (List ℕ)) → w ++ behind (fs ++ gs) ≡ (w ++ behind fs) ++ behind gs
@@ -62,8 +57,8 @@ digits-end k n = go (ltb n 10) refl
 ends-in-digit : (x : List ℕ) (v : ℕ) → endsInAuto (x ++ (tab ∷ digits v)) ≡ false
 unfolding endsInAuto digits
 ends-in-digit x v =
-    let (y, d, l, e) = digits-end 19 v in
-    let z : x ++ (tab ∷ digitsUpTo 20 v) ≡ (x ++ (tab ∷ y)) ++ ((48 + d) ∷ []) = ap (λ k. x ++ (tab ∷ k)) e ∙ sym (append-assoc x (tab ∷ y) ((48 + d) ∷ [])) in
+    let (y, d, l, e) = digits-end (digitLimit - 1) v in
+    let z : x ++ (tab ∷ digitsUpTo digitLimit v) ≡ (x ++ (tab ∷ y)) ++ ((48 + d) ∷ []) = ap (λ k. x ++ (tab ∷ k)) e ∙ sym (append-assoc x (tab ∷ y) ((48 + d) ∷ [])) in
     rw (z, last-byte (x ++ (tab ∷ y)) (48 + d)) (ne-eqb (48 + d) 111 (λ q. omega arith))
 
 abbrev automatic : List ℕ → List ℕ

@@ -2,15 +2,21 @@
 
 use super::{face, Broken};
 use crate::added::{self, POOL_ROWS};
-use crate::calls::{rows_of_add, Add, Answer, Call, Kind, Place, PlanAnswer, Row, Tables};
+use crate::calls::{no, rows_of_add, Add, Answer, Call, Kind, Place, PlanAnswer, Row, Tables};
 use crate::compare::face::{judged, Answers};
 use crate::compare::Way;
 use crate::judge::Judge;
 
-pub const ALL: [Broken; 5] = [
+pub const ALL: [Broken; 7] = [
     Broken { name: "puts a pool row at the end", way: Way::Calls, face: face::<Unsorted> },
     Broken { name: "adds a row for a duplicate pool", way: Way::Calls, face: face::<DuplicateRow> },
-    Broken { name: "a refused MSI domain takes its rows back", way: Way::Calls, face: face::<DomainTakenBack> },
+    Broken {
+        name: "a domain with an empty range keeps rows",
+        way: Way::Calls,
+        face: face::<Keeps<{ no::EMPTY_RANGE }>>,
+    },
+    Broken { name: "a domain with a low LPI keeps rows", way: Way::Calls, face: face::<Keeps<{ no::BAD_LPI }>> },
+    Broken { name: "a Full domain keeps rows", way: Way::Calls, face: face::<Keeps<{ no::FULL }>> },
     Broken { name: "a start keeps the grants", way: Way::Calls, face: face::<StartKeeps> },
     Broken { name: "a reservation reaches the owners at once", way: Way::Calls, face: face::<OwnersAtOnce> },
 ];
@@ -74,23 +80,49 @@ impl Answers for DuplicateRow {
     }
 }
 
+/// A domain that is refused with the number keeps the ranges before the one that is to blame.
 #[derive(Default)]
-struct DomainTakenBack {
+struct Keeps<const NUMBER: u32> {
     shown: Option<Tables>,
 }
 
-impl Answers for DomainTakenBack {
+impl<const NUMBER: u32> Answers for Keeps<NUMBER> {
     fn call(&mut self, judge: &mut Judge, call: &Call, lent: usize) -> PlanAnswer {
-        let before = judge.tables().clone();
         let answer = judged(judge, call, lent);
-        let refused = matches!(call, Call::Add(Add::Domain { .. })) && answer.answer.is_refused();
-        self.shown = refused.then_some(before);
+        self.shown = match call {
+            Call::Add(add @ Add::Domain { .. }) if answer.answer == Answer::plain(NUMBER) => {
+                Some(with_rows(judge.tables(), add, to_blame(judge.tables(), add, NUMBER)))
+            }
+            _ => None,
+        };
         answer
     }
 
     fn tables(&mut self, judge: &Judge) -> Tables {
         self.shown.take().unwrap_or_else(|| judge.tables().clone())
     }
+}
+
+/// The range of a domain, from 0, that is refused with the number.
+fn to_blame(tables: &Tables, add: &Add, number: u32) -> usize {
+    let refused = |(place, kind, row): &(Place, Kind, Row)| match number {
+        no::EMPTY_RANGE => row.start >= row.end,
+        no::BAD_LPI => *kind == Kind::Lpi,
+        _ => tables.of(*place, *kind).len() == POOL_ROWS && !tables.of(*place, *kind).contains(row),
+    };
+    rows_of_add(add).iter().position(refused).expect("a range to blame")
+}
+
+/// The tables with the first so many rows of a call added, duplicates left out.
+pub fn with_rows(tables: &Tables, add: &Add, turns: usize) -> Tables {
+    let mut tables = tables.clone();
+    for (place, kind, row) in rows_of_add(add).into_iter().take(turns) {
+        let table = tables.of_mut(place, kind);
+        if place == Place::Held || !table.contains(&row) {
+            added::insert_row(table, place, row);
+        }
+    }
+    tables
 }
 
 #[derive(Default)]

@@ -2,6 +2,7 @@
 
 mod adding;
 mod asking;
+mod lpis;
 mod pinning;
 mod planning;
 mod texts;
@@ -25,6 +26,7 @@ pub fn all() -> Vec<Broken> {
     let mut all = Vec::new();
     all.extend(asking::ALL);
     all.extend(adding::ALL);
+    all.extend(lpis::ALL);
     all.extend(planning::ALL);
     all.extend(texts::ALL);
     all.extend(pinning::ALL);

@@ -1,11 +1,12 @@
 // Broken outputs of the text.
 
 use super::{face, Broken};
+use crate::added::bad_lpi;
 use crate::compare::face::{output, Answers};
 use crate::compare::Way;
-use crate::text::{read_line, TEXT};
+use crate::text::{read_line, Line, TEXT};
 
-pub const ALL: [Broken; 8] = [
+pub const ALL: [Broken; 10] = [
     Broken { name: "loses a last zero of a got line", way: Way::Text, face: face::<LostZero> },
     Broken { name: "a bad line beats a refusal before it", way: Way::Text, face: face::<BadLineFirst> },
     Broken { name: "takes a last line without its newline", way: Way::Text, face: face::<OpenLine> },
@@ -14,6 +15,8 @@ pub const ALL: [Broken; 8] = [
     Broken { name: "cuts a text that is too long", way: Way::Text, face: face::<CutsText> },
     Broken { name: "takes a pool behind a want", way: Way::Text, face: face::<LatePool> },
     Broken { name: "one want too many is Full", way: Way::Text, face: face::<FullWant> },
+    Broken { name: "a low LPI is a bad line", way: Way::Text, face: face::<LowBadLine> },
+    Broken { name: "a low LPI behind a want is no bad line", way: Way::Text, face: face::<LowBehindWant> },
 ];
 
 fn lines(text: &[u8]) -> Vec<&[u8]> {
@@ -120,5 +123,31 @@ struct FullWant;
 impl Answers for FullWant {
     fn text(&mut self, text: &[u8]) -> Vec<u8> {
         String::from_utf8(output(text)).expect("plain text").replace("\t11\t0\t0\t0\n", "\t9\t0\t0\t0\n").into()
+    }
+}
+
+#[derive(Default)]
+struct LowBadLine;
+
+impl Answers for LowBadLine {
+    fn text(&mut self, text: &[u8]) -> Vec<u8> {
+        String::from_utf8(output(text)).expect("plain text").replace("\t12\t0\t0\t0\n", "\t10\t0\t0\t0\n").into()
+    }
+}
+
+#[derive(Default)]
+struct LowBehindWant;
+
+impl Answers for LowBehindWant {
+    fn text(&mut self, text: &[u8]) -> Vec<u8> {
+        let output = output(text);
+        let said = String::from_utf8_lossy(&output).into_owned();
+        let refused: Vec<&str> = said.trim_end().split('\t').collect();
+        let ["no", at, "10", ..] = refused[..] else { return output };
+        let line = lines(text).into_iter().nth(at.parse::<usize>().expect("a number").wrapping_sub(1));
+        match line.and_then(|line| read_line(line.strip_suffix(b"\n")?)) {
+            Some(Line::Add(add)) if bad_lpi(&add).is_some() => format!("no\t{at}\t12\t0\t0\t0\n").into(),
+            _ => output,
+        }
     }
 }

@@ -77,6 +77,8 @@ const BAD: &[(&str, &str)] = &[
     ("width-before-owner", "hold 0 pio 5 65536"),
     ("width-before-codes", "hold 1 input 0 0 4 4294967296"),
     ("width-before-empty", "pool auto pio 65536 1"),
+    ("width-before-low-lpi", "pool auto msi 0 0 0 1 0 1 0 4294967296"),
+    ("width-before-low-lpi-hold", "hold 1 lpi 4294967296 0 1"),
 ];
 
 /// Texts of bytes that the short form cannot write, each bad at its first line.
@@ -123,6 +125,10 @@ const DECIDES: &[(&str, &str, &str)] = &[
     ("empty-pool-after-want", "pool auto host 0 9/want 1 1 host auto/pool auto host 1 1", "no 3 10 0 0 0"),
     ("owner-0-after-want", "pool auto host 0 9/want 1 1 host auto/hold 0 host 5 6", "no 3 10 0 0 0"),
     ("bad-codes-after-want", "pool auto host 0 9/want 1 1 host auto/hold 1 input 0 0 4 0", "no 3 10 0 0 0"),
+    ("low-lpi-after-want", "pool auto host 0 9/want 1 1 host auto/pool auto msi 0 0 0 1 0 1 0 1", "no 3 10 0 0 0"),
+    ("low-lpi-hold-after-want", "pool auto host 0 9/want 1 1 host auto/hold 1 lpi 0 0 1", "no 3 10 0 0 0"),
+    ("bad-after-low-lpi", "pool auto msi 0 0 0 1 0 1 0 1/nonsense", "no 1 12 0 0 0"),
+    ("bad-before-low-lpi", "nonsense/pool auto msi 0 0 0 1 0 1 0 1", "no 1 10 0 0 0"),
     ("pool-after-refused-want", "want 1 1 host auto/pool auto host 0 9", "no 1 7 4 0 0"),
     (
         "pool-between-holds",
@@ -137,14 +143,14 @@ const FORMS: &[(&str, &str)] = &[
     ("pool-pio", "pool fixed pio 0/16 9/16"),
     ("pool-host", "pool auto host 0/64 9/64"),
     ("pool-input", "pool fixed input 0/32 0/64 9/64"),
-    ("pool-msi", "pool auto msi 0/32 0/32 0/32 9/32 0/32 9/32 0/32 9/32"),
+    ("pool-msi", "pool auto msi 0/32 0/32 0/32 9/32 0/32 9/32 8192/32 8201/32"),
     ("hold-mmio", "hold 1/32 mmio 0/64 9/64"),
     ("hold-pio", "hold 1/32 pio 0/16 9/16"),
     ("hold-host", "hold 1/32 host 0/64 9/64"),
     ("hold-input", "hold 1/32 input 0/32 0/64 0/32 0/32"),
     ("hold-device", "hold 1/32 device 0/32 0/32 0/32 9/32"),
     ("hold-event", "hold 1/32 event 0/32 0/32 0/32 0/32 9/32"),
-    ("hold-lpi", "hold 1/32 lpi 0/32 0/32 9/32"),
+    ("hold-lpi", "hold 1/32 lpi 0/32 8192/32 8201/32"),
     ("want-mmio-auto", "want 1/32 1/32 mmio 1/64 1/64 auto"),
     ("want-mmio", "want 1/32 1/32 mmio 1/64 1/64 0/64"),
     ("want-pio-auto", "want 1/32 1/32 pio 1/16 1/16 auto"),

@@ -1,7 +1,7 @@
 // Tables filled to their last row: what still gets in, what is refused before Full, and the limit of wants.
 
 use super::{case, lines, refused, Case};
-use crate::added::{HELD_ROWS, PLAN_REQUESTS, POOL_ROWS};
+use crate::added::{FIRST_LPI, HELD_ROWS, PLAN_REQUESTS, POOL_ROWS};
 
 const KINDS: [&str; 7] = ["mmio", "pio", "input", "host", "device", "event", "lpi"];
 
@@ -14,26 +14,40 @@ pub fn all() -> Vec<Case> {
         cases.extend(full_holds(kind));
         cases.extend(full_owners(kind));
     }
+    for mode in ["auto", "fixed"] {
+        cases.extend(full_domains(mode));
+    }
     cases.extend(mixed());
     cases.extend(many_wants());
     cases
 }
 
+/// The first number of range `i` of a kind.
+fn first(kind: &str, i: usize) -> usize {
+    let least = if kind == "lpi" { FIRST_LPI as usize } else { 0 };
+    least + 2 * i
+}
+
+/// The range of that number.
+fn span(kind: &str, i: usize) -> String {
+    format!("{} {}", first(kind, i), first(kind, i) + 2)
+}
+
 /// A pool line whose row in the table of the kind is number `i`.
 fn pool(mode: &str, kind: &str, i: usize) -> String {
-    let span = format!("{} {}", 2 * i, 2 * i + 2);
     match kind {
-        "input" => format!("pool {mode} input {} {span}", i % 2),
-        "device" => format!("pool {mode} msi {} {} {span} 0 2 0 2", i % 2, i % 3),
-        "event" => format!("pool {mode} msi {} {} 0 2 {span} 0 2", i % 2, i % 3),
-        "lpi" => format!("pool {mode} msi {} {} 0 2 0 2 {span}", i % 2, i % 3),
-        _ => format!("pool {mode} {kind} {span}"),
+        "input" => format!("pool {mode} input {} {}", i % 2, span(kind, i)),
+        "device" | "event" | "lpi" => {
+            let three = ["device", "event", "lpi"].map(|other| span(other, if other == kind { i } else { 0 }));
+            format!("pool {mode} msi {} {} {}", i % 2, i % 3, three.join(" "))
+        }
+        _ => format!("pool {mode} {kind} {}", span(kind, i)),
     }
 }
 
 /// A hold line of the kind whose row meets no other number's.
 fn hold(owner: u32, kind: &str, i: usize) -> String {
-    let span = format!("{} {}", 2 * i, 2 * i + 2);
+    let span = span(kind, i);
     match kind {
         "input" => format!("hold {owner} input 0 {i} 1 1"),
         "device" => format!("hold {owner} device 0 0 {span}"),
@@ -51,8 +65,7 @@ fn full_pool(mode: &str, kind: &str) -> Vec<Case> {
     let full = joined((0..POOL_ROWS).map(|i| pool(mode, kind, i)));
     let more = POOL_ROWS + 1;
     let name = |what: &str| format!("full-pool-{mode}-{kind}-{what}");
-    let empty =
-        pool(mode, kind, more).replace(&format!("{} {}", 2 * more, 2 * more + 2), &format!("{0} {0}", 2 * more));
+    let empty = pool(mode, kind, more).replace(&span(kind, more), &format!("{0} {0}", first(kind, more)));
     vec![
         case(&name("one-more"), lines(&format!("{full}/{}", pool(mode, kind, POOL_ROWS))), refused(more, 9)),
         case(&name("duplicate"), lines(&format!("{full}/{}", pool(mode, kind, 7))), lines("end 0")),
@@ -60,17 +73,45 @@ fn full_pool(mode: &str, kind: &str) -> Vec<Case> {
     ]
 }
 
+/// MSI domains that need a row of a full table: 4 and 12 of any range come before 9.
+const FULL_DOMAINS: [(&str, &str, &str, u32); 9] = [
+    ("device", "empty-event", "90 92 7 7 8192 8194", 4),
+    ("device", "empty-lpi", "90 92 0 2 9 9", 4),
+    ("device", "low-lpi", "90 92 0 2 8191 8194", 12),
+    ("event", "empty-device", "7 6 90 92 8192 8194", 4),
+    ("event", "empty-lpi", "0 2 90 92 9 5", 4),
+    ("event", "low-lpi", "0 2 90 92 0 1", 12),
+    ("lpi", "empty-device", "7 7 0 2 8292 8294", 4),
+    ("lpi", "empty-event", "0 2 7 6 8292 8294", 4),
+    ("lpi", "low-lpi", "0 2 0 2 8191 8294", 12),
+];
+
+fn full_domains(mode: &str) -> impl Iterator<Item = Case> + '_ {
+    FULL_DOMAINS.iter().map(move |(kind, what, bounds, number)| {
+        let full = joined((0..POOL_ROWS).map(|i| pool(mode, kind, i)));
+        let text = lines(&format!("{full}/pool {mode} msi 0 0 {bounds}"));
+        case(&format!("full-pool-{mode}-{kind}-{what}"), text, refused(POOL_ROWS + 1, *number))
+    })
+}
+
 fn full_holds(kind: &str) -> Vec<Case> {
     let full = joined((0..HELD_ROWS).map(|i| hold(4, kind, i)));
     let more = HELD_ROWS + 1;
     let name = |what: &str| format!("full-hold-{kind}-{what}");
     let reserved = lines(&format!("no {more} 5 0 4 0"));
-    vec![
+    let mut cases = vec![
         case(&name("one-more"), lines(&format!("{full}/{}", hold(5, kind, HELD_ROWS))), refused(more, 9)),
         case(&name("reserved"), lines(&format!("{full}/{}", hold(5, kind, HELD_ROWS - 1))), reserved),
         case(&name("owner-0"), lines(&format!("{full}/{}", hold(0, kind, HELD_ROWS))), refused(more, 3)),
-    ]
+    ];
+    if kind == "lpi" {
+        let low = format!("{full}/hold 5 lpi 0 8191 8194");
+        cases.push(case(&name("low"), lines(&low), refused(more, 12)));
+    }
+    cases
 }
+
+const DOMAIN: &str = "pool M msi 0 0 0 999 0 999 8192 9191";
 
 /// The want that meets a full owner table of the kind: pools, an automatic want and what it would be refused with
 /// first if nothing were free.
@@ -82,13 +123,9 @@ fn full_owners(kind: &str) -> Vec<Case> {
         "pio" => ("pool M pio 0 999", "pio 1 1 auto", "pio 1 1 998", ("pio 1 1 255", "2 4 1")),
         "input" => ("pool M input 0 0 999", "input 0 0 0 auto", "input 0 0 0 998", ("input 0 0 1 3", "3 4 2")),
         "host" => ("pool M host 0 999", "host auto", "host 998", ("host 255", "4 4 4")),
-        "device" => {
-            ("pool M msi 0 0 0 999 0 999 0 999", "msi 0 0 1 auto", "msi 0 0 1 998 0 0", ("msi 0 0 1 9 0 0", "5 4 5"))
-        }
-        "event" => {
-            ("pool M msi 0 0 0 999 0 999 0 999", "msi 0 0 1 auto", "msi 0 0 1 0 998 0", ("msi 0 0 1 0 0 0", "5 4 6"))
-        }
-        _ => ("pool M msi 0 0 0 999 0 999 0 999", "msi 0 0 1 auto", "msi 0 0 1 0 0 998", ("msi 0 0 1 0 0 9", "6 4 7")),
+        "device" => (DOMAIN, "msi 0 0 1 auto", "msi 0 0 1 998 0 8192", ("msi 0 0 1 9 0 8192", "5 4 5")),
+        "event" => (DOMAIN, "msi 0 0 1 auto", "msi 0 0 1 0 998 8192", ("msi 0 0 1 0 0 8192", "5 4 6")),
+        _ => (DOMAIN, "msi 0 0 1 auto", "msi 0 0 1 0 0 9190", ("msi 0 0 1 0 0 8201", "6 4 7")),
     };
     let front = format!("{full}/{}/{}", pools.replace('M', "auto"), pools.replace('M', "fixed"));
     let line = HELD_ROWS + 3;

@@ -9,7 +9,7 @@ pub const CASES: &[(&str, &str, &str)] = &[
     ("hold-owner-0-event", "hold 0 event 0 0 0 0 1", "no 1 3 0 0 0"),
     ("hold-owner-0-lpi", "hold 0 lpi 0 0 1", "no 1 3 0 0 0"),
     ("hold-owner-before-empty", "hold 0 mmio 1 1", "no 1 3 0 0 0"),
-    ("hold-owner-before-overlap", "hold 1 lpi 0 0 4/hold 0 lpi 0 0 4", "no 2 3 0 0 0"),
+    ("hold-owner-before-overlap", "hold 1 lpi 0 8192 8196/hold 0 lpi 0 8192 8196", "no 2 3 0 0 0"),
     ("hold-empty-mmio", "hold 1 mmio 4096 4096", "no 1 4 0 0 0"),
     ("hold-turned-mmio", "hold 1 mmio 1 0", "no 1 4 0 0 0"),
     ("hold-empty-pio", "hold 1 pio 65535 65535", "no 1 4 0 0 0"),
@@ -24,7 +24,7 @@ pub const CASES: &[(&str, &str, &str)] = &[
     ("hold-reserved-input", "hold 7 input 3 9 0 1/hold 8 input 3 9 0 1", "no 2 5 0 7 0"),
     ("hold-reserved-device", "hold 7 device 1 2 0 9/hold 8 device 1 2 8 10", "no 2 5 0 7 0"),
     ("hold-reserved-event", "hold 7 event 1 2 3 0 9/hold 8 event 1 2 3 8 10", "no 2 5 0 7 0"),
-    ("hold-reserved-lpi", "hold 7 lpi 1 0 9/hold 8 lpi 1 8 10", "no 2 5 0 7 0"),
+    ("hold-reserved-lpi", "hold 7 lpi 1 8192 8201/hold 8 lpi 1 8200 8202", "no 2 5 0 7 0"),
     ("hold-reserved-by-itself", "hold 7 mmio 0 1/hold 7 mmio 0 1", "no 2 5 0 7 0"),
     ("hold-reserved-largest-owner", "hold 4294967295 mmio 0 1/hold 7 mmio 0 1", "no 2 5 0 4294967295 0"),
     ("hold-names-the-first-row", "hold 1 mmio 8 12/hold 2 mmio 0 4/hold 3 mmio 2 10", "no 3 5 0 1 0"),
@@ -33,7 +33,7 @@ pub const CASES: &[(&str, &str, &str)] = &[
         "hold-other-domains",
         "hold 1 input 0 5 0 0/hold 1 input 1 5 0 0/hold 1 device 0 0 1 2/hold 1 device 0 1 1 2/hold 1 device 1 0 1 2/\
          hold 1 event 0 0 1 0 4/hold 1 event 0 0 2 0 4/hold 1 event 0 1 1 0 4/hold 1 event 1 0 1 0 4/\
-         hold 1 lpi 0 0 4/hold 1 lpi 1 0 4",
+         hold 1 lpi 0 8192 8196/hold 1 lpi 1 8192 8196",
         "end 0",
     ),
     ("hold-before-pool", "hold 1 host 0 1/pool auto host 0 2/want 2 0 host auto", "got 2 0 host 1/end 1"),
@@ -47,7 +47,18 @@ pub const CASES: &[(&str, &str, &str)] = &[
     (
         "hold-largest-ranges",
         "hold 1 mmio 0 18446744073709551615/hold 1 pio 0 65535/hold 1 host 0 18446744073709551615/\
-         hold 1 device 0 0 0 4294967295/hold 1 event 0 0 4294967295 0 4294967295/hold 1 lpi 0 0 4294967295",
+         hold 1 device 0 0 0 4294967295/hold 1 event 0 0 4294967295 0 4294967295/hold 1 lpi 0 8192 4294967295",
         "end 0",
     ),
+    // LPIs start at 8192: after an owner of 0 and an empty range, before any overlap
+    ("hold-lpi-low", "hold 1 lpi 0 0 1", "no 1 12 0 0 0"),
+    ("hold-lpi-last-low", "hold 1 lpi 4294967295 8191 8192", "no 1 12 0 0 0"),
+    ("hold-lpi-across", "hold 1 lpi 0 8191 8193", "no 1 12 0 0 0"),
+    ("hold-lpi-low-widest", "hold 1 lpi 0 0 4294967295", "no 1 12 0 0 0"),
+    ("hold-lpi-first", "hold 1 lpi 0 8192 8193", "end 0"),
+    ("hold-lpi-low-empty", "hold 1 lpi 0 5 5", "no 1 4 0 0 0"),
+    ("hold-lpi-low-turned", "hold 1 lpi 0 9 5", "no 1 4 0 0 0"),
+    ("hold-lpi-low-owner-0-empty", "hold 0 lpi 0 5 5", "no 1 3 0 0 0"),
+    ("hold-lpi-low-before-reserved", "hold 7 lpi 0 8192 8200/hold 8 lpi 0 8191 8193", "no 2 12 0 0 0"),
+    ("hold-low-device-and-event", "hold 1 device 0 0 0 1/hold 1 event 0 0 0 0 1", "end 0"),
 ];

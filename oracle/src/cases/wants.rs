@@ -6,7 +6,7 @@ pub const CASES: &[(&str, &str, &str)] = &[
     ("want-requester-0-pio", "pool auto pio 0 9/want 0 1 pio 1 1 auto", "no 2 2 0 0 0"),
     ("want-requester-0-input", "pool auto input 0 0 9/want 0 1 input 0 0 0 auto", "no 2 2 0 0 0"),
     ("want-requester-0-host", "pool auto host 0 9/want 0 1 host auto", "no 2 2 0 0 0"),
-    ("want-requester-0-msi", "pool auto msi 0 0 0 9 0 9 0 9/want 0 1 msi 0 0 1 auto", "no 2 2 0 0 0"),
+    ("want-requester-0-msi", "pool auto msi 0 0 0 9 0 9 8192 8201/want 0 1 msi 0 0 1 auto", "no 2 2 0 0 0"),
     ("want-size-0-mmio", "pool auto mmio 0 9/want 1 1 mmio 0 1 auto", "no 2 2 0 0 0"),
     ("want-size-0-mmio-fixed", "pool fixed mmio 0 9/want 1 1 mmio 0 1 0", "no 2 2 0 0 0"),
     ("want-size-0-pio", "pool auto pio 0 9/want 1 1 pio 0 1 auto", "no 2 2 0 0 0"),
@@ -20,8 +20,8 @@ pub const CASES: &[(&str, &str, &str)] = &[
     ("want-trigger-4", "pool auto input 0 0 9/want 1 1 input 0 4 0 auto", "no 2 2 0 0 0"),
     ("want-sharing-2", "pool auto input 0 0 9/want 1 1 input 0 0 2 auto", "no 2 2 0 0 0"),
     ("want-codes-largest", "want 1 1 input 0 4294967295 4294967295 auto", "no 1 2 0 0 0"),
-    ("want-count-0", "pool auto msi 0 0 0 9 0 9 0 9/want 1 1 msi 0 0 0 auto", "no 2 2 0 0 0"),
-    ("want-count-0-fixed", "pool fixed msi 0 0 0 9 0 9 0 9/want 1 1 msi 0 0 0 0 0 0", "no 2 2 0 0 0"),
+    ("want-count-0", "pool auto msi 0 0 0 9 0 9 8192 8201/want 1 1 msi 0 0 0 auto", "no 2 2 0 0 0"),
+    ("want-count-0-fixed", "pool fixed msi 0 0 0 9 0 9 8192 8201/want 1 1 msi 0 0 0 0 0 8192", "no 2 2 0 0 0"),
     ("want-bad-input-before-6", "want 1 1 mmio 0 1 5", "no 1 2 0 0 0"),
     ("want-bad-input-before-7", "want 1 1 mmio 1 6 auto", "no 1 2 0 0 0"),
     // 6 FixedNotAllowed
@@ -52,23 +52,34 @@ pub const CASES: &[(&str, &str, &str)] = &[
     ("want-largest-input", "pool fixed input 0 0 18446744073709551615/want 1 1 input 0 0 0 18446744073709551615", "no 2 6 3 0 0"),
     ("want-end-of-pool-host", "pool fixed host 3 5/want 1 1 host 5", "no 2 6 4 0 0"),
     ("want-largest-host", "pool fixed host 0 18446744073709551615/want 1 1 host 18446744073709551615", "no 2 6 4 0 0"),
-    ("want-device-not-allowed", "pool fixed msi 0 0 3 5 0 4 0 4/want 1 1 msi 0 0 1 5 0 0", "no 2 6 5 0 0"),
-    ("want-event-not-allowed", "pool fixed msi 0 0 3 5 0 4 0 4/want 1 1 msi 0 0 2 3 3 0", "no 2 6 5 0 0"),
-    ("want-lpi-not-allowed", "pool fixed msi 0 0 3 5 0 4 0 4/want 1 1 msi 0 0 2 3 0 3", "no 2 6 6 0 0"),
+    ("want-device-not-allowed", "pool fixed msi 0 0 3 5 0 4 8192 8196/want 1 1 msi 0 0 1 5 0 8192", "no 2 6 5 0 0"),
+    ("want-event-not-allowed", "pool fixed msi 0 0 3 5 0 4 8192 8196/want 1 1 msi 0 0 2 3 3 8192", "no 2 6 5 0 0"),
+    ("want-lpi-not-allowed", "pool fixed msi 0 0 3 5 0 4 8192 8196/want 1 1 msi 0 0 2 3 0 8195", "no 2 6 6 0 0"),
     (
         "want-event-past-width",
-        "pool fixed msi 0 0 0 4294967295 0 4294967295 0 4294967295/want 1 1 msi 0 0 2 0 4294967294 0",
+        "pool fixed msi 0 0 0 4294967295 0 4294967295 8192 4294967295/want 1 1 msi 0 0 2 0 4294967294 8192",
         "no 2 6 5 0 0",
     ),
     (
         "want-lpi-past-width",
-        "pool fixed msi 0 0 0 4294967295 0 4294967295 0 4294967295/want 1 1 msi 0 0 2 0 0 4294967294",
+        "pool fixed msi 0 0 0 4294967295 0 4294967295 8192 4294967295/want 1 1 msi 0 0 2 0 0 4294967294",
         "no 2 6 6 0 0",
     ),
     (
         "want-largest-device",
-        "pool fixed msi 0 0 0 4294967295 0 4294967295 0 4294967295/want 1 1 msi 0 0 1 4294967295 0 0",
+        "pool fixed msi 0 0 0 4294967295 0 4294967295 8192 4294967295/want 1 1 msi 0 0 1 4294967295 0 8192",
         "no 2 6 5 0 0",
+    ),
+    // no request gets 12: a low LPI lies in no pool
+    ("want-lpi-low", "pool fixed msi 0 0 0 9 0 9 8192 8201/want 1 1 msi 0 0 1 0 0 8191", "no 2 6 6 0 0"),
+    ("want-lpi-0", "pool fixed msi 0 0 0 9 0 9 8192 8201/want 1 1 msi 0 0 1 0 0 0", "no 2 6 6 0 0"),
+    ("want-lpi-across", "pool fixed msi 0 0 0 9 0 9 8192 8201/want 1 1 msi 0 0 2 0 0 8191", "no 2 6 6 0 0"),
+    ("want-lpi-low-no-pool", "want 1 1 msi 0 0 1 0 0 8191", "no 1 6 5 0 0"),
+    ("want-device-before-low-lpi", "pool fixed msi 0 0 0 9 0 9 8192 8201/want 1 1 msi 0 0 1 9 0 0", "no 2 6 5 0 0"),
+    (
+        "want-event-conflict-before-low-lpi",
+        "pool fixed msi 0 0 0 9 0 9 8192 8201/hold 5 event 0 0 3 0 9/want 1 1 msi 0 0 1 3 0 0",
+        "no 3 8 5 5 6",
     ),
     // 7 Exhausted
     ("want-none-mmio", "want 1 1 mmio 1 1 auto", "no 1 7 1 0 0"),
@@ -78,10 +89,10 @@ pub const CASES: &[(&str, &str, &str)] = &[
     ("want-none-msi", "want 1 1 msi 0 0 1 auto", "no 1 7 5 0 0"),
     ("want-too-long-pio", "pool auto pio 0 4/pool auto pio 4 8/want 1 1 pio 5 1 auto", "no 3 7 2 0 0"),
     ("want-held-input", "pool auto input 0 7 8/hold 2 input 0 7 0 1/want 1 1 input 0 0 1 auto", "no 3 7 3 0 0"),
-    ("want-no-device", "pool auto msi 0 0 3 5 0 4 0 4/hold 2 device 0 0 3 5/want 1 1 msi 0 0 1 auto", "no 3 7 5 0 0"),
-    ("want-no-event-run", "pool auto msi 0 0 3 5 0 4 0 9/want 1 1 msi 0 0 5 auto", "no 2 7 5 0 0"),
-    ("want-no-lpi-run", "pool auto msi 0 0 3 5 0 9 0 4/want 1 1 msi 0 0 5 auto", "no 2 7 6 0 0"),
-    ("want-no-lpi-gap", "pool auto msi 0 0 3 5 0 9 0 4/hold 2 lpi 0 1 3/want 1 1 msi 0 0 2 auto", "no 3 7 6 0 0"),
+    ("want-no-device", "pool auto msi 0 0 3 5 0 4 8192 8196/hold 2 device 0 0 3 5/want 1 1 msi 0 0 1 auto", "no 3 7 5 0 0"),
+    ("want-no-event-run", "pool auto msi 0 0 3 5 0 4 8192 8201/want 1 1 msi 0 0 5 auto", "no 2 7 5 0 0"),
+    ("want-no-lpi-run", "pool auto msi 0 0 3 5 0 9 8192 8196/want 1 1 msi 0 0 5 auto", "no 2 7 6 0 0"),
+    ("want-no-lpi-gap", "pool auto msi 0 0 3 5 0 9 8192 8196/hold 2 lpi 0 8193 8195/want 1 1 msi 0 0 2 auto", "no 3 7 6 0 0"),
     (
         "want-sum-past-width",
         "pool auto mmio 18446744073709551608 18446744073709551615/pool auto mmio 18446744073709551610 18446744073709551615/\
@@ -97,9 +108,9 @@ pub const CASES: &[(&str, &str, &str)] = &[
     ("want-conflict-mmio", "pool fixed mmio 0 9/hold 5 mmio 3 4/want 1 1 mmio 4 1 0", "no 3 8 1 5 1"),
     ("want-conflict-pio", "pool fixed pio 0 9/hold 5 pio 3 4/want 1 1 pio 1 1 3", "no 3 8 2 5 1"),
     ("want-conflict-host", "pool fixed host 0 9/hold 5 host 3 4/want 1 1 host 3", "no 3 8 4 5 4"),
-    ("want-conflict-device", "pool fixed msi 0 0 0 9 0 9 0 9/hold 5 device 0 0 3 4/want 1 1 msi 0 0 1 3 0 0", "no 3 8 5 5 5"),
-    ("want-conflict-event", "pool fixed msi 0 0 0 9 0 9 0 9/hold 5 event 0 0 3 3 4/want 1 1 msi 0 0 2 3 2 0", "no 3 8 5 5 6"),
-    ("want-conflict-lpi", "pool fixed msi 0 0 0 9 0 9 0 9/hold 5 lpi 0 3 4/want 1 1 msi 0 0 2 3 0 2", "no 3 8 6 5 7"),
+    ("want-conflict-device", "pool fixed msi 0 0 0 9 0 9 8192 8201/hold 5 device 0 0 3 4/want 1 1 msi 0 0 1 3 0 8192", "no 3 8 5 5 5"),
+    ("want-conflict-event", "pool fixed msi 0 0 0 9 0 9 8192 8201/hold 5 event 0 0 3 3 4/want 1 1 msi 0 0 2 3 2 8192", "no 3 8 5 5 6"),
+    ("want-conflict-lpi", "pool fixed msi 0 0 0 9 0 9 8192 8201/hold 5 lpi 0 8195 8196/want 1 1 msi 0 0 2 3 0 8194", "no 3 8 6 5 7"),
     ("want-conflict-trigger", "pool fixed input 0 0 9/hold 5 input 0 3 0 0/want 1 1 input 0 1 0 3", "no 3 8 3 5 2"),
     ("want-conflict-exclusive-holder", "pool fixed input 0 0 9/hold 5 input 0 3 2 0/want 1 1 input 0 2 1 3", "no 3 8 3 5 3"),
     ("want-conflict-exclusive-request", "pool fixed input 0 0 9/hold 5 input 0 3 2 1/want 1 1 input 0 2 0 3", "no 3 8 3 5 3"),
@@ -111,30 +122,30 @@ pub const CASES: &[(&str, &str, &str)] = &[
     ("want-conflict-with-itself", "pool fixed host 0 9/want 6 1 host 3/want 6 1 host 3", "no 3 8 4 6 4"),
     (
         "want-conflict-auto-grant",
-        "pool auto msi 0 0 0 9 0 9 0 9/pool fixed msi 0 0 0 9 0 9 0 9/want 6 1 msi 0 0 2 auto/want 7 1 msi 0 0 1 1 0 1",
+        "pool auto msi 0 0 0 9 0 9 8192 8201/pool fixed msi 0 0 0 9 0 9 8192 8201/want 6 1 msi 0 0 2 auto/want 7 1 msi 0 0 1 1 0 8193",
         "no 4 8 6 6 7",
     ),
     ("want-6-before-8", "pool fixed mmio 0 9/hold 5 mmio 3 4/want 1 1 mmio 1 2 3", "no 3 6 1 0 0"),
     (
         "want-event-before-lpi",
-        "pool fixed msi 0 0 0 9 0 9 0 9/hold 5 event 0 0 3 0 9/hold 6 lpi 0 0 9/want 1 1 msi 0 0 1 3 0 0",
+        "pool fixed msi 0 0 0 9 0 9 8192 8201/hold 5 event 0 0 3 0 9/hold 6 lpi 0 8192 8201/want 1 1 msi 0 0 1 3 0 8192",
         "no 4 8 5 5 6",
     ),
     (
         "want-device-before-event",
-        "pool fixed msi 0 0 0 9 0 9 0 9/hold 5 device 0 0 3 4/want 1 1 msi 0 0 99 3 0 0",
+        "pool fixed msi 0 0 0 9 0 9 8192 8201/hold 5 device 0 0 3 4/want 1 1 msi 0 0 99 3 0 8192",
         "no 3 8 5 5 5",
     ),
     (
         "want-device-conflict-before-lpi-6",
-        "pool fixed msi 0 0 0 9 0 9 0 9/hold 5 device 0 0 3 4/want 1 1 msi 0 0 1 3 0 99",
+        "pool fixed msi 0 0 0 9 0 9 8192 8201/hold 5 device 0 0 3 4/want 1 1 msi 0 0 1 3 0 8291",
         "no 3 8 5 5 5",
     ),
     // granted
     ("got-real-zeros", "pool fixed input 0 0 1/want 1 0 input 0 0 0 0", "got 1 0 input 0 0 0 0/end 1"),
     ("got-host-zero", "pool fixed host 0 1/want 1 0 host 0", "got 1 0 host 0/end 1"),
     ("got-mmio-zero", "pool fixed mmio 0 1/want 1 0 mmio 1 1 0", "got 1 0 mmio 0 1/end 1"),
-    ("got-msi-zeros", "pool fixed msi 0 0 0 1 0 1 0 1/want 1 0 msi 0 0 1 0 0 0", "got 1 0 msi 0 0 0 0 0 1/end 1"),
+    ("got-msi-zeros", "pool fixed msi 0 0 0 1 0 1 8192 8193/want 1 0 msi 0 0 1 0 0 8192", "got 1 0 msi 0 0 0 0 8192 1/end 1"),
     (
         "got-all-kinds",
         "pool auto mmio 4096 8192/pool auto pio 1016 1024/pool auto input 2 32 40/pool auto host 96 99/\
@@ -175,26 +186,26 @@ pub const CASES: &[(&str, &str, &str)] = &[
     ),
     (
         "got-event-run-of-each-device",
-        "pool auto msi 0 0 8 10 0 2 0 9/pool fixed msi 0 0 8 10 0 2 0 9/want 1 0 msi 0 0 2 auto/want 1 0 msi 0 0 2 auto/\
+        "pool auto msi 0 0 8 10 0 2 8192 8201/pool fixed msi 0 0 8 10 0 2 8192 8201/want 1 0 msi 0 0 2 auto/want 1 0 msi 0 0 2 auto/\
          want 1 0 msi 0 0 1 auto",
         "no 5 7 5 0 0",
     ),
     (
         "got-lpis-shared-by-its",
-        "pool auto msi 0 1 0 9 0 9 0 4/pool auto msi 0 2 0 9 0 9 0 4/want 1 0 msi 0 1 2 auto/want 1 0 msi 0 2 2 auto/\
+        "pool auto msi 0 1 0 9 0 9 8192 8196/pool auto msi 0 2 0 9 0 9 8192 8196/want 1 0 msi 0 1 2 auto/want 1 0 msi 0 2 2 auto/\
          want 1 0 msi 0 1 1 auto",
         "no 5 7 6 0 0",
     ),
     (
         "got-fixed-msi",
-        "pool fixed msi 3 4 8 10 0 4 0 4294967295/want 1 2 msi 3 4 2 9 1 4294967292",
+        "pool fixed msi 3 4 8 10 0 4 8192 4294967295/want 1 2 msi 3 4 2 9 1 4294967292",
         "got 1 2 msi 3 4 9 1 4294967292 2/end 1",
     ),
     (
         "got-device-gap",
-        "pool auto msi 0 0 8 12 0 4 0 9/hold 9 device 0 0 8 9/hold 9 device 0 0 10 11/want 1 0 msi 0 0 1 auto/\
+        "pool auto msi 0 0 8 12 0 4 8192 8201/hold 9 device 0 0 8 9/hold 9 device 0 0 10 11/want 1 0 msi 0 0 1 auto/\
          want 1 0 msi 0 0 1 auto",
-        "got 1 0 msi 0 0 9 0 0 1/got 1 0 msi 0 0 11 0 1 1/end 2",
+        "got 1 0 msi 0 0 9 0 8192 1/got 1 0 msi 0 0 11 0 8193 1/end 2",
     ),
     ("got-nothing-wanted", "pool auto mmio 0 9/hold 1 mmio 0 9", "end 0"),
 ];

@@ -6,6 +6,7 @@ use super::flat::{meaning, Meaning, Step};
 use crate::added;
 use crate::calls::{no, Answer, Call, Kind, PlanAnswer, Tables};
 use crate::departures;
+use crate::foreseen;
 use crate::judge::Judge;
 use crate::pinned::{in_room, judged as judged_back, Pinned};
 use crate::text;
@@ -95,11 +96,13 @@ pub struct Behind<A> {
     /// Whether an answer under no departure is held against the bare original's; and how many were.
     pub bare: bool,
     pub bare_same: u64,
+    /// Calls that add under a departure, at which the bare original did what was foreseen.
+    pub foreseen: u64,
 }
 
 impl<A: Answers> Behind<A> {
     pub fn new(answers: A) -> Self {
-        Self { answers, judge: Judge::fresh(), excused: BTreeMap::new(), bare: false, bare_same: 0 }
+        Self { answers, judge: Judge::fresh(), excused: BTreeMap::new(), bare: false, bare_same: 0, foreseen: 0 }
     }
 
     fn asked(&mut self, call: &Call, lent: usize) -> PlanAnswer {
@@ -109,17 +112,32 @@ impl<A: Answers> Behind<A> {
         }
         let same = self.bare && names.is_empty() && lent >= added::RECORD;
         let bare = if same { self.judge.bare_answer(call) } else { None };
+        let surprise = self.surprise(call, &names);
         let answer = self.answers.call(&mut self.judge, call, lent);
-        match bare {
+        let other = match bare {
             Some(bare) if bare != answer.answer => {
-                let words = format!("the bare original: {bare:?}, the judge: {:?}", answer.answer);
-                PlanAnswer { answer: Answer::Panicked(words), ..answer }
+                Some(format!("the bare original: {bare:?}, the judge: {:?}", answer.answer))
             }
             Some(_) => {
                 self.bare_same += 1;
-                answer
+                None
             }
+            None => surprise,
+        };
+        match other {
+            Some(words) => PlanAnswer { answer: Answer::Panicked(words), ..answer },
             None => answer,
+        }
+    }
+
+    /// What the bare original does with a call that adds, under a departure, if it was not foreseen.
+    fn surprise(&mut self, call: &Call, names: &[&str]) -> Option<String> {
+        match call {
+            Call::Add(add) if !names.is_empty() && foreseen::can_be_given(add) => {
+                self.foreseen += 1;
+                foreseen::surprise(&self.judge, add)
+            }
+            _ => None,
         }
     }
 

@@ -3,7 +3,7 @@
 use super::flat::Step;
 use crate::gen::Rng;
 
-const NUMBERS: [u64; 14] = [0, 1, 2, 3, 4, 5, 6, 8, 9, 1 << 16, (1 << 32) - 1, 1 << 32, 1 << 63, u64::MAX];
+const NUMBERS: [u64; 16] = [0, 1, 2, 3, 4, 5, 6, 8, 9, 8191, 8192, 1 << 16, (1 << 32) - 1, 1 << 32, 1 << 63, u64::MAX];
 
 /// A few steps of one sequence in four get odd numbers, lists or lent lengths.
 pub fn some_odd(rng: &mut Rng, steps: &mut [Step]) {

@@ -8,8 +8,9 @@ use super::face::{Behind, Face, Plain, Said};
 use super::flat::Step;
 use super::pins;
 use super::smallest::smallest;
-use crate::calls::{Kind, Place, Tables};
+use crate::calls::{Call, Kind, Place, Tables};
 use crate::departures;
+use crate::foreseen;
 use crate::text::{self, Ran};
 
 /// What both sides are given.
@@ -29,6 +30,8 @@ pub struct Pair {
     pub answers: BTreeMap<[u64; 3], u64>,
     /// What came of writing texts back.
     pub pins: pins::Counts,
+    /// Lines of texts that add under a departure, at which the bare original did what was foreseen.
+    foreseen: u64,
 }
 
 impl Pair {
@@ -39,6 +42,7 @@ impl Pair {
             excused: BTreeMap::new(),
             answers: BTreeMap::new(),
             pins: BTreeMap::new(),
+            foreseen: 0,
         }
     }
 
@@ -59,6 +63,11 @@ impl Pair {
     /// Answers that were held against the bare original's and are the same.
     pub fn bare_same(&self) -> u64 {
         self.theirs.bare_same
+    }
+
+    /// Calls that add under a departure, at which the bare original did what was foreseen.
+    pub fn foreseen(&self) -> u64 {
+        self.foreseen + self.theirs.foreseen
     }
 
     /// The departures that the inputs since the last time fell under, and in how many places.
@@ -88,16 +97,27 @@ impl Pair {
     }
 
     fn text(&mut self, text: &[u8]) -> Option<String> {
-        let excused = &mut self.excused;
-        let ran = text::run_seen(text, &mut |tables, call| {
-            for name in departures::of(tables, call) {
+        let (excused, foreseen, mut surprise) = (&mut self.excused, &mut self.foreseen, None);
+        let ran = text::run_seen(text, &mut |judge, call| {
+            let names = departures::of(judge.tables(), call);
+            for name in &names {
                 *excused.entry(name).or_default() += 1;
+            }
+            match call {
+                Call::Add(add) if !names.is_empty() && foreseen::can_be_given(add) => {
+                    *foreseen += 1;
+                    surprise = surprise.take().or_else(|| foreseen::surprise(judge, add));
+                }
+                _ => {}
             }
         });
         let ran = match ran {
             Ok(ran) => ran,
             Err(stopped) => return Some(format!("the original panics at line {}: {}", stopped.line, stopped.message)),
         };
+        if surprise.is_some() {
+            return surprise;
+        }
         *self.answers.entry(answer_of(&ran)).or_default() += 1;
         let (ours, theirs) = (self.ours.text(text), ran.output());
         if ours != theirs {

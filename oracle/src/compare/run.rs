@@ -79,6 +79,8 @@ pub struct Report {
     pub answers: BTreeMap<[u64; 3], u64>,
     /// Answers of the judge that were held against the bare original's as well.
     pub bare_same: u64,
+    /// Calls that add under a departure, at which the bare original did what was foreseen.
+    pub foreseen: u64,
     /// What came of writing texts back.
     pub pins: Counts,
 }
@@ -89,6 +91,7 @@ impl Report {
         self.differ += other.differ;
         self.shown.extend(other.shown);
         self.bare_same += other.bare_same;
+        self.foreseen += other.foreseen;
         for (name, (inputs, places)) in other.excused {
             let entry = self.excused.entry(name).or_default();
             *entry = (entry.0 + inputs, entry.1 + places);
@@ -127,6 +130,9 @@ impl fmt::Display for Report {
         for (name, (inputs, places)) in &self.excused {
             writeln!(f, "departure {name}: {inputs} inputs, {places} places, compared with 01's answer")?;
         }
+        if self.foreseen > 0 {
+            writeln!(f, "{} calls that add under a departure: the bare original did what was foreseen", self.foreseen)?;
+        }
         for (what, count) in &self.pins {
             writeln!(f, "pinned text, {what}: {count}")?;
         }
@@ -153,6 +159,7 @@ pub fn run(family: &Family, threads: u64, ours: &(dyn Fn() -> Box<dyn Face> + Sy
         report.answers = std::mem::take(&mut pair.answers);
         report.pins = std::mem::take(&mut pair.pins);
         report.bare_same = pair.bare_same();
+        report.foreseen = pair.foreseen();
         report
     };
     let mut whole = Report::default();

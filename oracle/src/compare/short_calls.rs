@@ -3,6 +3,7 @@
 use super::flat::{step_of, Step};
 use super::run::Family;
 use super::Digits;
+use crate::added::{FIRST_LPI, POOL_ROWS};
 use crate::calls::{Add, Answer, Call, Choice, Hold, Need, PoolRange, Request};
 use crate::judge::Judge;
 
@@ -29,6 +30,8 @@ pub fn families(large: bool) -> Vec<Family> {
     .collect();
     all.push(added("pools", pools(), 3));
     all.push(added("holds", holds(), 3));
+    all.push(added("holds of LPIs", lpi_holds(), 3));
+    all.push(domains());
     all.push(added("inputs and pairs", pairs(), 3));
     all
 }
@@ -211,14 +214,14 @@ fn messages(large: bool) -> Space {
     let holds = [
         Hold::Device { controller: 0, its: 0, devices: 0..1 },
         Hold::Event { controller: 0, its: 0, device: 0, events: 0..1 },
-        Hold::Lpi { controller: 0, lpis: 0..1 },
+        Hold::Lpi { controller: 0, lpis: FIRST_LPI..FIRST_LPI + 1 },
     ];
     for [devices, events, lpis] in ends {
         for held in with_none(&holds) {
             let mut adds = Vec::new();
             for its in 0..its {
                 for fixed in [false, true] {
-                    let (devices, events, lpis) = (0..*devices, 0..*events, 0..*lpis);
+                    let (devices, events, lpis) = (0..*devices, 0..*events, FIRST_LPI..FIRST_LPI + lpis);
                     adds.push(Add::Domain { fixed, controller: 0, its, devices, events, lpis });
                 }
             }
@@ -227,12 +230,14 @@ fn messages(large: bool) -> Space {
         }
     }
     let three = [Choice::Auto, Choice::Fixed(0), Choice::Fixed(1)];
+    // the first of them is never pooled
+    let lpis = [Choice::Auto, Choice::Fixed(FIRST_LPI - 1), Choice::Fixed(FIRST_LPI), Choice::Fixed(FIRST_LPI + 1)];
     let mut needs = Vec::new();
     for its in 0..its {
         for count in [1, 2] {
             for device in three {
                 for event in three {
-                    needs.extend(three.map(|lpi| Need::Msi { controller: 0, its, count, device, event, lpi }));
+                    needs.extend(lpis.map(|lpi| Need::Msi { controller: 0, its, count, device, event, lpi }));
                 }
             }
         }
@@ -240,7 +245,7 @@ fn messages(large: bool) -> Space {
     Space { name: "msi", setups, needs, depth: 2 }
 }
 
-/// Pool ranges of both uses, empty and turned round ones too, and MSI domains.
+/// Pool ranges of both uses, empty and turned round ones too, and MSI domains; LPIs on both sides of the least.
 fn pools() -> Vec<Add> {
     let mut adds = Vec::new();
     for (start, end) in [(0, 1), (0, 2), (1, 2), (1, 3), (2, 2), (3, 1)] {
@@ -255,8 +260,14 @@ fn pools() -> Vec<Add> {
         ] {
             adds.push(Add::Pool { fixed: start == 1, range });
         }
-        let other = narrow.clone();
-        for (devices, events, lpis) in [(narrow.clone(), 0..1, 0..1), (0..1, narrow, 0..1), (0..1, 0..1, other)] {
+        let lpi = FIRST_LPI..FIRST_LPI + 1;
+        let lpis = |first: u32| first + start as u32..first + end as u32;
+        for (devices, events, lpis) in [
+            (narrow.clone(), 0..1, lpi.clone()),
+            (0..1, narrow, lpi),
+            (0..1, 0..1, lpis(FIRST_LPI)),
+            (0..1, 0..1, lpis(FIRST_LPI - 1)),
+        ] {
             adds.push(Add::Domain { fixed: start == 1, controller: 0, its: 1, devices, events, lpis });
         }
     }
@@ -277,12 +288,63 @@ fn holds() -> Vec<Add> {
             Hold::Device { controller: 0, its: 1, devices: narrow() },
             Hold::Event { controller: 0, its: 0, device: 0, events: narrow() },
             Hold::Event { controller: 0, its: 0, device: 1, events: narrow() },
-            Hold::Lpi { controller: 0, lpis: narrow() },
+            Hold::Lpi { controller: 0, lpis: FIRST_LPI + start as u32..FIRST_LPI + end as u32 },
         ] {
             adds.push(Add::Hold { owner, what });
         }
     }
     adds
+}
+
+/// Reservations of LPIs on both sides of the least, empty and turned round ones too.
+fn lpi_holds() -> Vec<Add> {
+    let mut adds = Vec::new();
+    for owner in [0, 1, 2] {
+        for (start, end) in [(-2, -1), (-1, 0), (-1, 1), (0, 1), (0, 2), (1, 2), (1, 1), (-3, -3), (-1, -3)] {
+            let at = |mark: i32| FIRST_LPI.wrapping_add_signed(mark);
+            adds.push(Add::Hold { owner, what: Hold::Lpi { controller: 0, lpis: at(start)..at(end) } });
+        }
+    }
+    adds
+}
+
+/// The bounds of a range: a new one, one that is there already, an empty one, one too large for its field.
+const BOUNDS: [[u64; 2]; 4] = [[1000, 1005], [0, 5], [7, 7], [0, 1 << 32]];
+
+/// The same for LPIs from the least one on; and low ones: across it, empty, turned round, too large.
+fn lpi_bounds(first: u64) -> Vec<[u64; 2]> {
+    let low = [[first - 1, first + 1], [5, 5], [9, 5], [5, 1 << 32]];
+    BOUNDS.iter().map(|bounds| bounds.map(|number| first + number)).chain(low).collect()
+}
+
+/// An MSI domain of every three such ranges, on tables each of which is full or has one row left: asked twice, with a new
+/// one and requests behind it.
+fn domains() -> Family {
+    let firsts = [0, 0, u64::from(FIRST_LPI)];
+    let bounds = [BOUNDS.to_vec(), BOUNDS.to_vec(), lpi_bounds(firsts[2])];
+    let count = 2 * 8 * bounds.iter().map(|some| some.len() as u64).product::<u64>();
+    Family::calls("all MSI domains on tables that are full or nearly", count, move |index| {
+        let mut digits = Digits(index);
+        let fixed = digits.digit(2);
+        let full = [(); 3].map(|()| digits.digit(2) == 1);
+        let asked = [0, 1, 2].map(|kind| digits.pick(&bounds[kind]));
+        let call = |three: [[u64; 2]; 3]| Step::Call([&[1, fixed, 5, 0, 0][..], &three.concat()].concat());
+        let at = |mark: u64| firsts.map(|first| [first + mark, first + mark + 5]);
+        // where a row is to be left, the first of them is there twice
+        let row = |i: u64| {
+            let (all, less) = (at(10 * i), at(10 * i.saturating_sub(1)));
+            call([0, 1, 2].map(|kind| if full[kind] { all[kind] } else { less[kind] }))
+        };
+        let mut steps: Vec<Step> = (0..POOL_ROWS as u64).map(row).collect();
+        steps.extend([call(asked), call(asked), call(at(2000)), step_of(&Call::Start)]);
+        let lpis = [Choice::Auto, Choice::Fixed(FIRST_LPI - 1), Choice::Fixed(FIRST_LPI)];
+        steps.extend(lpis.map(|lpi| {
+            let choice = if lpi == Choice::Auto { Choice::Auto } else { Choice::Fixed(0) };
+            let need = Need::Msi { controller: 0, its: 0, count: 1, device: choice, event: choice, lpi };
+            step_of(&Call::Request(Request { requester: 1, slot: 0, need }))
+        }));
+        steps
+    })
 }
 
 /// Inputs, host IRQs and the two together.

@@ -9,7 +9,7 @@ const WORDS: [&str; 14] =
     ["pool", "hold", "want", "auto", "fixed", "mmio", "pio", "input", "host", "msi", "0", "1", "2", ""];
 
 /// What a field is changed to.
-const FIELDS: [&str; 30] = [
+const FIELDS: [&str; 32] = [
     "",
     "0",
     "1",
@@ -26,6 +26,8 @@ const FIELDS: [&str; 30] = [
     "1 ",
     "65535",
     "65536",
+    "8191",
+    "8192",
     "4294967295",
     "4294967296",
     "18446744073709551615",
@@ -88,18 +90,21 @@ const HOST: [&str; 8] = [
     "want 4 0 host 18446744073709551615",
 ];
 
-const MSI: [&str; 11] = [
-    "pool auto msi 0 0 0 2 0 2 0 3",
-    "pool auto msi 0 1 0 1 0 1 1 1",
-    "pool fixed msi 0 1 0 2 0 2 0 3",
+const MSI: [&str; 14] = [
+    "pool auto msi 0 0 0 2 0 2 8192 8195",
+    "pool auto msi 0 1 0 1 0 1 8193 8193",
+    "pool fixed msi 0 1 0 2 0 2 8192 8195",
+    "pool fixed msi 0 1 0 2 0 2 8191 8195",
     "hold 6 device 0 0 0 1",
     "hold 6 event 0 0 0 0 2",
-    "hold 6 lpi 0 1 2",
+    "hold 6 lpi 0 8193 8194",
+    "hold 6 lpi 0 0 8194",
     "want 1 0 msi 0 0 1 auto",
     "want 2 0 msi 0 0 2 auto",
     "want 3 0 msi 0 1 1 auto",
-    "want 4 0 msi 0 1 1 0 0 0",
-    "want 5 0 msi 0 1 1 1 0 1",
+    "want 4 0 msi 0 1 1 0 0 8192",
+    "want 5 0 msi 0 1 1 1 0 8193",
+    "want 6 0 msi 0 1 1 1 0 8191",
 ];
 
 /// Lines that get a plain refusal.

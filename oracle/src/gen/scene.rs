@@ -3,14 +3,17 @@
 use std::ops::Range;
 
 use super::rng::Rng;
+use crate::added::FIRST_LPI;
 use crate::calls::{Add, Hold, Kind, PoolRange};
 
-/// Evenly spaced marks from an anchor on, cut off at the width's largest number.
+/// Evenly spaced marks from an anchor on, cut off at the width's largest number. Ranges that start below the least
+/// number are refused.
 #[derive(Clone, Debug)]
 pub struct Ruler {
     pub anchor: u64,
     pub cell: u64,
     pub cells: u64,
+    pub least: u64,
     pub most: u64,
 }
 
@@ -31,11 +34,13 @@ impl Ruler {
             0 => number.saturating_sub(1),
             1 => number.saturating_add(1).min(self.most),
             2 => self.most,
+            3 if self.least > 0 => self.least - 1,
+            4 if self.least > 0 => 0,
             _ => number,
         }
     }
 
-    /// A range of a few cells; now and then empty, turned round, or off its marks by one.
+    /// A range of a few cells; now and then empty, turned round, off its marks by one, or too low.
     pub fn span(&self, rng: &mut Rng, longest: u64) -> Range<u64> {
         let first = rng.below(self.marks());
         let (start, end) = (self.at(first), self.at(first + rng.between(1, longest)));
@@ -45,17 +50,22 @@ impl Ruler {
             2 => start.saturating_add(1).min(self.most)..end,
             3 => start..end.saturating_sub(1),
             4 => start..self.most,
+            5 if self.least > 0 => self.least - 1..end,
+            6 if self.least > 0 => 0..end - start,
+            7 if self.least > 0 => self.least - 1..self.least - 1,
+            8 if self.least > 0 => self.least..end,
             _ => start..end,
         }
     }
 
-    /// Nearly all marks.
+    /// Nearly all marks, none too low where some are not.
     pub fn whole(&self, rng: &mut Rng) -> Range<u64> {
         let (first, last) = (rng.below(3), self.marks().saturating_sub(rng.below(3)));
-        if first < last {
-            self.at(first)..self.at(last)
+        let whole = if first < last { self.at(first)..self.at(last) } else { self.at(0)..self.at(1) };
+        if self.least < whole.end {
+            whole.start.max(self.least)..whole.end
         } else {
-            self.at(0)..self.at(1)
+            whole
         }
     }
 
@@ -70,7 +80,20 @@ impl Ruler {
             2 | 3 => (u64::MAX >> (64 - boundary)).wrapping_add(1).wrapping_sub(before) & most,
             _ => rng.number() & most,
         };
-        Ruler { anchor, cell, cells, most }
+        Ruler { anchor, cell, cells, least: 0, most }
+    }
+
+    /// The same for LPIs: what lies too low is moved up to the least of them, but for a few stretches that stay where they
+    /// are or lie on both sides of it.
+    fn of_lpis(self) -> Self {
+        let least = u64::from(FIRST_LPI);
+        let anchor = match self.anchor {
+            low @ 85..=89 => low,
+            low @ 90..=99 => least + 89 - low,
+            low if low < least => least + low,
+            high => high,
+        };
+        Ruler { anchor, least, ..self }
     }
 }
 
@@ -96,7 +119,7 @@ impl Scene {
             Ruler::random(rng, 64, 1, cells),
             Ruler::random(rng, 32, 1, cells),
             Ruler::random(rng, 32, 1, cells),
-            Ruler::random(rng, 32, 1, cells),
+            Ruler::random(rng, 32, 1, cells).of_lpis(),
         ];
         let kinds = if rng.chance(60) { vec![rng.pick(&Kind::ALL)] } else { Kind::ALL.to_vec() };
         Scene {

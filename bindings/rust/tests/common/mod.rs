@@ -1,4 +1,4 @@
-//! What the tests share: the exported functions themselves, for lists and sizes which the wrapper never hands in; small stacks; a stand with plans for it; random numbers. No test uses all of it.
+//! What the tests share: the exported functions themselves, for lists and sizes which the wrapper never hands in; calls that must leave nothing where they are refused; small stacks; a stand with plans for it; random numbers. No test uses all of it.
 #![allow(dead_code)]
 
 #[path = "../../src/exported.rs"]
@@ -8,7 +8,7 @@ pub mod texts;
 
 pub use exported::*;
 
-use thurgoleo::{Choice, Hold, Plan, Planner, Pool, Request, Use, Want, MOST};
+use thurgoleo::{Choice, Hold, Plan, Planner, Pool, Request, Use, Want, MOST, STATE_SIZE};
 
 pub fn small_stack(run: impl FnOnce() + Send + 'static) {
     on_stack(1 << 20, run);
@@ -22,6 +22,24 @@ pub fn on_stack(bytes: usize, run: impl FnOnce() + Send + 'static) {
         .unwrap()
         .join()
         .unwrap();
+}
+
+/// The call itself on a state, which names nothing: its answer. Refused, it leaves every number of all tables as it was.
+pub fn call_leaving(words: &mut [u64], numbers: &[u64]) -> u64 {
+    let (before, mut told, n) = (words.to_vec(), [77; 5], words.len() - 5);
+    let (from, to) = (numbers.as_ptr(), told.as_mut_ptr());
+    let size = STATE_SIZE as u64;
+    let number = unsafe { planner_call(words.as_mut_ptr(), size, from, numbers.len(), to, 5) };
+    assert_eq!((told[0], &words[n..]), (number, &told[..]), "{numbers:?}");
+    assert_eq!(told[1..], [0; 4], "{numbers:?}");
+    let same = words[..n] == before[..n];
+    assert!(number == 0 || same, "{numbers:?} left something");
+    number
+}
+
+/// A planner over a copy of these tables.
+pub fn planner(words: &[u64]) -> Box<Planner> {
+    Box::new(Planner::from_words(words.try_into().unwrap()).unwrap())
 }
 
 /// The numbers of a splitmix64 generator.

@@ -4,7 +4,6 @@ use borrow.Author.Needs.{needs}
 use mathlib.Core.Path.{_≡_}
 use native.Mathlib.Omega.{arith}
 use Rattle.insert.proofs.OpenLaws.{Shifting, shift-done, shift-start, shift-step}
-use Rattle.insert.specs.Places.{before}
 use Rattle.insert.proofs.open_row.Statement.{statement}
 use Rattle.insert.proofs.open_row.Tie as tie
 

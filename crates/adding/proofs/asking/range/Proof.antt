@@ -5,10 +5,10 @@ use Rattle.adding.proofs.asking.range.Statement.{statement}
 use Rattle.adding.proofs.asking.range.Tie as tie
 
 returns : tie.Need-returns
-returns c = rw (sym (c .before .goes .ensures) ∙ c .if1 .taken, c .before .before .before .range-for .ensures)
+returns c = rw (sym (c .before .goes .ensures) ∙ c .if1 .taken, c .before .before .before .range-for .ensures, c .before .before .before .before .limits-of .ensures)
 
 returns-2 : tie.Need-returns-2
-returns-2 c = rw (sym (c .before .goes .ensures) ∙ c .if1 .left, c .before .before .before .range-for .ensures)
+returns-2 c = rw (sym (c .before .goes .ensures) ∙ c .if1 .left, c .before .before .before .range-for .ensures, c .before .before .before .before .limits-of .ensures)
 
 pub range-spec : {M : Type 1} → statement M
-range-spec = tie.close (tie.spec (λ c κs. search needs) (λ c κs. search needs) returns returns-2)
+range-spec = tie.close (tie.spec (λ c κs. search needs) (λ c κs. search needs) (λ c κs. search needs) returns returns-2)

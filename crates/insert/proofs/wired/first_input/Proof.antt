@@ -4,7 +4,6 @@ use borrow.Author.Needs.{needs}
 use mathlib.Core.Path.{_∙_, _≡_, sym}
 use native.Mathlib.Omega.{arith}
 use Rattle.definition.specs.Tables.{meets}
-use Rattle.insert.specs.Places.{before}
 use Rattle.tables.proofs.BelowLaws.{first-found, first-more, first-start}
 use Rattle.tables.specs.Below.{first}
 use Rattle.tables.specs.Views.{inputAt, inputOf, inputs}

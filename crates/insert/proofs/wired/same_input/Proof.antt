@@ -2,7 +2,6 @@
 use mathlib.Core.Path.{sym}
 use native.Mathlib.Omega.{arith}
 use Rattle.insert.proofs.HoldLaws.{inputs-apart, inputs-level}
-use Rattle.insert.specs.Places.{before}
 use Rattle.insert.proofs.wired.same_input.Statement.{statement}
 use Rattle.insert.proofs.wired.same_input.Tie as tie
 

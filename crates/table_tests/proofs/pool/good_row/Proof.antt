@@ -19,7 +19,11 @@ returns-3 c = let a = c .before .before .before .before .before .before .before 
 
 returns-4 : tie.Need-returns-4
 unfolding goodPool
-returns-4 c = let a = c .before .before .before .before .before .before .before .before .before .before .args in rw (le-leb (a .r .controller) (a .l .controller) (omega arith), le-leb (a .r .its) (a .l .its) (omega arith), lt-ltb (a .r .start) (a .r .end) (omega arith))
+returns-4 c = let a = c .before .before .before .before .before .before .before .before .before .before .before .args in rw (le-leb (a .r .controller) (a .l .controller) (omega arith), le-leb (a .r .its) (a .l .its) (omega arith), lt-ltb (a .r .start) (a .r .end) (omega arith), lt-leb (a .l .floor) (a .r .start) (omega arith))
+
+returns-5 : tie.Need-returns-5
+unfolding goodPool
+returns-5 c = let a = c .before .before .before .before .before .before .before .before .before .before .before .before .before .args in rw (le-leb (a .r .controller) (a .l .controller) (omega arith), le-leb (a .r .its) (a .l .its) (omega arith), lt-ltb (a .r .start) (a .r .end) (omega arith), le-leb (a .l .floor) (a .r .start) (omega arith))
 
 pub good-row-spec : {M : Type 1} → statement M
-good-row-spec = tie.close (tie.spec returns returns-2 returns-3 returns-4)
+good-row-spec = tie.close (tie.spec returns returns-2 returns-3 returns-4 returns-5)

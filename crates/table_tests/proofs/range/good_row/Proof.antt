@@ -25,11 +25,15 @@ returns-4 c = let a = c .before .before .before .before .before .before .before 
 
 returns-5 : tie.Need-returns-5
 unfolding goodRange
-returns-5 c = let a = c .before .before .before .before .before .before .before .before .before .before .before .before .before .before .args in rw (le-leb (a .r .controller) (a .l .controller) (omega arith), le-leb (a .r .its) (a .l .its) (omega arith), le-leb (a .r .device) (a .l .device) (omega arith), lt-ltb (a .r .start) (a .r .end) (omega arith), lt-leb (a .r .end) (a .l .top) (omega arith))
+returns-5 c = let a = c .before .before .before .before .before .before .before .before .before .before .before .before .before .before .args in rw (le-leb (a .r .controller) (a .l .controller) (omega arith), le-leb (a .r .its) (a .l .its) (omega arith), le-leb (a .r .device) (a .l .device) (omega arith), lt-ltb (a .r .start) (a .r .end) (omega arith), lt-leb (a .l .floor) (a .r .start) (omega arith))
 
 returns-6 : tie.Need-returns-6
 unfolding goodRange
-returns-6 c = let a = c .before .before .before .before .before .before .before .before .before .before .before .before .before .before .before .args in rw (le-leb (a .r .controller) (a .l .controller) (omega arith), le-leb (a .r .its) (a .l .its) (omega arith), le-leb (a .r .device) (a .l .device) (omega arith), lt-ltb (a .r .start) (a .r .end) (omega arith), le-leb (a .r .end) (a .l .top) (omega arith), le-leb (a .r .owner) (top 32) (search needs))
+returns-6 c = let a = c .before .before .before .before .before .before .before .before .before .before .before .before .before .before .before .before .before .args in rw (le-leb (a .r .controller) (a .l .controller) (omega arith), le-leb (a .r .its) (a .l .its) (omega arith), le-leb (a .r .device) (a .l .device) (omega arith), lt-ltb (a .r .start) (a .r .end) (omega arith), le-leb (a .l .floor) (a .r .start) (omega arith), lt-leb (a .r .end) (a .l .top) (omega arith))
+
+returns-7 : tie.Need-returns-7
+unfolding goodRange
+returns-7 c = let a = c .before .before .before .before .before .before .before .before .before .before .before .before .before .before .before .before .before .before .args in rw (le-leb (a .r .controller) (a .l .controller) (omega arith), le-leb (a .r .its) (a .l .its) (omega arith), le-leb (a .r .device) (a .l .device) (omega arith), lt-ltb (a .r .start) (a .r .end) (omega arith), le-leb (a .l .floor) (a .r .start) (omega arith), le-leb (a .r .end) (a .l .top) (omega arith), le-leb (a .r .owner) (top 32) (search needs))
 
 pub good-row-spec : {M : Type 1} → statement M
-good-row-spec = tie.close (tie.spec returns returns-2 returns-3 returns-4 returns-5 returns-6)
+good-row-spec = tie.close (tie.spec returns returns-2 returns-3 returns-4 returns-5 returns-6 returns-7)
