@@ -747,6 +747,33 @@ def request_full(r):
         r.do(6)
 
 
+def blocks(r):
+    """Wide reserved blocks before the first free number, for each kind of range: one behind the other in rising, falling and mixed order, with a gap of one number, and up to
+    the last number but one. What is asked goes past each of them, and no further."""
+    for k in (1, 2, 4, 5, 6, 7):
+        wide = 7000 if k == 2 else 1_000_000
+        low, most = FLOOR[k], TOP[k]
+        cuts = [low + i * wide for i in range(9)]
+        behind = list(zip(cuts, cuts[1:]))
+        gap = [(a, b - (i == 3)) for i, (a, b) in enumerate(behind)]
+        to_the_last = behind[:7] + [(cuts[7], most - 1)]
+        for held in (behind, gap, to_the_last):
+            for order in (range(8), range(7, -1, -1), (3, 6, 0, 5, 1, 7, 4, 2)):
+                for end in (cuts[8], most):
+                    r.do(0)
+                    if k < 5:
+                        r.do(1, 0, k, low, end)
+                    else:
+                        ranges = {5: (0, 9), 6: (0, 9), 7: (FIRST, FIRST + 9), k: (low, end)}
+                        r.do(1, 0, 5, 1, 2, *ranges[5], *ranges[6], *ranges[7])
+                    for i in order:
+                        r.do(2, 9 + i, k, *{5: (1, 2), 6: (1, 2, 0), 7: (1,)}.get(k, ()), *held[i])
+                    r.do(3)
+                    for slot in range(2):
+                        r.do(8, 3, slot, min(k, 5), *{4: (), 1: (1, 1), 2: (1, 1)}.get(k, (1, 2, 1)))
+                    r.do(6)
+
+
 def request_malformed(r):
     """1 before 11 before 2; a record list of every length up to nine and beyond; owner tables that no longer begin with the reservations."""
     for k in KINDS:
@@ -853,7 +880,7 @@ def random_calls(r, seed, rounds):
 
 def main():
     r = Run()
-    for part in (pool_order, pool_full, domains, low_rows, holds, hold_full, started, last_row, malformed, broken, stand_cases, request_bounds, request_full, request_malformed):
+    for part in (pool_order, pool_full, domains, low_rows, holds, hold_full, started, last_row, malformed, broken, stand_cases, request_bounds, request_full, blocks, request_malformed):
         part(r)
     random_calls(r, 1, 30)
     random_requests(r, 2, 150)

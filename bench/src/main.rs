@@ -1,6 +1,7 @@
 // Times the calls that ship against the original's on two inputs, measures their stack, and prints docs/SPEED.md's tables.
 
 mod agree;
+mod crawl;
 mod face;
 mod forms;
 mod input;
@@ -39,6 +40,7 @@ fn main() {
     tests(&inputs);
     plans(&inputs);
     inputs.iter().for_each(requests);
+    crawl::crawls();
     inputs.iter().for_each(by_value);
     stacks(&inputs[1]);
 }

@@ -7,6 +7,8 @@ use std::time::{Duration, Instant};
 pub const SAMPLES: usize = 1000;
 /// The same of paired calls, which are more in a sample.
 const PAIRS: usize = 250;
+/// The same of calls that may take long.
+const FEW: usize = 15;
 /// Samples before them that do not count.
 const WARM: usize = 50;
 
@@ -25,6 +27,13 @@ pub fn median<T, R>(batch: usize, mut make: impl FnMut() -> T, mut call: impl Fn
         }
     }
     middle(samples)
+}
+
+/// The median time in microseconds of a call that may take long: of a few, each on tables of its own.
+pub fn few<T, R>(mut make: impl FnMut() -> T, mut call: impl FnMut(&mut T) -> R) -> f64 {
+    let mut sample = || passed(&mut make(), &mut call) * 1e6;
+    sample();
+    middle((0..FEW).map(|_| sample()).collect())
 }
 
 /// The median time of a call, and the median of what it takes beyond another call, `less`, on the same tables, in microseconds.

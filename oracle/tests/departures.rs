@@ -345,6 +345,32 @@ fn host_crawl() {
     assert_eq!(departures::of(judge.tables(), &Call::Request(request)), ["host_crawl"]);
 }
 
+/// Blocks of a million and more, which the bare original tries number by number: the judge, which takes them out of its pools, has the same answers.
+#[test]
+fn blocks_of_a_million() {
+    const M: u64 = 1_000_000;
+    let request = want(1, Need::Host { irq: Choice::Auto });
+    let granted = |irq| Answer::Granted([4, 1, 0, irq, 0, 0, 0, 0, 0]);
+    for (pools, blocks, answer) in [
+        (vec![0..2 * M], vec![0..M], granted(M)),
+        (vec![0..M], vec![0..M], exhausted(4)),
+        (vec![0..M + 1], vec![0..M], granted(M)),
+        (vec![M / 2..2 * M], vec![0..M], granted(M)),
+        (vec![0..2 * M], vec![1..M], granted(0)),
+        (vec![0..4 * M], vec![2 * M..3 * M, M..2 * M, 0..M], granted(3 * M)),
+        (vec![0..4 * M], vec![M + 1..2 * M, 0..M], granted(M)),
+        (vec![0..M, M / 2..M + 1], vec![0..M], granted(M)),
+        (vec![0..M, 5 * M..6 * M], vec![0..M, 5 * M..6 * M - 1], granted(6 * M - 1)),
+        (vec![u64::MAX - M..u64::MAX], vec![u64::MAX - M..u64::MAX - 1], granted(u64::MAX - 1)),
+        (vec![u64::MAX - M..u64::MAX], vec![u64::MAX - M..u64::MAX], exhausted(4)),
+    ] {
+        let pool = |range| Add::Pool { fixed: false, range: PoolRange::Host(range) };
+        let hold = |range| Add::Hold { owner: 9, what: Hold::Host(range) };
+        let adds: Vec<Add> = pools.into_iter().map(pool).chain(blocks.into_iter().map(hold)).collect();
+        assert_eq!(both(&adds, &request), (answer.clone(), answer), "{adds:?}");
+    }
+}
+
 /// Under no departure the judge's answer is the bare original's; every departure but the slow one comes up.
 #[test]
 fn nothing_is_added_elsewhere() {

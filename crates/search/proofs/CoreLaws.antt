@@ -40,6 +40,7 @@ module _ (g : ℕ → Row) (on : ℕ) (n : Need) where
             (λ p. not-both (says-meets (rowAt n x) (g k) (record { dom = m .dom; low = p; high = omega (arith, m .high) })) (f k used))
             (λ p. u .none-before x p z e)
             (lt-or-le x (g k .end));
+        passed = λ p. (k, used, hit, u .reached p);
       }
 
   pub tried-first : (lo stop c : ℕ) → Up lo (n .alignment) stop c → Tried g on n lo c

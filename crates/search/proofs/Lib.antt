@@ -4,6 +4,7 @@ pub mod MeetLaws
 pub mod CoreLaws
 pub mod FoundLaws
 pub mod PassLaws
+pub mod TurnLaws
 pub mod PoolRowLaws
 pub mod InputLaws
 pub mod AllowedLaws

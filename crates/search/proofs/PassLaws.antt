@@ -8,20 +8,21 @@ use native.Mathlib.Omega.{arith}
 use borrow.Author.Count.{below-more}
 use Rattle.definition.specs.Tables.{Row, meets}
 use Rattle.definition.specs.Request.{Need, rowAt}
-use Rattle.search.specs.Steps.{Free, Tried, Passes, Jumps}
+use Rattle.search.specs.Steps.{Free, Tried, Passes, Passed, Jumps}
 use Rattle.search.proofs.CoreLaws.{jump, tried-none, tried-more}
 
 module _ (g : ℕ → Row) (on : ℕ) (n : Need) (c stop : ℕ) where
-  -- after i rows the base is b: no base before it is free, and where it has not moved the rows so far are not in its way
+  -- after i rows the base is b: no base before it is free; where it has not moved the rows so far are not in its way, and where it has, one that was in the way is passed
   pub record Passing (i b : ℕ) : Type 0 where
     pub from : c ≤ b
     pub below : b < stop
     pub aligned : b % n .alignment ≡ 0
     pub clear : b ≡ c → (k : ℕ) → k < i → meets (rowAt n c) (g k) ≡ false
     pub tried : Tried g on n c b
+    pub moved : c < b → Passed g on n c b
 
   pub pass-start : c < stop → c % n .alignment ≡ 0 → Passing 0 c
-  pass-start l e = record { from = omega arith; below = l; aligned = e; clear = λ p k h. absurd (omega arith); tried = tried-none g on n c }
+  pass-start l e = record { from = omega arith; below = l; aligned = e; clear = λ p k h. absurd (omega arith); tried = tried-none g on n c; moved = λ m. absurd (omega arith) }
 
   module _ (i b r : ℕ) (used : i < on) (h : Passing i b) (p : Passes (g i) n b stop r) where
     pub pass-on : r < stop → Passing (i + 1) r
@@ -33,6 +34,7 @@ module _ (g : ℕ → Row) (on : ℕ) (n : Need) (c stop : ℕ) where
           aligned = rw (z .1) (h .aligned);
           clear = λ q. below-more _ _ (h .clear (sym (z .1) ∙ q)) (rw (← (sym (z .1) ∙ q)) (z .0));
           tried = rw (z .1) (h .tried);
+          moved = rw (z .1) (h .moved);
         })
         (λ z. let j = jump g on n b stop r i (h .below) used (z .0) (z .1) in record {
           from = omega (arith, j .rises, h .from);
@@ -40,6 +42,7 @@ module _ (g : ℕ → Row) (on : ℕ) (n : Need) (c stop : ℕ) where
           aligned = j .aligned l;
           clear = λ q. absurd (omega (arith, j .rises, h .from));
           tried = tried-more g on n c b r (h .tried) (j .tried);
+          moved = λ m. ⊎-elim (λ e. rw e (j .passed l)) (λ m′. let (k, u, w, e) = h .moved m′ in (k, u, w, omega (arith, e, j .rises))) (eq-or-lt-of-le (h .from));
         })
         p
 
@@ -52,6 +55,7 @@ module _ (g : ℕ → Row) (on : ℕ) (n : Need) (c stop : ℕ) where
           within = j .within;
           aligned = λ m. absurd (omega arith);
           tried = tried-more g on n c b r (h .tried) (j .tried);
+          passed = λ m. absurd (omega arith);
         })
         p
 
@@ -60,7 +64,7 @@ module _ (g : ℕ → Row) (on : ℕ) (n : Need) (c stop : ℕ) where
     pass-stay e = h .clear e
 
     pub pass-to : (b ≡ c → ⊥) → Jumps g on n c stop b
-    pass-to f = record { rises = rise (eq-or-lt-of-le (h .from)); within = omega (arith, h .below); aligned = λ l. h .aligned; tried = h .tried }
+    pass-to f = record { rises = rise (eq-or-lt-of-le (h .from)); within = omega (arith, h .below); aligned = λ l. h .aligned; tried = h .tried; passed = λ l. h .moved (rise (eq-or-lt-of-le (h .from))) }
       where
         rise : (c ≡ b) ⊎ (c < b) → c < b
         rise (inl e) = absurd (f (sym e))

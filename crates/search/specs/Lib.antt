@@ -1,3 +1,4 @@
 pub mod Asks
 pub mod Steps
+pub mod Turns
 pub mod Finds

@@ -29,11 +29,16 @@ Tried g on n lo c = (x : ℕ) → lo ≤ x → x < c → x % n .alignment ≡ 0 
 abbrev pub Passes : Row → Need → ℕ → ℕ → ℕ → Type 0
 Passes w n b stop r = ((meets (rowAt n b) w ≡ false) × (r ≡ b)) ⊎ ((meets (rowAt n b) w ≡ true) × Up (w .end) (n .alignment) stop r)
 
+-- a row that is in the way of the run at c ends at r or before: it is behind, and stands in the way of no later run
+abbrev pub Passed : (ℕ → Row) → ℕ → Need → ℕ → ℕ → Type 0
+Passed g on n c r = (k : ℕ) × (k < on) × (meets (rowAt n c) (g k) ≡ true) × (g k .end ≤ r)
+
 pub record Jumps (g : ℕ → Row) (on : ℕ) (n : Need) (c stop r : ℕ) : Type 0 where
   pub rises : c < r
   pub within : r ≤ stop
   pub aligned : r < stop → r % n .alignment ≡ 0
   pub tried : Tried g on n c r
+  pub passed : r < stop → Passed g on n c r
 
 -- one step of the search at base c: stay where the run is free, else go to the next base to try
 abbrev pub Steps : (ℕ → Row) → ℕ → Need → ℕ → ℕ → Step → Type 0

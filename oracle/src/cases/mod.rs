@@ -1,6 +1,7 @@
 // The stored cases: short plan texts, each with a name, and for those written by hand the output expected by hand.
 
 mod bad_lines;
+mod blocks;
 mod full;
 mod holds;
 mod pinned;
@@ -23,7 +24,7 @@ pub struct Case {
 /// All cases in the order in which they are stored.
 pub fn all() -> Vec<Case> {
     let mut cases = Vec::new();
-    for table in [stand::CASES, pools::CASES, holds::CASES, wants::CASES, pinned::CASES] {
+    for table in [stand::CASES, pools::CASES, holds::CASES, wants::CASES, blocks::CASES, pinned::CASES] {
         cases.extend(table.iter().map(|(name, text, expected)| case(name, lines(text), lines(expected))));
     }
     cases.extend(bad_lines::all());

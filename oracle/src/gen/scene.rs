@@ -112,11 +112,13 @@ impl Scene {
     pub fn random(rng: &mut Rng, cells: u64) -> Self {
         let mmio_cell = rng.pick(&[1, 2, 16, 256, 4096, 4096, 1 << 20]);
         let pio_cell = rng.pick(&[1, 1, 8, 16]);
+        // now and then a block of host IRQs is a million wide: one that is tried number by number
+        let host_cell = if mmio_cell == 1 << 20 { mmio_cell } else { 1 };
         let rulers = [
             Ruler::random(rng, 64, mmio_cell, cells),
             Ruler::random(rng, 16, pio_cell, cells),
             Ruler::random(rng, 64, 1, cells),
-            Ruler::random(rng, 64, 1, cells),
+            Ruler::random(rng, 64, host_cell, cells),
             Ruler::random(rng, 32, 1, cells),
             Ruler::random(rng, 32, 1, cells),
             Ruler::random(rng, 32, 1, cells).of_lpis(),

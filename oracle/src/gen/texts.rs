@@ -11,7 +11,7 @@ use crate::text::Reader;
 pub fn good_text(rng: &mut Rng) -> Vec<u8> {
     let heavy = rng.chance(3);
     let scene = Scene::random(rng, if heavy { 200 } else { 12 });
-    let mut text = Draft { reader: Reader::new(), bytes: Vec::new(), closed: false };
+    let mut text = Draft { reader: Reader::new(), bytes: Vec::new(), keeps: 12, closed: false };
     for add in scene.wide_pools(rng) {
         text.offer(rng, line_of_add(&add));
     }
@@ -22,6 +22,10 @@ pub fn good_text(rng: &mut Rng) -> Vec<u8> {
         let kind = scene.kind(rng);
         let add = if rng.chance(65) { scene.pool(rng, kind) } else { scene.hold(rng, kind) };
         text.offer(rng, line_of_add(&add));
+    }
+    if heavy {
+        // else a refusal on the way would end nearly every long plan before it is too long
+        text.keeps = 1;
     }
     for _ in 0..text.wants(rng, heavy) {
         let kind = scene.kind(rng);
@@ -35,6 +39,8 @@ pub fn good_text(rng: &mut Rng) -> Vec<u8> {
 struct Draft {
     reader: Reader,
     bytes: Vec<u8>,
+    /// How many refused lines in a hundred are kept.
+    keeps: u64,
     /// A refused line was kept: nothing behind it will be looked at.
     closed: bool,
 }
@@ -44,7 +50,7 @@ impl Draft {
     fn offer(&mut self, rng: &mut Rng, line: Option<String>) {
         let Some(line) = line else { return };
         if !self.closed && self.reader.step(line.as_bytes()).is_refused() {
-            if !rng.chance(12) {
+            if !rng.chance(self.keeps) {
                 return;
             }
             self.closed = true;

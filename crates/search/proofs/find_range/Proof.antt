@@ -9,7 +9,9 @@ use Rattle.definition.specs.Tables.{meets}
 use Rattle.tables.specs.Views.{pool, ranges, rangeOf, rangeAt}
 use Rattle.search.specs.Asks.{needOf}
 use Rattle.search.specs.Steps.{Tried}
+use Rattle.search.specs.Turns.{turns}
 use Rattle.search.proofs.CoreLaws.{Barren, tried-first, tried-more, barren-tried, lowest-here, lowest-none}
+use Rattle.search.proofs.TurnLaws.{turns-fall}
 use Rattle.search.proofs.PoolRowLaws.{bases-hold, bases-fit}
 use Rattle.search.proofs.FoundLaws.{spanAt, rangeIn, order-used, found-ranges}
 use Rattle.search.proofs.find_range.Statement.{statement}
@@ -19,7 +21,7 @@ abbrev Inv-bases : tie.InvT-bases
 Inv-bases pc pi ps pe pn oc oi od os oe on need i lo stop c₀ c = (c < stop → lo ≤ c) × (c < stop → c % need .alignment ≡ 0) × Tried (λ k. rangeOf (rangeAt (ranges on oc oi od os oe []) k)) on (needOf need) lo c
 
 abbrev μ-bases : tie.MeasureT-bases
-μ-bases pc pi ps pe pn oc oi od os oe on need i lo stop c₀ c = stop - c
+μ-bases pc pi ps pe pn oc oi od os oe on need i lo stop c₀ c = turns (λ k. rangeOf (rangeAt (ranges on oc oi od os oe []) k)) on (needOf need) stop c
 
 abbrev Inv-pools : tie.InvT-pools
 Inv-pools pc pi ps pe pn oc oi od os oe on need i₀ i = (i ≤ pn) × ((k : ℕ) → k < i → Barren (spanAt (pool pn pc pi ps pe)) (λ k. rangeOf (rangeAt (ranges on oc oi od os oe []) k)) on (needOf need) k)
@@ -44,7 +46,7 @@ next-step-requires c κs =
 bases-less : tie.Need-bases-less Inv-bases μ-bases Inv-pools μ-pools
 bases-less c =
     let h = rw (c .before .step .given .1) at (c .before .before .before .next-step .ensures) in
-    omega arith
+    turns-fall _ _ _ _ _ _ (c .before .before .before .before .bases-test .taken) h
 
 bases-again : tie.Need-bases-again Inv-bases μ-bases Inv-pools μ-pools
 bases-again c =

@@ -10,8 +10,10 @@ use Rattle.definition.specs.Tables.{meets}
 use Rattle.tables.specs.Views.{pool, inputs, inputOf, inputAt}
 use Rattle.search.specs.Asks.{needOf, oneInput, bareInput}
 use Rattle.search.specs.Steps.{Tried}
+use Rattle.search.specs.Turns.{turns}
 use Rattle.search.proofs.CoreLaws.{Barren, tried-none, tried-more, barren-tried, lowest-here, lowest-none}
 use Rattle.search.proofs.InputLaws.{input-lowest}
+use Rattle.search.proofs.TurnLaws.{turns-fall}
 use Rattle.search.proofs.PoolRowLaws.{bases-hold, bases-fit}
 use Rattle.search.proofs.FoundLaws.{spanAt, inputIn, order-used, found-inputs}
 use native.Mathlib.Nat.{mod-one}
@@ -22,7 +24,7 @@ abbrev Inv-inputs : tie.InvT-inputs
 Inv-inputs pc pi ps pe pn oc ox on controller need i stop c₀ c = (getD ps i 0 ≤ c) × Tried (λ k. inputOf (inputAt (inputs on oc ox [] [] []) k)) on (needOf (oneInput controller)) (getD ps i 0) c
 
 abbrev μ-inputs : tie.MeasureT-inputs
-μ-inputs pc pi ps pe pn oc ox on controller need i stop c₀ c = stop - c
+μ-inputs pc pi ps pe pn oc ox on controller need i stop c₀ c = turns (λ k. inputOf (inputAt (inputs on oc ox [] [] []) k)) on (needOf (oneInput controller)) stop c
 
 abbrev Inv-pools : tie.InvT-pools
 Inv-pools pc pi ps pe pn oc ox on controller need i₀ i = (i ≤ pn) × ((k : ℕ) → k < i → Barren (spanAt (pool pn pc pi ps pe)) (λ k. inputOf (inputAt (inputs on oc ox [] [] []) k)) on (needOf (oneInput controller)) k)
@@ -53,7 +55,7 @@ next-input-requires c κs =
 inputs-less : tie.Need-inputs-less Inv-inputs μ-inputs Inv-pools μ-pools
 inputs-less c =
     let h = rw (c .before .step .given .1) at (c .before .before .before .next-input .ensures) in
-    omega arith
+    turns-fall _ _ _ _ _ _ (c .before .before .before .before .inputs-test .taken) h
 
 inputs-again : tie.Need-inputs-again Inv-inputs μ-inputs Inv-pools μ-pools
 inputs-again c =
