@@ -1,4 +1,4 @@
-// Times the calls that ship against the original's on two inputs, measures their stack, and prints docs/SPEED.md's tables.
+// Times the calls that ship against the original's, on two inputs and behind wide blocks, measures their stack, and prints docs/SPEED.md's tables.
 
 mod agree;
 mod crawl;

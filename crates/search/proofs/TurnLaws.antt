@@ -1,17 +1,17 @@
 -- A search tries at most one base more on a pool row than there are owner rows of the domain: each step leaves a row behind that no later base meets. Assumes nothing.
-use mathlib.Core.Path.{_≡_, refl}
-use mathlib.Core.Logic.{_⊎_, inl, inr, ⊎-elim}
-use mathlib.Core.Bool.{Bool, true, false, _&&_}
+use mathlib.Core.Path.{_≡_}
+use mathlib.Core.Logic.{_⊎_, inl, inr}
+use mathlib.Core.Bool.{Bool, true, false}
 use Prim.Native.Nat.{ℕ, zero, suc, _+_, _<_, _≤_}
 use native.Mathlib.Nat.{eq-or-lt-of-le}
 use native.Mathlib.Omega.{arith}
 use borrow.Author.Tests.{lt-ltb, le-ltb}
 use lib.Dec.{T, ltb, ltb→lt, lt→ltb}
-use Rattle.definition.specs.BaseLaws.{and-l, and-r, and-i, T-true, T-false, either}
-use Rattle.definition.specs.Tables.{sameDom, Row}
+use Rattle.definition.specs.BaseLaws.{and-l, and-r, and-i}
+use Rattle.definition.specs.Tables.{Row}
 use Rattle.definition.specs.Request.{Need, rowAt}
-use Rattle.search.specs.Steps.{Free, Passed, Jumps}
-use Rattle.search.specs.Turns.{once, countBelow, ofDomain, ahead, turns, Walk, past, stays, goes}
+use Rattle.search.specs.Steps.{Passed, Jumps}
+use Rattle.search.specs.Turns.{once, countBelow, own, ahead, turns, Walk, past, stays, goes}
 use Rattle.search.proofs.CaseLaws.{lt-or-le}
 use Rattle.search.proofs.MeetLaws.{meets-says}
 
@@ -48,49 +48,39 @@ module _ (p q : ℕ → Bool) (f : (k : ℕ) → T (p k) → T (q k)) where
 -- ---- turns
 
 module _ (g : ℕ → Row) (on : ℕ) (n : Need) (stop : ℕ) where
-  abbrev above : ℕ → ℕ → Bool
-  above c k = sameDom (n .dom) (g k .dom) && ltb c (g k .end)
-
-  turns-on : (c : ℕ) → c < stop → turns g on n stop c ≡ ahead g on n c + 1
-  unfolding turns
-  turns-on c l = rw (lt-ltb c stop l, turns)
-
-  turns-over : (c : ℕ) → stop ≤ c → turns g on n stop c ≡ 0
-  unfolding turns
-  turns-over c l = rw (le-ltb c stop l, turns)
-
-  -- wherever the loop begins, it takes one turn more than there are rows of the domain at the most
-  pub turns-most : (c : ℕ) → turns g on n stop c ≤ ofDomain g on n + 1
-  turns-most c = ⊎-elim (λ l. rw (turns-on c l) (omega (arith, fewer))) (λ l. rw (turns-over c l) (omega arith)) (lt-or-le c stop)
-    where
-      fewer : ahead g on n c ≤ ofDomain g on n
-      fewer = count-no-more (above c) (λ k. sameDom (n .dom) (g k .dom)) (λ k t. and-l (sameDom (n .dom) (g k .dom)) (ltb c (g k .end)) t) on
+  -- wherever the loop begins, it takes at most one turn more than there are rows of the domain
+  pub turns-most : (c : ℕ) → turns g on n stop c ≤ countBelow (own g n) on + 1
+  turns-most c = omega (arith, count-no-more (ahead g n c) (own g n) (λ k. and-l (own g n k) (ltb c (g k .end))) on, once-no-more (ltb c stop) true (λ t. tt))
 
   -- each turn that goes on leaves fewer: the row that was in the way at c is behind r
   pub turns-fall : (c r : ℕ) → c < stop → Jumps g on n c stop r → turns g on n stop r < turns g on n stop c
   unfolding rowAt
-  turns-fall c r l j = ⊎-elim (λ m. rw (turns-on r m, turns-on c l) (omega (arith, behind (j .passed m)))) (λ m. rw (turns-over r m, turns-on c l) (omega arith)) (lt-or-le r stop)
+  turns-fall c r l j = rw (lt-ltb c stop l) (go (lt-or-le r stop))
     where
-      lower : (k : ℕ) → T (above r k) → T (above c k)
+      lower : (k : ℕ) → T (ahead g n r k) → T (ahead g n c k)
       lower k t =
-          let d : T (sameDom (n .dom) (g k .dom)) = search (and-l) in
+          let d : T (own g n k) = search (and-l) in
           let e : T (ltb r (g k .end)) = search (and-r) in
           let m : c < g k .end = omega (arith, j .rises, ltb→lt r (g k .end) e) in
           search (and-i, lt→ltb)
 
-      behind : Passed g on n c r → ahead g on n r < ahead g on n c
+      behind : Passed g on n c r → countBelow (ahead g n r) on < countBelow (ahead g n c) on
       behind (k, used, hit, e) =
           let w = meets-says (rowAt n c) (g k) hit in
-          let d : T (sameDom (n .dom) (g k .dom)) = w .dom in
+          let d : T (own g n k) = w .dom in
           let m : c < g k .end = w .low in
-          let t : T (above c k) = search (and-i, lt→ltb) in
-          count-less (above r) (above c) lower on k used t (λ x. omega (arith, e, ltb→lt r (g k .end) (and-r (sameDom (n .dom) (g k .dom)) (ltb r (g k .end)) x)))
+          let t : T (ahead g n c k) = search (and-i, lt→ltb) in
+          count-less (ahead g n r) (ahead g n c) lower on k used t (λ x. omega (arith, e, ltb→lt r (g k .end) (and-r (own g n k) (ltb r (g k .end)) x)))
+
+      go : (r < stop) ⊎ (stop ≤ r) → turns g on n stop r < countBelow (ahead g n c) on + 1
+      go (inl m) = rw (lt-ltb r stop m) (omega (arith, behind (j .passed m)))
+      go (inr m) = rw (le-ltb r stop m) (omega (arith, count-no-more (ahead g n r) (ahead g n c) lower on))
 
   -- ---- THE BOUND: on one pool row at most one base more is tried than there are owner rows of the domain
   walk-turns : (c m : ℕ) → Walk g on n stop c m → m ≤ turns g on n stop c
   walk-turns c m (past l) = omega arith
-  walk-turns c m (stays l f) = rw (turns-on c l) (omega arith)
+  walk-turns c m (stays l f) = rw (lt-ltb c stop l) (omega arith)
   walk-turns c m (goes {r = r} {m = k} l j w) = omega (arith, walk-turns r k w, turns-fall c r l j)
 
-  pub walk-short : (c m : ℕ) → Walk g on n stop c m → m ≤ ofDomain g on n + 1
+  pub walk-short : (c m : ℕ) → Walk g on n stop c m → m ≤ countBelow (own g n) on + 1
   walk-short c m w = omega (arith, walk-turns c m w, turns-most c)

@@ -15,17 +15,17 @@ unfoldable pub countBelow : (ℕ → Bool) → ℕ → ℕ
 countBelow q zero = 0
 countBelow q (suc n) = once (q n) + countBelow q n
 
--- the first `on` owner rows that are of the need's domain
-abbrev pub ofDomain : (ℕ → Row) → ℕ → Need → ℕ
-ofDomain g on n = countBelow (λ k. sameDom (n .dom) (g k .dom)) on
+-- owner row k is of the need's domain
+abbrev pub own : (ℕ → Row) → Need → ℕ → Bool
+own g n k = sameDom (n .dom) (g k .dom)
 
--- .. and end above base c: a base that only rises can be stopped by no other
-abbrev pub ahead : (ℕ → Row) → ℕ → Need → ℕ → ℕ
-ahead g on n c = countBelow (λ k. sameDom (n .dom) (g k .dom) && ltb c (g k .end)) on
+-- .. and ends above base c: a base that only rises can be stopped by no other
+abbrev pub ahead : (ℕ → Row) → Need → ℕ → ℕ → Bool
+ahead g n c k = own g n k && ltb c (g k .end)
 
--- the most turns that are left of the loop at base c: one for each of these rows and one more, none past the row's last base. This measures the loop
-unfoldable pub turns : (ℕ → Row) → ℕ → Need → ℕ → ℕ → ℕ
-turns g on n stop c = elim (ltb c stop) [ true ↦ ahead g on n c + 1 | false ↦ 0 ]
+-- the most turns that are left of the loop at base c: one for each row ahead, and one for c itself while it is below stop. This measures the loop
+abbrev pub turns : (ℕ → Row) → ℕ → Need → ℕ → ℕ → ℕ
+turns g on n stop c = countBelow (ahead g n c) on + once (ltb c stop)
 
 -- the loop over the bases of one pool row, from base c, and how many it tries: each step keeps its promise
 pub data Walk (g : ℕ → Row) (on : ℕ) (n : Need) (stop : ℕ) : ℕ → ℕ → Type 0 where

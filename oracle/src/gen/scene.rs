@@ -97,6 +97,9 @@ impl Ruler {
     }
 }
 
+/// The widest cell: a range of one is more than a million numbers.
+const WIDE: u64 = 1 << 20;
+
 /// Rulers for the seven kinds, and the domains in play.
 #[derive(Clone, Debug)]
 pub struct Scene {
@@ -110,10 +113,10 @@ pub struct Scene {
 
 impl Scene {
     pub fn random(rng: &mut Rng, cells: u64) -> Self {
-        let mmio_cell = rng.pick(&[1, 2, 16, 256, 4096, 4096, 1 << 20]);
+        let mmio_cell = rng.pick(&[1, 2, 16, 256, 4096, 4096, WIDE]);
         let pio_cell = rng.pick(&[1, 1, 8, 16]);
         // now and then a block of host IRQs is a million wide: one that is tried number by number
-        let host_cell = if mmio_cell == 1 << 20 { mmio_cell } else { 1 };
+        let host_cell = if mmio_cell == WIDE { WIDE } else { 1 };
         let rulers = [
             Ruler::random(rng, 64, mmio_cell, cells),
             Ruler::random(rng, 16, pio_cell, cells),
