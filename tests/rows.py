@@ -406,13 +406,15 @@ def pool_order(r):
 def pool_full(r):
     """A full table: a duplicate is accepted, another row is 9."""
     for use in (0, 1):
-        for k in (1, 2, 4):
+        for k in (1, 2, 3, 4):
+            into = (1, use, k, *((5,) if k == 3 else ()))
             r.do(0)
             for i in range(POOL):
-                r.do(1, use, k, 2 * i, 2 * i + 1)
-            r.do(1, use, k, 0, 1)
-            r.do(1, use, k, 99, 100)
-            r.do(1, use, k, 99, 99)
+                r.do(*into, 2 * i, 2 * i + 1)
+            r.do(*into, 0, 1)
+            r.do(*into, 2 * POOL, 2 * POOL + 1)
+            r.do(*into, 99, 99)
+            r.do(6)
         r.do(5)
 
 
@@ -483,20 +485,22 @@ def holds(r):
 
 def hold_full(r):
     """A full table: 9 comes last; the pair call needs a row in both tables."""
-    for k in (1, 2, 4):
+    for k in (1, 2, 4, 5, 6, 7):
+        lead, first = {5: (1, 2), 6: (1, 2, 8), 7: (1,)}.get(k, ()), FLOOR[k]
         r.do(0)
         for i in range(ROWS):
-            r.do(2, 1 + i, k, 2 * i, 2 * i + 1)
-        r.do(2, 7, k, 999, 1000)
-        r.do(2, 7, k, 0, 1000)
+            r.do(2, 1 + i, k, *lead, first + 2 * i, first + 2 * i + 1)
+        r.do(2, 7, k, *lead, first + 2 * ROWS, first + 2 * ROWS + 1)
+        r.do(2, 7, k, *lead, first, first + 2 * ROWS)
+        r.do(6)
         if k == 4:
             r.checked(2, 7, 8, 1, 1, 0, 5000)
     r.do(0)
     for i in range(ROWS):
         r.do(2, 1 + i, 3, i % 3, i, i % 4, i % 2)
-    r.do(2, 7, 3, 1, 200, 0, 0)
+    r.do(2, 7, 3, 1, ROWS, 0, 0)
     r.do(2, 7, 3, 1, 1, 0, 0)
-    r.do(2, 7, 8, 1, 300, 0, 40)
+    r.do(2, 7, 8, 1, ROWS, 0, 40)
     r.checked(3)
     r.do(0)
     r.do(7, 2, 7, ROWS)

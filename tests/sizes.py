@@ -55,11 +55,25 @@ def state(pool, rows):
 
 def words():
     """What documents say of sizes, with the numbers as they are."""
-    size = state(SIZES["rows of a pool table"], SIZES["rows of an owner table"])
-    output = SIZES["requests of a plan"] * (8 + 8 * 21) + 4 + 21
+    pool, rows, plan, text = (SIZES[size] for size in ("rows of a pool table", "rows of an owner table", "requests of a plan", "bytes of a text"))
+    size = state(pool, rows)
+    output = plan * (8 + 8 * 21) + 4 + 21
+    yield "README.md", f"of each kind {pool} pool ranges for each of the two uses, {rows} reservations and {rows} owners; a plan has {plan} requests, its text {text:,} bytes"
     yield "bindings/rust/README.md", f"A state is {size:,} bytes"
     yield "docs/DECISIONS.md", f"The size is {size:,} bytes"
     yield "docs/DECISIONS.md", f"An output buffer shorter than {output:,} bytes is 11"
+    yield "docs/DECISIONS.md", f"arrays of {rows} zeros"
+    yield "docs/DIFFERENCES.md", f"has {pool} (C-14) | {pool} times `pool auto mmio i i+1`, then `pool auto mmio {pool} {pool + 1}`; of a domain: {pool} times"
+    yield "docs/DIFFERENCES.md", f"a table it needs has {rows} rows (C-14; for a plan: could come to need more) | {rows} times `hold 1 mmio i i+1`, then `hold 1 mmio {rows} {rows + 1}`"
+    yield "docs/DIFFERENCES.md", f"a plan of more than {plan} requests"
+    yield "docs/SPEED.md", f"copying a state ({size} bytes) once"
+    yield "oracle/cases/README.md", f"The longest text has {text + 1:,} bytes"
+    yield "docs/TRACE.md", f"Each pool table (automatic and fixed; seven kinds) has {pool} rows"
+    yield "docs/TRACE.md", f"Each of the seven reservation and seven owner tables has {rows} "
+    yield "docs/TRACE.md", f"11 Short: plan over {plan} requests"
+    yield "docs/TRACE.md", f"Standard input: at most {text:,} bytes"
+    yield "docs/TRACE.md", f"a {plan + 1}th `want`"
+    yield "docs/TRACE.md", f"(C-14: {rows}): arrays of {rows} zeros."
 
 
 def main():

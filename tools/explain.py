@@ -6,9 +6,9 @@ import os
 import sys
 
 # sizes, as the proved code has them: wants of a plan; bytes of a line and of a text; the least LPI
-WANTS = 128
+WANTS = 256
 LONGEST = 200
-TEXT = 32768
+TEXT = 65536
 FIRST_LPI = 8192
 REFUSALS = {
     1: ("Malformed", "the tables handed in are not sound"),

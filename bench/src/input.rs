@@ -1,7 +1,7 @@
-// What is timed: two sets of tables, light and heavy, and one list of mixed requests for both.
+// What is timed: sets of tables, light, heavy and full, and one list of mixed requests for all of them.
 
 use crate::face::Flat;
-use oracle::added::{FIRST_LPI, PLAN_REQUESTS};
+use oracle::added::{FIRST_LPI, HELD_ROWS, PLAN_REQUESTS};
 use oracle::calls::{Add, Choice, Hold, Need, PoolRange, Request};
 
 /// The requests of a run, and of a short one.
@@ -23,17 +23,28 @@ const FIXED_ID: u32 = 4096;
 
 /// Few rows: in each table one pool range and two reservations.
 pub fn light() -> Input {
-    Input { name: "light", adds: adds(1, 2, 1) }
+    Input { name: "light", adds: adds(1, 0..2, 1) }
 }
 
-/// Many conflicts: sixteen pool ranges a table, twelve of them filled to the last number by 96 contiguous reservations.
+/// Many conflicts: half the pool rows, three quarters of the ranges filled to the last number by contiguous reservations in three quarters of the rows.
 pub fn heavy() -> Input {
-    Input { name: "heavy", adds: adds(16, 96, 8) }
+    heavy_of(HELD_ROWS as u64)
 }
 
-/// `pools` ranges one behind the other, all but the last with room for `each` reservations; `held` reservations from
-/// the first number on, without a gap.
-fn adds(pools: u64, held: u64, each: u64) -> Vec<Add> {
+/// The same as tables of so many rows have it.
+pub fn heavy_of(rows: u64) -> Input {
+    Input { name: "heavy", adds: adds(rows / 8, 0..rows * 3 / 4, 8) }
+}
+
+/// So many reservations in each table, contiguous, in rising or in falling order; one pool range, or one for every four, all but the last without a free number.
+pub fn crowded(rows: u64, falls: bool, many: bool) -> Input {
+    let order: Vec<u64> = if falls { (0..rows).rev().collect() } else { (0..rows).collect() };
+    Input { name: "crowded", adds: adds(if many { rows.div_ceil(4) } else { 1 }, order, 4) }
+}
+
+/// `pools` ranges one behind the other, all but the last with room for `each` reservations; reservations of the numbers
+/// `held`, in that order.
+fn adds(pools: u64, held: impl IntoIterator<Item = u64>, each: u64) -> Vec<Add> {
     let mut adds = Vec::new();
     for i in 0..pools {
         let last = i + 1 == pools;
@@ -53,7 +64,7 @@ fn adds(pools: u64, held: u64, each: u64) -> Vec<Add> {
     let inputs = FIXED_IRQ..2 * FIXED_IRQ;
     adds.push(Add::Pool { fixed: true, range: PoolRange::Input { controller: CONTROLLER, inputs } });
     adds.push(domain(true, FIXED_ID, 2 * FIXED_ID));
-    for i in 0..held {
+    for i in held {
         let id = i as u32;
         for what in [
             Hold::Mmio(i * 0x1000..(i + 1) * 0x1000),

@@ -4,6 +4,7 @@ mod agree;
 mod crawl;
 mod face;
 mod forms;
+mod growth;
 mod input;
 mod list;
 mod stack;
@@ -17,7 +18,7 @@ use input::{flat, request, run, Input, RUN, SHORT};
 use stack::taken_by;
 use tables::State;
 use theirs::{spelt, Spelt, Theirs};
-use time::{median, paired};
+use time::{by_turns, median, paired};
 
 const KINDS: [&str; 5] = ["MMIO", "PIO", "input", "host IRQ", "MSI"];
 /// Single calls in a sample: one is too short for the clock.
@@ -41,6 +42,7 @@ fn main() {
     plans(&inputs);
     inputs.iter().for_each(requests);
     crawl::crawls();
+    growth::growth();
     inputs.iter().for_each(by_value);
     stacks(&inputs[1]);
 }
@@ -98,9 +100,12 @@ fn plans(inputs: &[Input]) {
             let list: Vec<_> = asked.iter().map(list::Request::of).collect();
             let (state, pools) = (started(input), Theirs::with(&input.adds));
             let all = |theirs: &mut Theirs| words.iter().filter(|one| theirs.allocate(one)).count();
-            let (base, _) = paired(RUN / length, || pools.started(), |_| (), all);
-            let (took, apart) = paired(RUN / length, || Lent::of(&state), tested, |lent| lent.plan(&numbers));
-            let (over, _) = paired(RUN / length, || Lent::of(&state), tested, |lent| lent.list_in(&list));
+            let [base, took, apart, over] = by_turns(|| {
+                let (base, _) = paired(RUN / length, || pools.started(), |_| (), all);
+                let (took, apart) = paired(RUN / length, || Lent::of(&state), tested, |lent| lent.plan(&numbers));
+                let (over, _) = paired(RUN / length, || Lent::of(&state), tested, |lent| lent.list_in(&list));
+                [base, took, apart, over]
+            });
             println!(
                 "| {}, {length} | {base:.2} us | {took:.2} us | {:.2} | {apart:.2} us | {:.2} | {over:.2} us | {:.2} |",
                 input.name,
@@ -126,8 +131,11 @@ fn requests(input: &Input) {
     for (kind, fixed) in singles() {
         let asked = request(kind, fixed, 0);
         let (numbers, words) = (flat(&asked), spelt(&asked));
-        let (_, base) = paired(PAIRED, || pools.started(), |_| (), |theirs| theirs.allocate(&words));
-        let (took, apart) = paired(PAIRED, || Lent::of(&state), tested, |lent| lent.allocate(&numbers));
+        let [base, took, apart] = by_turns(|| {
+            let (_, base) = paired(PAIRED, || pools.started(), |_| (), |theirs| theirs.allocate(&words));
+            let (took, apart) = paired(PAIRED, || Lent::of(&state), tested, |lent| lent.allocate(&numbers));
+            [base, took, apart]
+        });
         println!(
             "| {} | {base:.3} us | {took:.2} us | {:.1} | {apart:.3} us | {:.2} |",
             named(kind, fixed),

@@ -9,6 +9,8 @@ pub const SAMPLES: usize = 1000;
 const PAIRS: usize = 250;
 /// The same of calls that may take long.
 const FEW: usize = 15;
+/// How often what is held against each other is measured.
+const TURNS: usize = 5;
 /// Samples before them that do not count.
 const WARM: usize = 50;
 
@@ -60,6 +62,12 @@ pub fn paired<T, L, R>(
         }
     }
     (middle(whole), middle(beyond))
+}
+
+/// Measurements that are held against each other, made by turns, and the middle of each: a processor that changes its pace does not decide.
+pub fn by_turns<const N: usize>(mut measure: impl FnMut() -> [f64; N]) -> [f64; N] {
+    let turns: Vec<[f64; N]> = (0..TURNS).map(|_| measure()).collect();
+    std::array::from_fn(|i| middle(turns.iter().map(|turn| turn[i]).collect()))
 }
 
 /// The seconds that one call takes.

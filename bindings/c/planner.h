@@ -78,8 +78,8 @@
  * left alone is proved for callers who lend a whole one; that shorter memory is not even read is what the compiler makes of it, and
  * tested. Null is tested by the helpers below alone.
  *
- * Stack, as measured (docs/SPEED.md): planner_call 4 KB, planner_allocate and planner_plan 12 KB, planner_read and planner_pin less than
- * 1 KB; planner_text 80 KB, a state among it: give a thread that makes it 144 KB; planner_pin_text as planner_text. */
+ * Stack, as measured (docs/SPEED.md): planner_call 5 KB, planner_allocate and planner_plan 24 KB, planner_read and planner_pin less than
+ * 1 KB; planner_text and planner_pin_text keep a state and the results of a plan there: give a thread that makes them PLANNER_TEXT_STACK bytes. */
 #ifndef PLANNER_H
 #define PLANNER_H
 
@@ -90,14 +90,14 @@
 extern "C" {
 #endif
 
-#define PLANNER_POOL_ROWS 32u   /* rows of a pool table */
-#define PLANNER_ROWS 128u       /* rows of a reservation table, and of an owner table */
-#define PLANNER_MOST 128u       /* requests of a plan */
+#define PLANNER_POOL_ROWS 64u   /* rows of a pool table */
+#define PLANNER_ROWS 256u       /* rows of a reservation table, and of an owner table */
+#define PLANNER_MOST 256u       /* requests of a plan */
 #define PLANNER_REQUEST 12u     /* numbers of a request */
 #define PLANNER_RECORD 9u       /* numbers of a record */
 #define PLANNER_ANSWER 5u       /* numbers of an answer */
 #define PLANNER_ROW 9u          /* numbers of a row: the table's count, controller, ITS, device, start, end, trigger, sharing, owner */
-#define PLANNER_TEXT 32768u     /* bytes of a text, read or pinned */
+#define PLANNER_TEXT 65536u     /* bytes of a text, read or pinned */
 #define PLANNER_FIRST_LPI 8192u /* the least LPI: the Arm GICv3 architecture has none below it */
 
 /* The words of a state: twice seven pool tables, twice seven tables of rows that are held (one of inputs among them), the last answer. Each table is
@@ -113,6 +113,9 @@ extern "C" {
 /* The bytes of the longest output of a text: for each request the longest `got` line, eight numbers of a tab and twenty digits each beside its
  * words, and the longest `end` line. */
 #define PLANNER_TEXT_OUTPUT (PLANNER_MOST * (8 + 8 * 21) + 4 + 21)
+
+/* Stack enough for planner_text and planner_pin_text: a state, and 64 KB for all else, of which they take less than half. */
+#define PLANNER_TEXT_STACK (PLANNER_STATE_SIZE + (64u << 10))
 
 /* ---- what the library exports; the helpers below are what you mostly want */
 

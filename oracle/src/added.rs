@@ -7,11 +7,11 @@ use crate::resources::bare::Bare;
 use crate::{InterruptSharing, InterruptTrigger};
 
 /// Rows of a pool table.
-pub const POOL_ROWS: usize = 32;
+pub const POOL_ROWS: usize = 64;
 /// Rows of a reservation or owner table.
-pub const HELD_ROWS: usize = 128;
+pub const HELD_ROWS: usize = 256;
 /// Requests of a plan.
-pub const PLAN_REQUESTS: usize = 128;
+pub const PLAN_REQUESTS: usize = 256;
 /// Numbers of a record.
 pub const RECORD: usize = 9;
 /// The least LPI: a range of them starts here or above.

@@ -117,7 +117,11 @@ extern "C" {
 
 /// Bytes that hold any output of the text call.
 #[cfg(feature = "ours-text")]
-pub const OUTPUT: usize = 22_553;
+pub const OUTPUT: usize = crate::added::PLAN_REQUESTS * (8 + 8 * FIELD) + 4 + FIELD;
+
+/// A number behind its tab, of twenty digits at the most.
+#[cfg(feature = "ours-text")]
+const FIELD: usize = 21;
 
 /// The bytes behind a lent buffer that are looked at.
 #[cfg(feature = "ours-text")]

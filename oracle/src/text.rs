@@ -5,7 +5,7 @@ use crate::calls::{no, Add, Answer, Call, Choice, Hold, Need, PoolRange, Record,
 use crate::judge::Judge;
 
 /// Bytes of a text at most.
-pub const TEXT: usize = 32_768;
+pub const TEXT: usize = 65_536;
 /// Bytes of a line at most, before its newline.
 pub const LINE: usize = 200;
 

@@ -1,10 +1,11 @@
 // The comparison itself: nothing differs from itself, every broken answer is noticed, numbers mean what they should.
 
+use oracle::added::{HELD_ROWS, PLAN_REQUESTS, POOL_ROWS};
 use oracle::broken;
 use oracle::calls::{Call, Choice, Need, Request};
 use oracle::compare::face::{Behind, Face, Plain};
 use oracle::compare::flat::{meaning, request_of, step_of, Meaning, Step};
-use oracle::compare::{families, run};
+use oracle::compare::{families, run, Input};
 use oracle::gen;
 
 #[test]
@@ -37,6 +38,36 @@ fn every_broken_answer_is_noticed() {
     assert!(all.len() >= 12);
     for broken in all {
         assert!(broken.noticed(&families).is_some(), "{}", broken.name);
+    }
+}
+
+/// Each table is filled to its last row and refuses one more; the longest plan is granted, one request more is 11.
+#[test]
+fn tables_and_plans_come_to_their_size() {
+    let (mut full, mut ends) = ([[0; 7]; 4], Vec::new());
+    for family in families(1, 1).iter().filter(|f| f.name.starts_with("each table") || f.name.starts_with("plans of")) {
+        for index in 0..family.count {
+            let Input::Calls(steps) = (family.input)(index) else { panic!("calls") };
+            let mut face = Behind::new(Plain);
+            for step in steps {
+                let answer = face.step(&step).answer;
+                let tables = face.tables();
+                for (part, seven) in [&tables.auto, &tables.fixed, &tables.held, &tables.owners].into_iter().enumerate()
+                {
+                    let most = if part < 2 { POOL_ROWS } else { HELD_ROWS };
+                    (0..7).filter(|kind| seven[*kind].len() == most).for_each(|kind| {
+                        full[part][kind] += usize::from(answer[0] == 9);
+                    });
+                }
+                if let Step::Plan { requests, .. } = step {
+                    ends.push((requests.len() / 12, answer[0]));
+                }
+            }
+        }
+    }
+    assert!(full.iter().flatten().all(|refused| *refused > 0), "{full:?}");
+    for (length, answer) in [(PLAN_REQUESTS - 1, 0), (PLAN_REQUESTS, 0), (PLAN_REQUESTS, 11), (PLAN_REQUESTS + 1, 11)] {
+        assert!(ends.contains(&(length, answer)), "{length} {answer}: {ends:?}");
     }
 }
 

@@ -1,8 +1,9 @@
 /* The edge of planner.h over the planner itself: null pointers, states that are no states, plans that are too long or refused, numbers that are not looked at; LPIs that are
- * too low, and MSI pools that are refused. */
+ * too low, and MSI pools that are refused; the longest text on the stack that it is given. */
 #define _DEFAULT_SOURCE
 #include "planner.h"
 #include "expect.h"
+#include <pthread.h>
 #include <string.h>
 #include <sys/mman.h>
 #include <unistd.h>
@@ -67,9 +68,18 @@ static void last(void) {
     EXPECT(planner_text(none, 0, out, PLANNER_TEXT_OUTPUT) == 6 && planner_text(none, 0, out, PLANNER_TEXT_OUTPUT - 1) == 0);
 }
 
-/* Sixteen bytes before a page that nobody may touch: every call is told a size that is not a state's, answers 1 and leaves them. */
+/* The bytes of a state whose tables have so many rows. */
+static uint64_t bytes(uint64_t pool, uint64_t rows) {
+    uint64_t ranges = 1 + PLANNER_HALF(3 * rows) + 2 * rows + PLANNER_HALF(rows), inputs = 1 + PLANNER_HALF(rows) + rows + PLANNER_HALF(3 * rows);
+    return 8 * (14 * (1 + 3 * pool) + 2 * (6 * ranges + inputs) + PLANNER_ANSWER);
+}
+
+/* Sixteen bytes before a page that nobody may touch: every call is told a size that is not a state's, that of a state with half as many rows among
+ * them, answers 1 and leaves them. */
 static void short_state(void) {
-    const uint64_t sizes[] = {0, 8, 16, PLANNER_STATE_SIZE - 8, PLANNER_STATE_SIZE + 8, UINT64_MAX}, x[13] = {3};
+    const uint64_t half = bytes(PLANNER_POOL_ROWS / 2, PLANNER_ROWS / 2);
+    const uint64_t sizes[] = {0, 8, 16, half, PLANNER_STATE_SIZE - 8, PLANNER_STATE_SIZE + 8, UINT64_MAX}, x[13] = {3};
+    EXPECT(bytes(PLANNER_POOL_ROWS, PLANNER_ROWS) == PLANNER_STATE_SIZE && !planner_fits(state, half));
     size_t page = (size_t)sysconf(_SC_PAGESIZE);
     char *pages = mmap(NULL, 2 * page, PROT_READ | PROT_WRITE, MAP_PRIVATE | MAP_ANONYMOUS, -1, 0);
     EXPECT(pages != MAP_FAILED && mprotect(pages + page, page, PROT_NONE) == 0);
@@ -194,6 +204,29 @@ static void texts(void) {
     EXPECT(planner_respond(NULL, 0, out, sizeof out) == 0 && planner_respond("", 0, NULL, sizeof out) == 0);
 }
 
+/* A text of the most wants, answered and pinned; one want more is 11 at its own line, a text a byte too long 10 at line 0. */
+static void *longest(void *none) {
+    static char text[PLANNER_TEXT + 1], out[PLANNER_TEXT];
+    const char pool[] = "pool\tauto\thost\t0\t999\n", want[] = "want\t1\t0\thost\tauto\n";
+    size_t n = sizeof pool - 1, wide = sizeof want - 1, written;
+    memcpy(text, pool, n);
+    for (size_t i = 0; i <= PLANNER_MOST; i++) memcpy(text + n + i * wide, want, wide);
+    n += PLANNER_MOST * wide;
+    EXPECT(planner_respond(text, n, out, sizeof out) > PLANNER_MOST && memcmp(out, "got\t1\t0\thost\t0\n", 15) == 0);
+    EXPECT(planner_write_text(text, n, out, sizeof out, &written, answer) == 0 && written > PLANNER_MOST * (wide - 4));
+    EXPECT(planner_write_text(text, n + wide, out, sizeof out, &written, answer) == 11 && answer[0] == PLANNER_MOST + 2 && written == 0);
+    EXPECT(planner_write_text(text, sizeof text, out, sizeof out, &written, answer) == 10 && answer[0] == 0 && written == 0);
+    return none;
+}
+
+/* On a thread with no more stack than is said to be enough. */
+static void stacks(void) {
+    pthread_t thread;
+    pthread_attr_t small;
+    EXPECT(pthread_attr_init(&small) == 0 && pthread_attr_setstacksize(&small, (PLANNER_TEXT_STACK + 4095) / 4096 * 4096) == 0);
+    EXPECT(pthread_create(&thread, &small, longest, NULL) == 0 && pthread_join(thread, NULL) == 0);
+}
+
 int main(void) {
     nulls();
     sizes();
@@ -205,6 +238,7 @@ int main(void) {
     domains();
     low_lpis();
     texts();
+    stacks();
     puts("the C face's edge holds");
     return 0;
 }

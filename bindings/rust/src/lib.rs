@@ -41,6 +41,7 @@ pub use plan::{Granted, Plan, PlanRefusal};
 pub use refusal::Refusal;
 pub use sizes::{
     ANSWER, FIRST_LPI, MOST, POOL_ROWS, RECORD, REQUEST, ROWS, STATE_SIZE, TEXT, TEXT_OUTPUT,
+    TEXT_STACK,
 };
 pub use texts::{pin_text, text, TextRefusal};
 
@@ -92,7 +93,7 @@ pub struct Row {
     pub owner: u64,
 }
 
-/// The planner with its tables: [`STATE_SIZE`] bytes, on the stack unless it is put elsewhere. Requests, plans, the calls that add or start and reading back run on a stack of 64 KB; [`text`] and [`pin_text`] take 80 KB, as measured: give a thread that makes them 144 KB.
+/// The planner with its tables: [`STATE_SIZE`] bytes, on the stack unless it is put elsewhere; making one takes three of them there, so make it where there is room and keep it. Requests, plans, the calls that add or start and reading back run on a stack of 64 KB; [`text`] and [`pin_text`] keep a state there: give a thread that makes them [`TEXT_STACK`] bytes.
 #[derive(Clone)]
 pub struct Planner {
     state: [u64; WORDS],

@@ -50,7 +50,7 @@ impl fmt::Display for PlanRefusal {
 
 impl core::error::Error for PlanRefusal {}
 
-/// Up to [`MOST`] requests, and room for their results.
+/// Up to [`MOST`] requests, and room for their results, all of it in the struct: keep it off a small stack.
 ///
 /// ```
 /// use thurgoleo::{Choice, Plan, Planner, Pool, Request, Use, Want};

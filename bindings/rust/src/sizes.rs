@@ -2,13 +2,13 @@
 //! those of the proved code, and tests/face.rs to what the library does.
 
 /// The rows of a pool table.
-pub const POOL_ROWS: usize = 32;
+pub const POOL_ROWS: usize = 64;
 
 /// The rows of a reservation table, and of an owner table.
-pub const ROWS: usize = 128;
+pub const ROWS: usize = 256;
 
 /// The requests of a plan.
-pub const MOST: usize = 128;
+pub const MOST: usize = 256;
 
 /// The least LPI: the Arm GICv3 architecture has none below it.
 pub const FIRST_LPI: u32 = 8192;
@@ -38,10 +38,13 @@ const INPUTS: usize = 8 + narrow(1, ROWS) + 8 * ROWS + narrow(3, ROWS);
 pub const STATE_SIZE: usize = 2 * 7 * POOL + 2 * (6 * RANGES + INPUTS) + 8 * ANSWER;
 
 /// The bytes of a text, read or pinned.
-pub const TEXT: usize = 32768;
+pub const TEXT: usize = 65536;
 
 /// A number behind its tab, of twenty digits at the most.
 const FIELD: usize = 21;
 
 /// The bytes of the longest output that a text has: for each request the longest `got` line, which is that of message interrupts, and `end`.
 pub const TEXT_OUTPUT: usize = MOST * (8 + 8 * FIELD) + 4 + FIELD;
+
+/// The bytes of stack that are enough for a text, answered or pinned: a state, and 64 KB for all else, of which it takes less than half.
+pub const TEXT_STACK: usize = STATE_SIZE + (64 << 10);

@@ -3,7 +3,8 @@
 mod common;
 
 use common::{
-    planner_call, planner_fresh, planner_plan, planner_read, planner_state_size, planner_text,
+    planner_allocate, planner_call, planner_fresh, planner_plan, planner_read, planner_state_size,
+    planner_text, state_size,
 };
 use thurgoleo::{
     Choice, DeviceId, Hold, Kind, Part, Plan, Planner, Pool, Refusal, Request, Use, Want, MOST,
@@ -66,7 +67,11 @@ fn a_fresh_state_is_written_to_its_last_byte_and_no_further() {
 
 #[test]
 fn another_size_touches_nothing() {
-    for size in [0, 8, STATE_SIZE as u64 - 1, STATE_SIZE as u64 + 1, u64::MAX] {
+    let ours = STATE_SIZE as u64;
+    assert_eq!(state_size(POOL_ROWS, ROWS), ours);
+    // that of a state with half as many rows too, which was ours once
+    let half = state_size(POOL_ROWS / 2, ROWS / 2);
+    for size in [0, 8, half, ours - 1, ours + 1, u64::MAX] {
         let mut small = [9u64; 2];
         let mut out = [5u64; 9];
         unsafe {
@@ -84,6 +89,17 @@ fn another_size_touches_nothing() {
             );
             assert_eq!(
                 planner_plan(
+                    small.as_mut_ptr(),
+                    size,
+                    [0u64; 12].as_ptr(),
+                    12,
+                    out.as_mut_ptr(),
+                    9
+                ),
+                1
+            );
+            assert_eq!(
+                planner_allocate(
                     small.as_mut_ptr(),
                     size,
                     [0u64; 12].as_ptr(),

@@ -3,9 +3,8 @@
 
 mod common;
 
-use common::texts::{by_hand, no, pin, pinned, said, SHORT};
+use common::texts::{by_hand, comes_again, no, pin, said, SHORT};
 use common::{small_stack, Rng};
-use std::collections::HashMap;
 use thurgoleo::{FIRST_LPI, TEXT};
 
 impl Rng {
@@ -21,12 +20,6 @@ impl Rng {
         let long = 1 + self.next() % most;
         let start = self.number(limit - long);
         (start, start + long)
-    }
-
-    fn shuffle<T>(&mut self, list: &mut [T]) {
-        (1..list.len())
-            .rev()
-            .for_each(|i| list.swap(i, self.below(i + 1)));
     }
 }
 
@@ -134,25 +127,6 @@ fn agrees(rng: &mut Rng, text: &[u8]) -> bool {
     }
     assert!(n == 0 || pin(text, rng.below(n), 5).1 == SHORT);
     true
-}
-
-/// The pinned text is pinned already, and its wants get what they got: all of them, and any of them in any order.
-fn comes_again(rng: &mut Rng, text: &str) {
-    let (first, kept) = (said(text.as_bytes()), pinned(text));
-    assert_eq!(said(kept.as_bytes()), first, "{text}");
-    assert_eq!(pinned(&kept), kept);
-    let lines = kept.split_inclusive('\n');
-    let (mut wants, board): (Vec<&str>, Vec<&str>) = lines.partition(|l| l.starts_with("want"));
-    // slots differ, so each want has its own line
-    let got: HashMap<&str, &str> = wants.iter().copied().zip(first.lines()).collect();
-    rng.shuffle(&mut wants);
-    wants.truncate(rng.below(wants.len() + 1));
-    let some = board.concat() + &wants.concat();
-    let again: String = wants.iter().map(|w| format!("{}\n", got[w])).collect();
-    assert_eq!(
-        said(some.as_bytes()),
-        format!("{again}end\t{}\n", wants.len())
-    );
 }
 
 #[test]

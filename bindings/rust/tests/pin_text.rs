@@ -3,8 +3,8 @@
 
 mod common;
 
-use common::small_stack;
-use common::texts::{by_hand, no, pin, pinned, said, SHORT, UNTOLD};
+use common::texts::{by_hand, comes_again, no, pin, pinned, said, SHORT, UNTOLD};
+use common::{small_stack, Rng};
 use thurgoleo::{pin_text, Refusal, TextRefusal, MOST, TEXT};
 
 const STAND: &str = include_str!("../../../examples/stand.plan");
@@ -79,7 +79,7 @@ fn nothing_needs_no_room() {
 #[test]
 fn the_longest_text() {
     small_stack(|| {
-        // 128 wants grow a text by 16 or 28 bytes each; where it fits to the byte, where it is a byte too long, and far too long
+        // the wants grow a text by 16 or 28 bytes each, in turn; where it fits to the byte, where it is a byte too long, and far too long
         let grown = MOST / 2 * (16 + 28);
         for (bytes, fits) in [
             (TEXT - grown, true),
@@ -115,6 +115,52 @@ fn the_longest_text() {
         assert_eq!(pinned(&text).len(), TEXT - 3);
         assert_eq!(pin(text.as_bytes(), TEXT - 3, 5).1, [0; 5]);
         assert_eq!(pin(text.as_bytes(), TEXT - 4, 5).1, SHORT);
+    });
+}
+
+/// So many wants of all kinds, every third for a number of its own; the pools of both uses alike.
+fn mixed_text(wants: usize) -> String {
+    let pools = [
+        "mmio\t4096\t16777216",
+        "pio\t256\t61440",
+        "input\t3\t16\t9999",
+        "host\t32\t9999",
+        "msi\t1\t2\t0\t9999\t0\t64\t8192\t99999",
+    ];
+    let board: String = pools
+        .map(|p| format!("pool\tauto\t{p}\npool\tfixed\t{p}\n"))
+        .concat();
+    let want = |i: usize| {
+        let (asked, number) = match i % 5 {
+            0 => ("mmio\t4096\t4096", format!("{}", 4096 * (2048 + i))),
+            1 => ("pio\t8\t8", format!("{}", 8 * (4096 + i))),
+            2 => ("input\t3\t1\t0", format!("{}", 5000 + i)),
+            3 => ("host", format!("{}", 5000 + i)),
+            _ => (
+                "msi\t1\t2\t4",
+                format!("{}\t9\t{}", 5000 + i, 50000 + 4 * i),
+            ),
+        };
+        let choice = if i % 3 == 2 { number } else { "auto".into() };
+        format!("want\t{}\t{i}\t{asked}\t{choice}\n", 1 + i % 9)
+    };
+    board
+        + "hold\t77\thost\t33\t35\nhold\t77\tinput\t3\t16\t1\t0\n"
+        + &(0..wants).map(want).collect::<String>()
+}
+
+/// All wants of the longest plan are granted, and again in any choice and order once they are pinned; one more is refused at its own line.
+#[test]
+fn the_most_wants() {
+    small_stack(|| {
+        let text = mixed_text(MOST);
+        assert!(said(text.as_bytes()).ends_with(&format!("\nend\t{MOST}\n")));
+        let mut rng = Rng(14);
+        (0..50).for_each(|_| comes_again(&mut rng, &text));
+        let over = mixed_text(MOST + 1);
+        let short = vec![12 + MOST as u64 + 1, 11, 0, 0, 0];
+        assert_eq!(no(&said(over.as_bytes())).unwrap(), short);
+        assert_eq!(pin(over.as_bytes(), TEXT, 5), (vec![], short));
     });
 }
 

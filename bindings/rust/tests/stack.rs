@@ -1,5 +1,5 @@
 //! Requests, plans, calls that add or start, and reading back on a stack of 64 KB, as a hypervisor's thread has it: through the C face the same answers, records and states as on a
-//! large one; through the wrapper what it grants. A text, answered and pinned, on a stack of 64 KB beside the state that it keeps there.
+//! large one; through the wrapper what it grants. A text, answered and pinned, on the stack that is said to be enough for it.
 
 mod common;
 
@@ -7,7 +7,9 @@ use common::{
     mixed, numbers, on_stack, planner_allocate, planner_call, planner_pin, planner_pin_text,
     planner_plan, planner_read, planner_text, stand,
 };
-use thurgoleo::{Plan, MOST, RECORD, REQUEST, STATE_SIZE, TEXT, TEXT_OUTPUT};
+use thurgoleo::{
+    Plan, MOST, POOL_ROWS, RECORD, REQUEST, STATE_SIZE, TEXT, TEXT_OUTPUT, TEXT_STACK,
+};
 
 const SMALL: usize = 64 << 10;
 const LARGE: usize = 1 << 20;
@@ -167,14 +169,16 @@ unsafe extern "C" fn read(
 
 #[test]
 fn the_answer_and_every_table_read_back() {
+    const POOL: u64 = POOL_ROWS as u64;
+    const ROWS: u64 = thurgoleo::ROWS as u64;
     let state = stand().as_words().to_vec();
     let (number, after, told) = same(read, &state, &[0], 5);
     assert_eq!((number, after), (0, state.clone()));
     assert_eq!(told, state[state.len() - 5..]);
     for part in 0..6 {
         for kind in 0..9 {
-            for row in [0, 31, 32, 127, 128] {
-                let rows = [0, 32, 32, 128, 128, 0][part as usize];
+            for row in [0, POOL - 1, POOL, ROWS - 1, ROWS] {
+                let rows = [0, POOL, POOL, ROWS, ROWS, 0][part as usize];
                 let there = row < rows && (1..8).contains(&kind);
                 let (number, after, told) = same(read, &state, &[part, kind, row], 9);
                 assert_eq!(after, state);
@@ -191,9 +195,9 @@ fn the_answer_and_every_table_read_back() {
     assert_eq!(same(read, &state, &[], 9).0, 11);
 }
 
-/// Pools, a reservation and as many wants as a plan has.
+/// Pools, a reservation and as many wants as a plan has, half of them for message interrupts: a device and two LPIs each.
 fn a_text() -> Vec<u8> {
-    let text = "pool\tauto\tmmio\t0\t1000000\npool\tfixed\tpio\t0\t65535\npool\tauto\tmsi\t0\t0\t0\t64\t0\t64\t8192\t9000\nhold\t7\tmmio\t4096\t8192\n".to_string()
+    let text = "pool\tauto\tmmio\t0\t1000000\npool\tfixed\tpio\t0\t65535\npool\tauto\tmsi\t0\t0\t0\t999\t0\t64\t8192\t9999\nhold\t7\tmmio\t4096\t8192\n".to_string()
         + &"want\t3\t1\tmmio\t256\t256\tauto\nwant\t4\t0\tmsi\t0\t0\t2\tauto\n".repeat(MOST / 2);
     text.into_bytes()
 }
@@ -201,7 +205,7 @@ fn a_text() -> Vec<u8> {
 #[test]
 fn a_text_beside_its_state() {
     let text = a_text();
-    on_stack(STATE_SIZE + SMALL, move || {
+    on_stack(TEXT_STACK, move || {
         let mut out = vec![0; TEXT_OUTPUT];
         let n = unsafe { planner_text(text.as_ptr(), text.len(), out.as_mut_ptr(), out.len()) };
         let said = String::from_utf8(out[..n as usize].to_vec()).unwrap();
@@ -214,14 +218,16 @@ fn a_text_beside_its_state() {
 #[test]
 fn a_pinned_text_beside_its_state() {
     let text = a_text();
-    on_stack(STATE_SIZE + SMALL, move || {
+    on_stack(TEXT_STACK, move || {
         let refused = [&text[..], b"pool\n"].concat();
+        let device = MOST / 2 - 1;
+        let last = format!("\tmsi\t0\t0\t2\t{device}\t0\t{}\n", 8192 + 2 * device);
         for (text, room, ends) in [(&text, TEXT, 0), (&text, 9, 11), (&refused, TEXT, 10)] {
             let (mut out, mut answer) = (vec![0; room], [7; 5]);
             let (to, five) = (out.as_mut_ptr(), answer.as_mut_ptr());
             let n = unsafe { planner_pin_text(text.as_ptr(), text.len(), to, room, five, 5) };
             assert_eq!((n == 0, answer[1]), (ends != 0, ends));
-            assert!(n == 0 || out[..n as usize].ends_with(b"\tmsi\t0\t0\t2\t63\t0\t8318\n"));
+            assert!(n == 0 || out[..n as usize].ends_with(last.as_bytes()));
         }
     });
 }

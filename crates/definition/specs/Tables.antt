@@ -8,13 +8,13 @@ use Rattle.definition.specs.Base.{allOf, pairsOf}
 
 -- ---- sizes: rows of a pool table; rows of a reservation or owner table; requests of a plan; numbers of a result
 abbrev pub poolLimit : ℕ
-poolLimit = 32
+poolLimit = 64
 
 abbrev pub rowLimit : ℕ
-rowLimit = 128
+rowLimit = 256
 
 abbrev pub planLimit : ℕ
-planLimit = 128
+planLimit = 256
 
 abbrev pub recordSize : ℕ
 recordSize = 9

@@ -13,7 +13,7 @@ abbrev pub lineLimit : ℕ
 lineLimit = 200
 
 abbrev pub textLimit : ℕ
-textLimit = 32768
+textLimit = 65536
 
 -- ---- bytes
 

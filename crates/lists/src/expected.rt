@@ -96,7 +96,7 @@ pub fn record(turn: u32) -> [u64; RECORD] {
         return r;
     }
     if kind == 1 {
-        r[3] = base(turn, 32768 + 16 * k, 16 * (k / 10));
+        r[3] = base(turn, 40960 + 16 * k, 16 * (k / 10));
         r[4] = 16;
         return r;
     }
@@ -122,7 +122,7 @@ pub fn record(turn: u32) -> [u64; RECORD] {
 // The number at place i of the results: a record's, or the nine that stood there.
 pub fn number_at(i: usize, accepted: usize) -> u64 {
     if i / RECORD < accepted {
-        let r = record((i / RECORD % 256) as u32);
+        let r = record((i / RECORD % 1000) as u32);
         return r[i % RECORD];
     }
     9

@@ -64,7 +64,7 @@ pub fn fixed(i: u64) -> PoolRange {
         return PoolRange::Mmio(2147483648, 4294967296);
     }
     if i == 1 {
-        return PoolRange::Pio(32768, 65535);
+        return PoolRange::Pio(40960, 65535);
     }
     if i == 2 {
         return PoolRange::Input(1, 4096, 8192);
@@ -157,7 +157,7 @@ pub fn want(turn: u32) -> Want {
         return Want::Pio {
             size: 16,
             alignment: 16,
-            choice: chosen(turn, 32768 + 16 * k),
+            choice: chosen(turn, 40960 + 16 * k),
         };
     }
     if kind == 2 {
@@ -173,13 +173,13 @@ pub fn want(turn: u32) -> Want {
             choice: chosen(turn, 4096 + k),
         };
     }
-    msi(turn, 12288 + 4 * (turn % 256))
+    msi(turn, 12288 + 4 * (turn % 1000))
 }
 
 pub fn request(turn: u32) -> Request {
     let want = want(turn);
     Request {
-        requester: turn % 256 + 1,
+        requester: turn % 1000 + 1,
         slot: turn,
         want,
     }

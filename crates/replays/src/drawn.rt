@@ -55,7 +55,7 @@ pub fn mmio(seed: u32, i: u64, j: u64) -> u64 {
     if j == 6 {
         return code(seed, i, 6);
     }
-    3221225472 + i % 128 * 1048576
+    3221225472 + i % 64 * 1048576
 }
 
 pub fn pio(seed: u32, i: u64, j: u64) -> u64 {
@@ -68,7 +68,7 @@ pub fn pio(seed: u32, i: u64, j: u64) -> u64 {
     if j == 6 {
         return code(seed, i, 6);
     }
-    32768 + i % 128 * 16
+    40960 + i % 64 * 16
 }
 
 // Shared inputs that are fixed all ask for the same one.
@@ -89,14 +89,14 @@ pub fn input(seed: u32, i: u64, j: u64) -> u64 {
     if sharing == 1 {
         return 3000;
     }
-    2000 + i % 128
+    2000 + i % 64
 }
 
 pub fn host(seed: u32, i: u64, j: u64) -> u64 {
     if j == 6 {
         return code(seed, i, 6);
     }
-    1000 + i % 128
+    1000 + i % 64
 }
 
 pub fn msi(seed: u32, i: u64, j: u64) -> u64 {
@@ -112,7 +112,7 @@ pub fn msi(seed: u32, i: u64, j: u64) -> u64 {
     if j % 2 == 0 {
         return code(seed, i, j);
     }
-    13000 + i % 128 * 16
+    13000 + i % 64 * 16
 }
 
 // The j-th number of the i-th line.

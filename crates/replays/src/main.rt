@@ -62,7 +62,7 @@ fn main() {
     let mut passed: u64 = 0;
     let mut refused: u64 = 0;
     let mut seed: u32 = 0;
-    while seed < 512 {
+    while seed < 600 {
         match tried(seed) {
             Outcome::Passed => {
                 passed = std::num::wrapping_add_u64(passed, 1);
@@ -76,7 +76,7 @@ fn main() {
             }
         }
         seed += 1;
-        if seed % 128 == 0 {
+        if seed % 100 == 0 {
             io::print_decimal(1, passed);
             io::write_all(1, b" passed, refused ");
             io::print_decimal(1, refused);

@@ -6,11 +6,11 @@ ghost use Rattle.tables.specs.Views.{kindOf, sameOf, pool, ranges, input
 ghost use Rattle.tables.specs.Whole.{pushedRange, pushedInput, freshPool, freshRanges, freshInputs, freshPools, freshHolders, freshState};
 
 // The sizes, each stated here alone: rows of a reservation or owner table, rows of a pool table, requests of a plan, numbers of a record.
-pub const ROWS: usize = 128;
+pub const ROWS: usize = 256;
 
-pub const POOL_ROWS: usize = 32;
+pub const POOL_ROWS: usize = 64;
 
-pub const PLAN: usize = 128;
+pub const PLAN: usize = 256;
 
 pub const RECORD: usize = 9;
 

@@ -23,7 +23,7 @@ pub mod feed;
 pub const OUTPUT: usize = PLAN * GOT + END;
 
 // The longest text.
-pub const TEXT: usize = 32768;
+pub const TEXT: usize = 65536;
 
 // Numbers of the results of the longest plan.
 pub const RESULTS: usize = RECORD * PLAN;

@@ -73,22 +73,23 @@ fn full_pool(mode: &str, kind: &str) -> Vec<Case> {
     ]
 }
 
-/// MSI domains that need a row of a full table: 4 and 12 of any range come before 9.
+/// MSI domains that need a row of a full table, which is `+`: 4 and 12 of any range come before 9.
 const FULL_DOMAINS: [(&str, &str, &str, u32); 9] = [
-    ("device", "empty-event", "90 92 7 7 8192 8194", 4),
-    ("device", "empty-lpi", "90 92 0 2 9 9", 4),
-    ("device", "low-lpi", "90 92 0 2 8191 8194", 12),
-    ("event", "empty-device", "7 6 90 92 8192 8194", 4),
-    ("event", "empty-lpi", "0 2 90 92 9 5", 4),
-    ("event", "low-lpi", "0 2 90 92 0 1", 12),
-    ("lpi", "empty-device", "7 7 0 2 8292 8294", 4),
-    ("lpi", "empty-event", "0 2 7 6 8292 8294", 4),
+    ("device", "empty-event", "+ 7 7 8192 8194", 4),
+    ("device", "empty-lpi", "+ 0 2 9 9", 4),
+    ("device", "low-lpi", "+ 0 2 8191 8194", 12),
+    ("event", "empty-device", "7 6 + 8192 8194", 4),
+    ("event", "empty-lpi", "0 2 + 9 5", 4),
+    ("event", "low-lpi", "0 2 + 0 1", 12),
+    ("lpi", "empty-device", "7 7 0 2 +", 4),
+    ("lpi", "empty-event", "0 2 7 6 +", 4),
     ("lpi", "low-lpi", "0 2 0 2 8191 8294", 12),
 ];
 
 fn full_domains(mode: &str) -> impl Iterator<Item = Case> + '_ {
     FULL_DOMAINS.iter().map(move |(kind, what, bounds, number)| {
         let full = joined((0..POOL_ROWS).map(|i| pool(mode, kind, i)));
+        let bounds = bounds.replace('+', &span(kind, POOL_ROWS));
         let text = lines(&format!("{full}/pool {mode} msi 0 0 {bounds}"));
         case(&format!("full-pool-{mode}-{kind}-{what}"), text, refused(POOL_ROWS + 1, *number))
     })
@@ -113,20 +114,21 @@ fn full_holds(kind: &str) -> Vec<Case> {
 
 const DOMAIN: &str = "pool M msi 0 0 0 999 0 999 8192 9191";
 
-/// The want that meets a full owner table of the kind: pools, an automatic want and what it would be refused with
-/// first if nothing were free.
+/// The wants that meet a full owner table of the kind: pools, an automatic want, a fixed one, and one for the last number `L` that is held, with what it is
+/// refused with before Full.
 fn full_owners(kind: &str) -> Vec<Case> {
     let full = joined((0..HELD_ROWS).map(|i| hold(4, kind, i)));
     let name = |what: &str| format!("full-owner-{kind}-{what}");
     let (pools, auto, fixed, taken) = match kind {
-        "mmio" => ("pool M mmio 0 999", "mmio 1 1 auto", "mmio 1 1 998", ("mmio 1 1 255", "1 4 1")),
-        "pio" => ("pool M pio 0 999", "pio 1 1 auto", "pio 1 1 998", ("pio 1 1 255", "2 4 1")),
-        "input" => ("pool M input 0 0 999", "input 0 0 0 auto", "input 0 0 0 998", ("input 0 0 1 3", "3 4 2")),
-        "host" => ("pool M host 0 999", "host auto", "host 998", ("host 255", "4 4 4")),
-        "device" => (DOMAIN, "msi 0 0 1 auto", "msi 0 0 1 998 0 8192", ("msi 0 0 1 9 0 8192", "5 4 5")),
-        "event" => (DOMAIN, "msi 0 0 1 auto", "msi 0 0 1 0 998 8192", ("msi 0 0 1 0 0 8192", "5 4 6")),
-        _ => (DOMAIN, "msi 0 0 1 auto", "msi 0 0 1 0 0 9190", ("msi 0 0 1 0 0 8201", "6 4 7")),
+        "mmio" => ("pool M mmio 0 999", "mmio 1 1 auto", "mmio 1 1 998", ("mmio 1 1 L", "1 4 1")),
+        "pio" => ("pool M pio 0 999", "pio 1 1 auto", "pio 1 1 998", ("pio 1 1 L", "2 4 1")),
+        "input" => ("pool M input 0 0 999", "input 0 0 0 auto", "input 0 0 0 998", ("input 0 0 1 L", "3 4 2")),
+        "host" => ("pool M host 0 999", "host auto", "host 998", ("host L", "4 4 4")),
+        "device" => (DOMAIN, "msi 0 0 1 auto", "msi 0 0 1 998 0 8192", ("msi 0 0 1 L 0 8192", "5 4 5")),
+        "event" => (DOMAIN, "msi 0 0 1 auto", "msi 0 0 1 0 998 8192", ("msi 0 0 1 1 L 8192", "5 4 6")),
+        _ => (DOMAIN, "msi 0 0 1 auto", "msi 0 0 1 0 0 9190", ("msi 0 0 1 0 0 L", "6 4 7")),
     };
+    let last = if kind == "input" { HELD_ROWS } else { first(kind, HELD_ROWS) } - 1;
     let front = format!("{full}/{}/{}", pools.replace('M', "auto"), pools.replace('M', "fixed"));
     let line = HELD_ROWS + 3;
     let mut cases = vec![
@@ -134,7 +136,7 @@ fn full_owners(kind: &str) -> Vec<Case> {
         case(&name("fixed"), lines(&format!("{front}/want 1 1 {fixed}")), refused(line, 9)),
         case(
             &name("conflict"),
-            lines(&format!("{front}/want 1 1 {}", taken.0)),
+            lines(&format!("{front}/want 1 1 {}", taken.0.replace('L', &last.to_string()))),
             lines(&format!("no {line} 8 {}", taken.1)),
         ),
     ];
@@ -148,13 +150,13 @@ fn full_owners(kind: &str) -> Vec<Case> {
 /// Rows of several domains share a table; holds and grants share the owner table; a refusal comes before Full.
 fn mixed() -> Vec<Case> {
     let controllers = joined((0..HELD_ROWS).map(|i| format!("hold 1 input {i} 7 0 0")));
-    let half = joined((0..100).map(|i| hold(4, "host", i)));
-    let wants = joined((100..HELD_ROWS).map(|_| "want 1 1 host auto".to_string()));
+    let half = joined((0..HELD_ROWS / 2).map(|i| hold(4, "host", i)));
+    let wants = joined((HELD_ROWS / 2..HELD_ROWS).map(|_| "want 1 1 host auto".to_string()));
     let full = joined((0..HELD_ROWS).map(|i| hold(4, "host", i)));
     vec![
         case(
             "full-hold-all-domains",
-            lines(&format!("{controllers}/hold 1 input 200 7 0 0")),
+            lines(&format!("{controllers}/hold 1 input {HELD_ROWS} 7 0 0")),
             refused(HELD_ROWS + 1, 9),
         ),
         case(
@@ -196,17 +198,16 @@ fn many_wants() -> Vec<Case> {
             }
         })
         .collect();
-    let kinds = joined(
-        (0..PLAN_REQUESTS)
-            .map(|i| format!("want 1 {i} {}", ["mmio 1 1", "pio 1 1", "host", "input 0 0 0"][i % 4]) + " auto"),
-    );
-    let pools = "pool auto mmio 0 99/pool auto pio 0 99/pool auto host 0 99/pool auto input 0 0 99";
+    let of_kind = ["mmio 1 1", "pio 1 1", "host", "input 0 0 0", "msi 0 0 2"];
+    let kinds = joined((0..PLAN_REQUESTS).map(|i| format!("want 1 {i} {} auto", of_kind[i % 5])));
+    let pools = "pool auto mmio 0 99/pool auto pio 0 99/pool auto host 0 99/pool auto input 0 0 99/pool auto msi 0 0 0 99 0 9 8192 9000";
     let got_kinds: String = (0..PLAN_REQUESTS)
-        .map(|i| match i % 4 {
-            0 => format!("got 1 {i} mmio {} 1/", i / 4),
-            1 => format!("got 1 {i} pio {} 1/", i / 4),
-            2 => format!("got 1 {i} host {}/", i / 4),
-            _ => format!("got 1 {i} input 0 {} 0 0/", i / 4),
+        .map(|i| match i % 5 {
+            0 => format!("got 1 {i} mmio {} 1/", i / 5),
+            1 => format!("got 1 {i} pio {} 1/", i / 5),
+            2 => format!("got 1 {i} host {}/", i / 5),
+            3 => format!("got 1 {i} input 0 {} 0 0/", i / 5),
+            _ => format!("got 1 {i} msi 0 0 {} 0 {} 2/", i / 5, first("lpi", i / 5)),
         })
         .collect();
     let line = PLAN_REQUESTS + 3;

@@ -2,6 +2,7 @@
 
 pub mod face;
 pub mod flat;
+mod full_calls;
 mod odd;
 mod pair;
 mod pins;

@@ -7,7 +7,7 @@ use super::face::Face;
 use super::flat::step_of;
 use super::pair::{Input, Pair};
 use super::pins::Counts;
-use super::{odd, short_calls, short_texts};
+use super::{full_calls, odd, short_calls, short_texts};
 use crate::cases;
 use crate::gen;
 
@@ -63,6 +63,7 @@ pub fn families(number: u64, seed: u64) -> Vec<Family> {
     all.push(Family::texts("stored cases", stored.len() as u64, move |index| stored[index as usize].clone()));
     all.extend(short_texts::families(large));
     all.extend(short_calls::families(large));
+    all.extend(full_calls::families());
     all
 }
 

@@ -8,8 +8,9 @@ impl Scene {
     /// So many pool ranges of one table, all different, in mixed order.
     pub fn many_pools(&self, rng: &mut Rng, kind: Kind, fixed: bool, rows: u64) -> Vec<Add> {
         let (controller, its) = (self.controller(rng), self.its(rng));
-        let order = rng.number() | 1;
-        let mark = |i: u64| (i.wrapping_mul(order)) % 64;
+        // twice as many marks as rows, in a power of two: an odd step comes past all of them
+        let (order, marks) = (rng.number() | 1, (2 * rows).next_power_of_two());
+        let mark = |i: u64| i.wrapping_mul(order) % marks;
         let one = |kind: Kind| self.ruler(kind).at(0)..self.ruler(kind).at(1);
         let row = |i: u64| {
             let span = self.ruler(kind).at(mark(i) / 2)..self.ruler(kind).at(mark(i) / 2 + 1 + mark(i) % 2);

@@ -3,7 +3,7 @@
 use std::ops::Range;
 
 use super::rng::Rng;
-use crate::added::FIRST_LPI;
+use crate::added::{FIRST_LPI, HELD_ROWS};
 use crate::calls::{Add, Hold, Kind, PoolRange};
 
 /// Evenly spaced marks from an anchor on, cut off at the width's largest number. Ranges that start below the least
@@ -100,6 +100,10 @@ impl Ruler {
 /// The widest cell: a range of one is more than a million numbers.
 const WIDE: u64 = 1 << 20;
 
+/// Cells of a scene whose tables are to be filled, and of any other.
+const MANY: u64 = 3 * HELD_ROWS as u64 / 2;
+const FEW: u64 = 12;
+
 /// Rulers for the seven kinds, and the domains in play.
 #[derive(Clone, Debug)]
 pub struct Scene {
@@ -112,6 +116,12 @@ pub struct Scene {
 }
 
 impl Scene {
+    /// Three scenes in a hundred are heavy: with room for more rows than a table has.
+    pub fn any(rng: &mut Rng) -> (Self, bool) {
+        let heavy = rng.chance(3);
+        (Scene::random(rng, if heavy { MANY } else { FEW }), heavy)
+    }
+
     pub fn random(rng: &mut Rng, cells: u64) -> Self {
         let mmio_cell = rng.pick(&[1, 2, 16, 256, 4096, 4096, WIDE]);
         let pio_cell = rng.pick(&[1, 1, 8, 16]);

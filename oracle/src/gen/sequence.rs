@@ -6,8 +6,7 @@ use crate::added::{HELD_ROWS, PLAN_REQUESTS, POOL_ROWS, RECORD};
 use crate::calls::{Add, Call, Kind, Request};
 
 pub fn calls(rng: &mut Rng) -> Vec<Call> {
-    let heavy = rng.chance(3);
-    let scene = Scene::random(rng, if heavy { 200 } else { 12 });
+    let (scene, heavy) = Scene::any(rng);
     calls_on(rng, &scene, heavy)
 }
 

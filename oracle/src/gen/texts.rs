@@ -3,14 +3,13 @@
 use super::lines::{line_of_add, line_of_request};
 use super::rng::Rng;
 use super::scene::Scene;
-use crate::added::{HELD_ROWS, POOL_ROWS};
+use crate::added::{HELD_ROWS, PLAN_REQUESTS, POOL_ROWS};
 use crate::calls::{Add, Kind};
 use crate::text::Reader;
 
 /// A text made of whole, well-formed lines.
 pub fn good_text(rng: &mut Rng) -> Vec<u8> {
-    let heavy = rng.chance(3);
-    let scene = Scene::random(rng, if heavy { 200 } else { 12 });
+    let (scene, heavy) = Scene::any(rng);
     let mut text = Draft { reader: Reader::new(), bytes: Vec::new(), keeps: 12, closed: false };
     for add in scene.wide_pools(rng) {
         text.offer(rng, line_of_add(&add));
@@ -80,7 +79,7 @@ impl Draft {
 
     fn wants(&self, rng: &mut Rng, heavy: bool) -> u64 {
         if heavy {
-            rng.pick(&[0, 1, 5, 60, 400])
+            rng.pick(&[0, 1, 5, 60, 3 * PLAN_REQUESTS as u64])
         } else {
             rng.pick(&[0, 1, 3, 6, 10, 15])
         }

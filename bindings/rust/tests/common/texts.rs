@@ -1,6 +1,7 @@
 //! A text pinned and a text answered by the exported functions, with guards around all that is lent; and the pinned text by what the program says.
 
-use super::{planner_pin_text, planner_text};
+use super::{planner_pin_text, planner_text, Rng};
+use std::collections::HashMap;
 use thurgoleo::{TEXT, TEXT_OUTPUT};
 
 const GUARD: usize = 16;
@@ -71,4 +72,24 @@ pub fn by_hand(text: &str, said: &str) -> String {
         }
     };
     text.lines().map(pinned).collect()
+}
+
+/// The pinned text is pinned already, and its wants get what they got: all of them, and any of them in any order.
+pub fn comes_again(rng: &mut Rng, text: &str) {
+    let (first, kept) = (said(text.as_bytes()), pinned(text));
+    assert_eq!(said(kept.as_bytes()), first, "{text}");
+    assert_eq!(pinned(&kept), kept);
+    let lines = kept.split_inclusive('\n');
+    let (mut wants, board): (Vec<&str>, Vec<&str>) = lines.partition(|l| l.starts_with("want"));
+    // slots differ, so that each want has its own line
+    let got: HashMap<&str, &str> = wants.iter().copied().zip(first.lines()).collect();
+    rng.shuffle(&mut wants);
+    let some = rng.below(wants.len() + 1);
+    wants.truncate([wants.len(), some][rng.below(2)]);
+    let text = board.concat() + &wants.concat();
+    let again: String = wants.iter().map(|w| format!("{}\n", got[w])).collect();
+    assert_eq!(
+        said(text.as_bytes()),
+        format!("{again}end\t{}\n", wants.len())
+    );
 }
