@@ -68,18 +68,12 @@ static void last(void) {
     EXPECT(planner_text(none, 0, out, PLANNER_TEXT_OUTPUT) == 6 && planner_text(none, 0, out, PLANNER_TEXT_OUTPUT - 1) == 0);
 }
 
-/* The bytes of a state whose tables have so many rows. */
-static uint64_t bytes(uint64_t pool, uint64_t rows) {
-    uint64_t ranges = 1 + PLANNER_HALF(3 * rows) + 2 * rows + PLANNER_HALF(rows), inputs = 1 + PLANNER_HALF(rows) + rows + PLANNER_HALF(3 * rows);
-    return 8 * (14 * (1 + 3 * pool) + 2 * (6 * ranges + inputs) + PLANNER_ANSWER);
-}
-
 /* Sixteen bytes before a page that nobody may touch: every call is told a size that is not a state's, that of a state with half as many rows among
  * them, answers 1 and leaves them. */
 static void short_state(void) {
-    const uint64_t half = bytes(PLANNER_POOL_ROWS / 2, PLANNER_ROWS / 2);
+    const uint64_t half = (PLANNER_STATE_SIZE + 8 * (28 + PLANNER_ANSWER)) / 2; /* 28 counts and the answer are there as well */
     const uint64_t sizes[] = {0, 8, 16, half, PLANNER_STATE_SIZE - 8, PLANNER_STATE_SIZE + 8, UINT64_MAX}, x[13] = {3};
-    EXPECT(bytes(PLANNER_POOL_ROWS, PLANNER_ROWS) == PLANNER_STATE_SIZE && !planner_fits(state, half));
+    EXPECT(!planner_fits(state, half));
     size_t page = (size_t)sysconf(_SC_PAGESIZE);
     char *pages = mmap(NULL, 2 * page, PROT_READ | PROT_WRITE, MAP_PRIVATE | MAP_ANONYMOUS, -1, 0);
     EXPECT(pages != MAP_FAILED && mprotect(pages + page, page, PROT_NONE) == 0);

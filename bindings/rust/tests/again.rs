@@ -2,7 +2,7 @@
 
 mod common;
 
-use common::{mixed, numbers, planner_plan, small_stack, stand, table_words, Rng};
+use common::{mixed, numbers, planner_plan, small_stack, stand, Rng};
 use thurgoleo::{
     Choice, Kind, Part, Plan, Planner, Refusal, Want, MOST, POOL_ROWS, ROWS, STATE_SIZE,
 };
@@ -135,9 +135,17 @@ fn a_refusal_in_the_middle_puts_everything_back() {
 fn a_count_too_large_in_any_table_is_malformed() {
     small_stack(|| {
         let before = stand().as_words().to_vec();
-        // the count stands first in each table
+        // the counts stand first in each table: 14 pool tables, then twice six range tables and one of inputs; two numbers of 32 bits share a word
         let mut at = 0;
-        for size in table_words(POOL_ROWS, ROWS) {
+        let half = |rows: usize| rows.div_ceil(2);
+        let pool = 1 + POOL_ROWS + 2 * POOL_ROWS;
+        let range = 1 + half(3 * ROWS) + 2 * ROWS + half(ROWS);
+        let input = 1 + half(ROWS) + ROWS + half(3 * ROWS);
+        let sizes: Vec<usize> = [pool; 14]
+            .into_iter()
+            .chain([range, range, input, range, range, range, range].repeat(2))
+            .collect();
+        for size in sizes {
             for count in [POOL_ROWS.max(ROWS) as u64 + 1, u64::MAX] {
                 let mut words = before.clone();
                 words[at] = count;

@@ -2,7 +2,6 @@
 
 pub mod face;
 pub mod flat;
-mod full_calls;
 mod odd;
 mod pair;
 mod pins;

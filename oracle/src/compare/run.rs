@@ -4,12 +4,15 @@ use std::collections::BTreeMap;
 use std::fmt;
 
 use super::face::Face;
-use super::flat::step_of;
+use super::flat::{step_of, Step};
 use super::pair::{Input, Pair};
 use super::pins::Counts;
-use super::{full_calls, odd, short_calls, short_texts};
+use super::{odd, short_calls, short_texts};
+use crate::added::RECORD;
+use crate::calls::Call;
 use crate::cases;
 use crate::gen;
+use crate::text::{read_line, Line};
 
 /// Differences that are shown in full, of each family.
 const SHOWN: usize = 3;
@@ -60,11 +63,28 @@ pub fn families(number: u64, seed: u64) -> Vec<Family> {
         }),
     ];
     let stored: Vec<Vec<u8>> = cases::all().into_iter().map(|case| case.text).collect();
-    all.push(Family::texts("stored cases", stored.len() as u64, move |index| stored[index as usize].clone()));
+    let (count, again) = (stored.len() as u64, stored.clone());
+    all.push(Family::texts("stored cases", count, move |index| stored[index as usize].clone()));
+    all.push(Family::calls("stored cases as calls", count, move |index| calls_of(&again[index as usize])));
     all.extend(short_texts::families(large));
     all.extend(short_calls::families(large));
-    all.extend(full_calls::families());
     all
+}
+
+/// The lines of a text that can be read, as calls: what adds, a start, the wants as one plan; and from another start the wants one by one.
+fn calls_of(text: &[u8]) -> Vec<Step> {
+    let (mut steps, mut requests) = (Vec::new(), Vec::new());
+    for line in text.split(|byte| *byte == b'\n').filter_map(read_line) {
+        match line {
+            Line::Add(add) => steps.push(step_of(&Call::Add(add))),
+            Line::Want(request) => requests.push(request),
+        }
+    }
+    let asked: Vec<Step> = requests.iter().map(|request| step_of(&Call::Request(request.clone()))).collect();
+    let results = RECORD * requests.len();
+    steps.extend([Call::Start, Call::Plan { requests, results }, Call::Start].iter().map(step_of));
+    steps.extend(asked);
+    steps
 }
 
 /// What came of a family.

@@ -42,20 +42,6 @@ pub fn planner(words: &[u64]) -> Box<Planner> {
     Box::new(Planner::from_words(words.try_into().unwrap()).unwrap())
 }
 
-/// The words of each table of a state whose tables have so many rows: 14 pool tables, then twice six range tables and one of inputs. Two numbers of 32 bits share a word.
-pub fn table_words(pool: usize, rows: usize) -> Vec<usize> {
-    let half = |numbers: usize| numbers.div_ceil(2);
-    let range = 1 + half(3 * rows) + 2 * rows + half(rows);
-    let input = 1 + half(rows) + rows + half(3 * rows);
-    let held = [range, range, input, range, range, range, range].repeat(2);
-    [vec![1 + 3 * pool; 14], held].concat()
-}
-
-/// The bytes of such a state.
-pub fn state_size(pool: usize, rows: usize) -> u64 {
-    8 * (table_words(pool, rows).iter().sum::<usize>() + 5) as u64
-}
-
 /// The numbers of a splitmix64 generator.
 pub struct Rng(pub u64);
 
