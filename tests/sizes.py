@@ -1,5 +1,6 @@
 #!/usr/bin/env python3
-"""Sizes, and the least LPI: each stands once in the definition and once in the proved code, which the checker ties to one another. Whatever else states one is held to them here."""
+"""Sizes, and the least LPI: each stands once in the definition and once in the proved code, which the checker ties to one another. Whatever else states one is held to them here,
+and whatever else names refusals by their numbers to the definition's one table of them."""
 import pathlib
 import re
 import sys
@@ -16,6 +17,8 @@ STATED = {
     "bytes of a text": ("crates/lines/specs/Base.antt textLimit", "crates/text/src/lib.rt TEXT"),
     "bytes of a line": ("crates/lines/specs/Base.antt lineLimit", "crates/reader/src/read.rt LINE"),
     "least LPI": ("crates/definition/specs/Tables.antt firstLpi", "crates/table_tests/src/limits.rt FIRST_LPI"),
+    "registers of a device": ("crates/definition/specs/Registers.antt registerCount", "crates/registers/src/lib.rt REGISTERS"),
+    "bytes of a device's line": ("crates/sizer/specs/Words.antt sizeTextLimit", "crates/sizer/src/line.rt TEXT"),
 }
 # where it is stated again: for other languages, and for the judge, which reads no file of ours
 AGAIN = {
@@ -27,7 +30,23 @@ AGAIN = {
     "bytes of a text": ("bindings/c/planner.h PLANNER_TEXT", "bindings/rust/src/sizes.rs TEXT", "oracle/src/text.rs TEXT", "tools/explain.py TEXT"),
     "bytes of a line": ("oracle/src/text.rs LINE", "tools/explain.py LONGEST"),
     "least LPI": ("bindings/c/planner.h PLANNER_FIRST_LPI", "bindings/rust/src/sizes.rs FIRST_LPI", "oracle/src/added.rs FIRST_LPI", "tools/explain.py FIRST_LPI"),
+    "registers of a device": ("bindings/c/planner.h PLANNER_REGISTERS", "bindings/rust/src/sizes.rs REGISTERS"),
+    "bytes of a device's line": (),
 }
+# the table of refusals, and where it is written down again: how a row has number and name there
+TABLE = ("crates/definition/specs/Base.antt", r"^tell i \(?(?P<name>\w+).* = says i (?P<number>\d+) ")
+TABLE_AGAIN = (
+    ("tools/explain.py", r'^ {4}(?P<number>\d+): \("(?P<name>\w+)", '),
+    ("bindings/c/planner.h", r"(?:^ \*| ) +(?P<number>\d+) (?P<name>[a-zA-Z ]+): "),
+    ("bindings/rust/src/refusal.rs", r"^ +Refusal::(?P<name>\w+)(?: { \.\. })? => (?P<number>\d+),"),
+    ("bindings/rust/src/refusal.rs", r"^ +(?P<number>\d+) => Refusal::(?P<name>\w+)"),
+)
+
+
+def refusals(path, row):
+    """The names of refusals by their numbers, as a file has them: without blanks, and however they are capitalised."""
+    rows = re.finditer(row, (ROOT / path).read_text(), re.MULTILINE)
+    return {int(r["number"]): r["name"].replace(" ", "").lower() for r in rows}
 
 
 def number(place):
@@ -81,10 +100,15 @@ def main():
         for place in (*places, *AGAIN[size]):
             if number(place) != SIZES[size]:
                 sys.exit(f"tests/sizes.py: {size}: {number(place)} in {place}, {SIZES[size]} in {places[1]}")
+    table = refusals(*TABLE)
+    for path, row in TABLE_AGAIN:
+        # what is read from an answer needs no row for 1: all that it does not know is Malformed
+        if {1: table[1], **refusals(path, row)} != table:
+            sys.exit(f"tests/sizes.py: {path} has the refusals {refusals(path, row)}, the definition {table}")
     for path, said in words():
         if said not in (ROOT / path).read_text():
             sys.exit(f"tests/sizes.py: {path} does not say: {said}")
-    print(f"{len(STATED)} sizes, stated alike wherever they are")
+    print(f"{len(STATED)} sizes and {len(table)} refusals, stated alike wherever they are")
 
 
 if __name__ == "__main__":

@@ -1,6 +1,7 @@
 """Says a plan's refusal in words: the answer goes through unchanged, and below it stand the line, what was asked, and who is in the way.
 
-Reads the answer, or the pinned plan, on standard input and the plan from the file that is named. Every word comes from the tables below.
+Reads the answer, or the pinned plan, on standard input and the plan from the file that is named; no file is named where the answer is to a device's registers.
+Every word comes from the tables below.
 """
 import os
 import sys
@@ -23,6 +24,10 @@ REFUSALS = {
     10: ("BadLine", "the line is not of a form that a plan can have"),
     11: ("Short", f"a plan has at most {WANTS} wants"),
     12: ("BadLpi", f"LPIs begin at {FIRST_LPI}, and a range of them starts below that"),
+    14: ("BadType", "a register asks for memory of a type that is neither 32-bit nor 64-bit"),
+    15: ("BadPair", "a 64-bit register begins at the last word, so it has no high half"),
+    16: ("BadMask", "the mask of a register is zero, or its ones are not contiguous from the top"),
+    17: ("PortsTooLarge", "a register asks for 65,536 ports or more, which the 16 bits of PIO cannot hold"),
 }
 NAMESPACES = {0: "", 1: "MMIO", 2: "PIO", 3: "wired inputs", 4: "host IRQs", 5: "the ITS", 6: "LPIs"}
 DETAILS = {
@@ -40,6 +45,8 @@ HOLDERS = {1: ["mmio"], 2: ["pio"], 3: ["input"], 4: ["host"], 5: ["device", "ev
 # what is refused at no line: the text as it is read, and as it would be written back
 TOO_LONG = {10: f"the text is longer than {TEXT:,} bytes", 11: f"with what was granted in it the text is longer than {TEXT:,} bytes"}
 OPEN = "the last line has no newline"
+# what is refused of a device: a register's fault has its words above
+DEVICE = {2: "the requester is 0, or a number is larger than 32 bits", 10: "the words are longer than the program reads"}
 
 
 def shown(line):
@@ -70,7 +77,8 @@ def explained(answer, text):
     line, number, namespace, owner, detail = (int(f) for f in fields[1:])
     name, words = REFUSALS[number]
     if line == 0:
-        return [f"refused with {number} ({name}): {TOO_LONG[number]}"]
+        at_no_line = DEVICE if text is None else TOO_LONG
+        return [f"refused with {number} ({name}): {at_no_line.get(number, words)}"]
     lines = text.split(b"\n")
     words = words.format(owner=owner, namespace=NAMESPACES[namespace], detail=DETAILS[detail])
     if number == 10 and line == len(lines):
@@ -83,8 +91,10 @@ def explained(answer, text):
 
 def main():
     answer = sys.stdin.buffer.read()
-    with open(sys.argv[1], "rb") as plan:
-        text = plan.read()
+    text = None
+    if len(sys.argv) > 1:
+        with open(sys.argv[1], "rb") as plan:
+            text = plan.read()
     words = "".join(line + "\n" for line in explained(answer.rstrip(b"\n"), text))
     try:
         sys.stdout.buffer.write(answer + words.encode("ascii"))

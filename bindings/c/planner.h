@@ -50,25 +50,32 @@
  *
  * Answers
  * -------
- * An answer is five numbers: number, index (of the refused request of a plan, from 0), namespace, owner, detail; what is not named is 0.
+ * An answer is five numbers: number, index (of the refused request of a plan, from 0), namespace, owner, detail; what is not named is 0. Of
+ * registers none is named: the number stands alone.
  * That of planner_pin_text has the order of the program's `no` line: LINE (from 1; 0 where no line is to blame), number, namespace, owner, detail.
  *      0 accepted
  *      1 malformed: the tables are not sound, or a state of another size, or (helpers) a null pointer or another library than this header's
- *      2 bad input: size, count or requester 0, no such alignment, an unknown code or kind, a number too large for its field
+ *      2 bad input: size, count or requester 0, no such alignment, an unknown code or kind, a number too large for its field, a register's word over 32 bits
  *      3 bad owner: owner 0                                4 empty range: start is not below end
  *      5 reserved: overlaps a reservation of `owner`       6 fixed not allowed: no fixed pool of `namespace` holds it, or not aligned
  *      7 exhausted: nothing in `namespace` fits            8 conflict: `owner` is in the way in `namespace`, as `detail` says
  *      9 full: a table needs a row and has none            10 bad line: a line that cannot be read, or a text over PLANNER_TEXT bytes
- *     11 short: a list is too short, or a plan longer than PLANNER_MOST requests, or a pinned text longer than its buffer or than PLANNER_TEXT bytes
+ *     11 short: a list is too short, or a plan longer than PLANNER_MOST requests, or a pinned text longer than its buffer or than PLANNER_TEXT bytes, or
+ *        fewer words than PLANNER_REGISTERS, or a list that cannot hold all requests of a device's registers
  *     12 bad LPI: a pool or a reservation whose range of LPIs starts below PLANNER_FIRST_LPI; a request for such an LPI is 6
+ *     14 bad type: a register of memory that is neither of 32 nor of 64 bits
+ *     15 bad pair: a register of 64 bits begins at the last word, and has no high half
+ *     16 bad mask: the mask of a register is zero, or its ones are not contiguous from the top
+ *     17 ports too large: a register asks for 65,536 ports or more, which the 16 bits of PIO cannot hold
  * Where more than one applies the order is 1, 11, 2, 3, 4, 12, then 5, 6 or 7, then 8, then 9, of an MSI pool each tried on all three of its ranges; a
- * text's own refusal comes before the 11 of its pinned text.
+ * text's own refusal comes before the 11 of its pinned text. Of registers it is 11 for too few words, 2, then for each register in its turn 14, 15, 16, 17,
+ * and last 11 for the requests: the first fault decides.
  * Namespaces: 1 MMIO, 2 PIO, 3 input of a controller, 4 host IRQ, 5 an ITS of a controller (device, event), 6 LPI of a controller.
  * Details: 1 address ranges overlap, 2 trigger differs, 3 not shareable, 4 host IRQ taken, 5 device taken, 6 events overlap, 7 LPIs overlap.
  *
  * A refused call changes no table (an MSI pool adds its three ranges or none), and no number of a list: a record is not written; of a
  * plan the records before the refused request stand in front of the results, with 1 or 11 none, and the rest is as it was; of a pinned
- * text no byte is written.
+ * text no byte is written, of registers no request.
  *
  * Lists and pointers
  * ------------------
@@ -78,8 +85,8 @@
  * left alone is proved for callers who lend a whole one; that shorter memory is not even read is what the compiler makes of it, and
  * tested. Null is tested by the helpers below alone.
  *
- * Stack, as measured (docs/SPEED.md): planner_call 5 KB, planner_allocate and planner_plan 24 KB, planner_read and planner_pin less than
- * 1 KB; planner_text and planner_pin_text keep a state and the results of a plan there: give a thread that makes them PLANNER_TEXT_STACK bytes. */
+ * Stack, as measured (docs/SPEED.md): planner_call 5 KB, planner_allocate and planner_plan 24 KB, planner_read, planner_pin and
+ * planner_registers less than 1 KB; planner_text and planner_pin_text keep a state and the results of a plan there: give a thread that makes them PLANNER_TEXT_STACK bytes. */
 #ifndef PLANNER_H
 #define PLANNER_H
 
@@ -99,6 +106,7 @@ extern "C" {
 #define PLANNER_ROW 9u          /* numbers of a row: the table's count, controller, ITS, device, start, end, trigger, sharing, owner */
 #define PLANNER_TEXT 65536u     /* bytes of a text, read or pinned */
 #define PLANNER_FIRST_LPI 8192u /* the least LPI: the Arm GICv3 architecture has none below it */
+#define PLANNER_REGISTERS 6u    /* base address registers of a PCI device, and the most requests that they make */
 
 /* The words of a state: twice seven pool tables, twice seven tables of rows that are held (one of inputs among them), the last answer. Each table is
  * its count and its columns; two 32-bit numbers share a word. */
@@ -167,11 +175,24 @@ uint64_t planner_text(const uint8_t *text, size_t n, uint8_t *out, size_t m);
  * planner_text as these wants got before, provided that each automatic pool range lies inside a fixed one. */
 uint64_t planner_pin_text(const uint8_t *text, size_t n, uint8_t *out, size_t m, uint64_t *answer, size_t k);
 
+/* The automatic requests of a PCI device, in front of `requests`, twelve numbers each, as planner_plan takes them. `words` are those that its base address
+ * registers read after all ones were written (PCI Local Bus Specification), PLANNER_REGISTERS of them, that of index 0 first. It answers with how many
+ * requests it made: 0 to PLANNER_REGISTERS. It needs no state. Where `answer` has room for five numbers it tells them, NUMBER FIRST: five zeros where the
+ * requests were written; a shorter list is left alone. Refused it answers 0, and no number of `requests` changes; else none behind those written.
+ *   - A word of zero is no register, unless it is a high half. Six of them are accepted, and make no request.
+ *   - Bit 0 set: ports. The low two bits are cleared; where the upper 16 bits read zero they are taken as ones.
+ *   - Else memory, whose low four bits are cleared. Bits 2 and 1 say 32-bit (00), or 64-bit (10): the next word is its high half, whatever it holds, and
+ *     no register of its own. Other types are 14, a 64-bit one at the last word 15.
+ * What is left is the mask, of 64 bits for a pair. The size is the mask inverted and one added, the alignment is the size, and the slot is the register's
+ * index, of a pair that of its low word: slots may have holes. 0xFFFFF000 is 4096 bytes of memory, 0xFFFFFF01 is 256 ports. No request made so is
+ * answered with 2 by a plan. */
+uint64_t planner_registers(const uint64_t *words, size_t n, uint64_t requester, uint64_t *requests, size_t m, uint64_t *answer, size_t k);
+
 /* ---- helpers
  *
  * Each answers with the answer's number, and refuses null pointers with 1 (planner_respond: the bytes written, and 0). None takes the library's
- * word alone for an accepted call: the answer, in the state or of a pinned text, is 1 before it, and a library that writes none (one of another
- * build) has refused. */
+ * word alone for an accepted call: the answer, in the state, of a pinned text or of registers, is 1 before it, and a library that writes none (one of
+ * another build) has refused. */
 
 /* Whether memory of so many bytes can be a state: not null, aligned, and of the one size that this header and the library both have. */
 static inline int planner_fits(const void *memory, size_t bytes) {
@@ -282,6 +303,20 @@ static inline uint64_t planner_write_text(const char *text, size_t n, char *out,
     }
     planner_unsay_line(answer);
     return 1;
+}
+
+/* The requests of a PCI device from its registers' words, in front of `requests`, which has room for `most` of them: PLANNER_REGISTERS are never too few.
+ * `count` is how many they are, 0 where it is refused. */
+static inline uint64_t planner_size(const uint64_t words[PLANNER_REGISTERS], uint64_t requester, uint64_t *requests, size_t most, size_t *count) {
+    uint64_t answer[PLANNER_ANSWER];
+    if (count) *count = 0;
+    if (!words || !requests || !count) return 1;
+    if (most > PLANNER_REGISTERS) most = PLANNER_REGISTERS; /* there are no more: 12 times any count may be no size */
+    planner_unsay(answer);
+    uint64_t made = planner_registers(words, PLANNER_REGISTERS, requester, requests, PLANNER_REQUEST * most, answer, PLANNER_ANSWER);
+    if (answer[0] ? made != 0 : made > most) return 1; /* a refusal makes none, and no list has more than it has room for */
+    *count = (size_t)made;
+    return answer[0];
 }
 
 /* Starts: the owners become the reservations, and all grants are forgotten. */

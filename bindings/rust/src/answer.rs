@@ -1,9 +1,10 @@
-//! The five numbers of the last answer, which stand last in a state. They are set to 1 (Malformed) before each call: a library that writes none, such as one
-//! that was built for another size, has then refused.
+//! The five numbers of an answer; those of the last one stand last in a state. They are set to 1 (Malformed) before each call: a library that writes none, such as
+//! one that was built for another size, has then refused.
 
 use crate::{Refusal, ANSWER, WORDS};
 
-const UNSAID: [u64; ANSWER] = [1, 0, 0, 0, 0];
+/// No answer yet.
+pub const UNSAID: [u64; ANSWER] = [1, 0, 0, 0, 0];
 
 pub fn unsay(state: &mut [u64; WORDS]) {
     state[WORDS - ANSWER..].copy_from_slice(&UNSAID);

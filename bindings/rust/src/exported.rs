@@ -46,4 +46,13 @@ extern "C" {
         answer: *mut u64,
         k: usize,
     ) -> u64;
+    pub fn planner_registers(
+        words: *const u64,
+        n: usize,
+        requester: u64,
+        requests: *mut u64,
+        m: usize,
+        answer: *mut u64,
+        k: usize,
+    ) -> u64;
 }

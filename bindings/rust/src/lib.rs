@@ -33,15 +33,17 @@ mod exported;
 mod plan;
 mod raw;
 mod refusal;
+mod registers;
 mod sizes;
 mod texts;
 
 pub use ask::{Choice, DeviceId, EventId, Hold, Lpi, Pool, Request, Use, Want};
 pub use plan::{Granted, Plan, PlanRefusal};
 pub use refusal::Refusal;
+pub use registers::{registers, Registers};
 pub use sizes::{
-    ANSWER, FIRST_LPI, MOST, POOL_ROWS, RECORD, REQUEST, ROWS, STATE_SIZE, TEXT, TEXT_OUTPUT,
-    TEXT_STACK,
+    ANSWER, FIRST_LPI, MOST, POOL_ROWS, RECORD, REGISTERS, REQUEST, ROWS, STATE_SIZE, TEXT,
+    TEXT_OUTPUT, TEXT_STACK,
 };
 pub use texts::{pin_text, text, TextRefusal};
 

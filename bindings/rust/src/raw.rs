@@ -3,7 +3,7 @@
 
 use crate::exported::{
     planner_allocate, planner_call, planner_fresh, planner_pin, planner_pin_text, planner_plan,
-    planner_read, planner_state_size, planner_text,
+    planner_read, planner_registers, planner_state_size, planner_text,
 };
 use crate::{STATE_SIZE, WORDS};
 
@@ -101,6 +101,21 @@ pub fn pin_text(text: &[u8], out: &mut [u8], answer: &mut [u64]) -> u64 {
             text.len(),
             out.as_mut_ptr(),
             out.len(),
+            answer.as_mut_ptr(),
+            answer.len(),
+        )
+    }
+}
+
+#[must_use]
+pub fn registers(words: &[u64], requester: u64, requests: &mut [u64], answer: &mut [u64]) -> u64 {
+    unsafe {
+        planner_registers(
+            words.as_ptr(),
+            words.len(),
+            requester,
+            requests.as_mut_ptr(),
+            requests.len(),
             answer.as_mut_ptr(),
             answer.len(),
         )

@@ -33,6 +33,14 @@ pub enum Refusal {
     Short,
     /// A range of LPIs, pooled or reserved, starts below [`FIRST_LPI`]. No request is refused so.
     BadLpi,
+    /// A register of memory is neither of 32 nor of 64 bits.
+    BadType,
+    /// A register of 64 bits begins at the last word, and has no high half.
+    BadPair,
+    /// The mask of a register is zero, or its ones are not contiguous from the top.
+    BadMask,
+    /// A register asks for more ports than 16 bits can say.
+    PortsTooLarge,
 }
 
 impl Refusal {
@@ -56,6 +64,10 @@ impl Refusal {
             10 => Refusal::BadLine,
             11 => Refusal::Short,
             12 => Refusal::BadLpi,
+            14 => Refusal::BadType,
+            15 => Refusal::BadPair,
+            16 => Refusal::BadMask,
+            17 => Refusal::PortsTooLarge,
             _ => Refusal::Malformed,
         })
     }
@@ -75,6 +87,10 @@ impl Refusal {
             Refusal::BadLine => 10,
             Refusal::Short => 11,
             Refusal::BadLpi => 12,
+            Refusal::BadType => 14,
+            Refusal::BadPair => 15,
+            Refusal::BadMask => 16,
+            Refusal::PortsTooLarge => 17,
         }
     }
 }
@@ -110,6 +126,7 @@ impl fmt::Display for Refusal {
     /// let refusal = Refusal::Conflict { namespace: 4, owner: 9, detail: 4 };
     /// assert_eq!(refusal.to_string(), "owner 9 stands in the way among host IRQs: the host IRQ is taken");
     /// assert_eq!(Refusal::BadLpi.to_string(), "a range of LPIs starts below 8192");
+    /// assert_eq!(Refusal::BadPair.to_string(), "a register of 64 bits begins at the last word");
     /// ```
     fn fmt(&self, f: &mut fmt::Formatter<'_>) -> fmt::Result {
         match *self {
@@ -146,6 +163,12 @@ impl fmt::Display for Refusal {
             Refusal::BadLine => f.write_str("the line cannot be read"),
             Refusal::Short => f.write_str("a list is too short, or a plan too long"),
             Refusal::BadLpi => write!(f, "a range of LPIs starts below {FIRST_LPI}"),
+            Refusal::BadType => f.write_str("a register of memory is neither of 32 nor of 64 bits"),
+            Refusal::BadPair => f.write_str("a register of 64 bits begins at the last word"),
+            Refusal::BadMask => f.write_str(
+                "the mask of a register is zero, or its ones are not contiguous from the top",
+            ),
+            Refusal::PortsTooLarge => f.write_str("a register asks for 65,536 ports or more"),
         }
     }
 }

@@ -13,6 +13,9 @@ pub const MOST: usize = 256;
 /// The least LPI: the Arm GICv3 architecture has none below it.
 pub const FIRST_LPI: u32 = 8192;
 
+/// The base address registers of a PCI device, and the most requests that they make.
+pub const REGISTERS: usize = 6;
+
 /// The numbers of a request.
 pub const REQUEST: usize = 12;
 

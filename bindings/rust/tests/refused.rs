@@ -7,16 +7,18 @@ use std::sync::{
     Mutex,
 };
 use thurgoleo::{
-    pin_text, text, Choice, Hold, Kind, Part, Plan, PlanRefusal, Planner, Pool, Refusal, Request,
-    TextRefusal, Use, Want, STATE_SIZE, TEXT, TEXT_OUTPUT,
+    pin_text, registers, text, Choice, Hold, Kind, Part, Plan, PlanRefusal, Planner, Pool, Refusal,
+    Request, TextRefusal, Use, Want, REGISTERS, REQUEST, STATE_SIZE, TEXT, TEXT_OUTPUT,
 };
 
 static SIZE: AtomicU64 = AtomicU64::new(0);
 static ANSWER: AtomicU64 = AtomicU64::new(0);
 /// Whether an accepted answer is written into the state.
 static WRITES: AtomicBool = AtomicBool::new(false);
-/// What is written as the answer of a pinned text, if anything is.
+/// What is written as the answer of a pinned text or of registers, if anything is.
 static SAID: Mutex<Option<[u64; 5]>> = Mutex::new(None);
+/// What is written as the requests of registers.
+static MADE: Mutex<[u64; REQUEST * REGISTERS]> = Mutex::new([0; REQUEST * REGISTERS]);
 
 fn answer() -> u64 {
     ANSWER.load(SeqCst)
@@ -25,6 +27,13 @@ fn answer() -> u64 {
 fn answer_on(state: *mut u64) -> u64 {
     if WRITES.load(SeqCst) {
         unsafe { state.add(STATE_SIZE / 8 - 5).write_bytes(0, 5) };
+    }
+    answer()
+}
+
+fn answer_told(said: *mut u64) -> u64 {
+    if let Some(five) = *SAID.lock().unwrap() {
+        unsafe { said.copy_from(five.as_ptr(), 5) };
     }
     answer()
 }
@@ -104,10 +113,21 @@ extern "C" fn planner_pin_text(
     said: *mut u64,
     _: usize,
 ) -> u64 {
-    if let Some(five) = *SAID.lock().unwrap() {
-        unsafe { said.copy_from(five.as_ptr(), 5) };
-    }
-    answer()
+    answer_told(said)
+}
+
+#[no_mangle]
+extern "C" fn planner_registers(
+    _: *const u64,
+    _: usize,
+    _: u64,
+    requests: *mut u64,
+    m: usize,
+    said: *mut u64,
+    _: usize,
+) -> u64 {
+    unsafe { requests.copy_from(MADE.lock().unwrap().as_ptr(), m) };
+    answer_told(said)
 }
 
 const IRQ: Request = Request {
@@ -167,6 +187,7 @@ fn whatever_it_answers() {
         }
     }
     nothing_is_pinned();
+    nothing_is_sized();
 }
 
 /// Silence, whatever the count; a count that the text or the buffer cannot have; a refusal that writes; a line that is not there; a number that says nothing.
@@ -210,4 +231,52 @@ fn nothing_is_pinned() {
     };
     let refused = TextRefusal { line: 1, refusal };
     assert_eq!(pin_text(b"\n", &mut out), Err(refused));
+}
+
+/// The wrapper over a library that answers so, with these requests.
+fn sized(said: Option<[u64; 5]>, count: u64, made: &[[u64; 5]]) -> Result<usize, Refusal> {
+    let mut list = MADE.lock().unwrap();
+    *list = [0; REQUEST * REGISTERS];
+    for (place, numbers) in list.chunks_mut(REQUEST).zip(made) {
+        place[..5].copy_from_slice(numbers);
+    }
+    drop(list);
+    *SAID.lock().unwrap() = said;
+    ANSWER.store(count, SeqCst);
+    registers([0xFFFF_F000; REGISTERS], 7).map(|made| made.iter().count())
+}
+
+/// Silence, whatever the count; more than there are registers; requests of a refused device; what is no request for memory or ports, or one that its types cannot
+/// say; two of one register, one of none; a number that says nothing.
+fn nothing_is_sized() {
+    let malformed = Err(Refusal::Malformed);
+    let (memory, ports) = ([1, 7, 0, 64, 64], [2, 7, 5, 8, 8]);
+    let (written, refused) = (Some([0; 5]), Some([16, 0, 0, 0, 0]));
+    for count in [0, 1, 6, 7, u64::MAX] {
+        assert_eq!(sized(None, count, &[memory; 6]), malformed);
+    }
+    for (said, count, made) in [
+        (written, 1, [0; 5]),
+        (written, 3, memory),
+        (written, 7, memory),
+        (written, u64::MAX, memory),
+        (written, 1, [3, 7, 0, 64, 64]),
+        (written, 1, [2, 7, 0, 65536, 65536]),
+        (written, 1, [1, 7 | 1 << 32, 0, 64, 64]),
+        (written, 1, [1, 7, 1 << 32, 64, 64]),
+        (written, 1, [1, 7, 6, 64, 64]),
+        (written, 2, memory),
+        (refused, 1, memory),
+        (Some([18, 0, 0, 0, 0]), 0, memory),
+    ] {
+        assert_eq!(
+            sized(said, count, &[made; 2]),
+            malformed,
+            "{said:?} {made:?}"
+        );
+    }
+    // what can be so is heard
+    assert_eq!(sized(written, 0, &[memory]), Ok(0));
+    assert_eq!(sized(written, 2, &[memory, ports]), Ok(2));
+    assert_eq!(sized(refused, 0, &[memory]), Err(Refusal::BadMask));
 }

@@ -1,4 +1,4 @@
-//! Requests, plans, calls that add or start, and reading back on a stack of 64 KB, as a hypervisor's thread has it: through the C face the same answers, records and states as on a
+//! Requests, plans, calls that add or start, reading back, and registers on a stack of 64 KB, as a hypervisor's thread has it: through the C face the same answers, records and states as on a
 //! large one; through the wrapper what it grants. A text, answered and pinned, on the stack that is said to be enough for it.
 
 mod common;
@@ -8,7 +8,8 @@ use common::{
     planner_plan, planner_read, planner_text, stand,
 };
 use thurgoleo::{
-    Plan, MOST, POOL_ROWS, RECORD, REQUEST, STATE_SIZE, TEXT, TEXT_OUTPUT, TEXT_STACK,
+    registers, Plan, Refusal, MOST, POOL_ROWS, RECORD, REQUEST, STATE_SIZE, TEXT, TEXT_OUTPUT,
+    TEXT_STACK,
 };
 
 const SMALL: usize = 64 << 10;
@@ -193,6 +194,15 @@ fn the_answer_and_every_table_read_back() {
     assert_eq!(same(read, &state, &[4, 1, 0], 8).0, 11);
     assert_eq!(same(read, &state, &[4, 1], 9).0, 11);
     assert_eq!(same(read, &state, &[], 9).0, 11);
+}
+
+#[test]
+fn registers_of_every_sort() {
+    on_stack(SMALL, || {
+        let made = registers([0xFFFF_F000, 0, 4, u32::MAX, 0xFFFF_FF01, u32::MAX], 7).unwrap();
+        assert_eq!(made.iter().count(), 4);
+        assert_eq!(registers([8; 6], 7), Err(Refusal::BadMask));
+    });
 }
 
 /// Pools, a reservation and as many wants as a plan has, half of them for message interrupts: a device and two LPIs each.

@@ -31,7 +31,7 @@ leastOf p (x ∷ xs) = let rest : Option ℕ = leastOf p xs in elim (p x) [ true
 
 -- ---- refusals and answers
 pub data Refusal : Type 0 where  -- what stands behind a name is what it names: an owner, a namespace, a detail
-  malformed badInput badOwner emptyRange full badLine short badLpi : Refusal
+  malformed badInput badOwner emptyRange full badLine short badLpi badType badPair badMask portsTooLarge : Refusal
   reserved : ℕ → Refusal  -- the owner
   fixedNotAllowed exhausted : ℕ → Refusal  -- the namespace
   conflict : ℕ → ℕ → ℕ → Refusal  -- namespace, owner, detail
@@ -62,6 +62,10 @@ tell i full = says i 9 0 0 0
 tell i badLine = says i 10 0 0 0
 tell i short = says i 11 0 0 0
 tell i badLpi = says i 12 0 0 0
+tell i badType = says i 14 0 0 0
+tell i badPair = says i 15 0 0 0
+tell i badMask = says i 16 0 0 0
+tell i portsTooLarge = says i 17 0 0 0
 
 pub data Answer (A : Type 0) : Type 0 where
   accepted : A → Answer A

@@ -4,6 +4,7 @@ pub mod Pools
 pub mod Request
 pub mod Calls
 pub mod Plan
+pub mod Registers
 pub mod Cut
 pub mod BaseLaws
 pub mod SearchLaws
@@ -33,5 +34,10 @@ pub mod IntoLaws
 pub mod IntoPlanLaws
 pub mod ReadLaws
 pub mod ReadRowsLaws
+pub mod MaskLaws
+pub mod AskedLaws
+pub mod RegisterLaws
+pub mod RegisterWordLaws
 pub mod Cases
+pub mod RegisterCases
 pub mod Example

@@ -9,7 +9,7 @@ use lib.ListN.{length, take, length-map, length-take}
 use lib.Dec.{T, leb, leb→le, le→leb}
 use Rattle.definition.specs.BaseLaws.{and-l, and-r, and-i, either}
 use Rattle.definition.specs.Tables.{planLimit, recordSize, Kind, kinds}
-use Rattle.definition.specs.Base.{Refusal, malformed, badInput, badOwner, emptyRange, full, badLine, short, badLpi, reserved, fixedNotAllowed, exhausted, conflict, Said, says, silence, tell, Answer, accepted, refused, require, _then_}
+use Rattle.definition.specs.Base.{Refusal, malformed, badInput, badOwner, emptyRange, full, badLine, short, badLpi, badType, badPair, badMask, portsTooLarge, reserved, fixedNotAllowed, exhausted, conflict, Said, says, silence, tell, Answer, accepted, refused, require, _then_}
 use Rattle.definition.specs.Pools.{Claim, rowsOf, _⊕_, Hold, heldRows, reserve}
 use Rattle.definition.specs.Request.{Request, resolve}
 use Rattle.definition.specs.Calls.{State, state, poolsOf, heldOf, ownersOf, given, sound, saying, pushAll, holding, granting, starting, hold, start, want, settle, serve}
@@ -34,6 +34,10 @@ tell-number i full e = omega arith
 tell-number i badLine e = omega arith
 tell-number i short e = omega arith
 tell-number i badLpi e = omega arith
+tell-number i badType e = omega arith
+tell-number i badPair e = omega arith
+tell-number i badMask e = omega arith
+tell-number i portsTooLarge e = omega arith
 tell-number i (reserved o) e = omega arith
 tell-number i (fixedNotAllowed s) e = omega arith
 tell-number i (exhausted s) e = omega arith
@@ -49,6 +53,10 @@ told-at i full = refl
 told-at i badLine = refl
 told-at i short = refl
 told-at i badLpi = refl
+told-at i badType = refl
+told-at i badPair = refl
+told-at i badMask = refl
+told-at i portsTooLarge = refl
 told-at i (reserved o) = refl
 told-at i (fixedNotAllowed s) = refl
 told-at i (exhausted s) = refl

@@ -154,7 +154,7 @@ module _ (P : Pools) (n : Need) (bounded : Bounded P (n .kind)) (makes : Makes n
 
 -- ---- the needs of good requests make good rows
 
-ones-zero : (w : ℕ) → onesIn w 0 ≡ 0
+pub ones-zero : (w : ℕ) → onesIn w 0 ≡ 0
 unfolding onesIn
 ones-zero zero = refl
 ones-zero (suc w) = zero-add (onesIn w 0) ∙ ones-zero w

@@ -1,6 +1,6 @@
 -- What an exported call leaves and answers, by the size of the state that it is lent. Assumes nothing.
 use mathlib.Core.Bool.{true, false}
-use mathlib.Core.List.{List}
+use mathlib.Core.List.{List, [], _∷_}
 use Prim.Native.Nat.{ℕ, _+_, _*_, _-_}
 use lib.Dec.{eqb}
 use lib.ListN.{length}
@@ -9,6 +9,7 @@ use Rattle.definition.specs.Calls.{State as Given}
 use Rattle.definition.specs.Plan.{Lent, lent}
 use Rattle.tables.specs.Whole.{freshState}
 use Rattle.tables.specs.declared.State.{State}
+use Rattle.registers.specs.Sizing.{Sized}
 use Rattle.text.specs.Respond.{Replied}
 use Rattle.numbers.specs.Lent.{filledIn}
 use Rattle.lines.specs.Back.{Pinned}
@@ -87,3 +88,15 @@ textPinned n out five = record { bytes = n; buffer = out; answer = five }
 
 abbrev pub pinTold : Pinned → List ℕ → TextPinned
 pinTold pinned five = textPinned (pinned .bytes) (pinned .buffer) (fiveTold (pinned .answer) five .out)
+
+-- sizing a device answers with how many requests it has written; its answer names nothing but its number
+pub record DeviceSized : Type 0 where
+  pub count : ℕ
+  pub requests : List ℕ
+  pub answer : List ℕ
+
+abbrev pub deviceSized : ℕ → List ℕ → List ℕ → DeviceSized
+deviceSized n requests five = record { count = n; requests = requests; answer = five }
+
+abbrev pub sizeTold : Sized → List ℕ → DeviceSized
+sizeTold s five = deviceSized (s .count) (s .list) (fiveTold (s .number ∷ 0 ∷ 0 ∷ 0 ∷ 0 ∷ []) five .out)

@@ -7,6 +7,7 @@ use numbers::back::tell_read;
 use numbers::back::which;
 use numbers::row::row;
 use numbers::tell_five;
+use registers::registers;
 use tables::POOL_ROWS;
 use tables::ROWS;
 use tables::State;
@@ -21,9 +22,10 @@ ghost use Rattle.flat.specs.Flat.{flatPlan, flatAllocate};
 ghost use Rattle.numbers.specs.Rows.{told};
 ghost use Rattle.numbers.specs.Lent.{callTold, readTold, filledBy};
 ghost use Rattle.flat.specs.Pin.{pinnedNumbers};
+ghost use Rattle.registers.specs.Sizing.{registersInto};
 ghost use Rattle.text.specs.Respond.{respondsTo};
 ghost use Rattle.lines.specs.Back.{pinsTo};
-ghost use Rattle.export.specs.Export.{stateSize, begun, sizedFresh, answered, sized, numbered, counted, sizedRead, bytesTold, textPinned, pinTold};
+ghost use Rattle.export.specs.Export.{stateSize, begun, sizedFresh, answered, sized, numbered, counted, sizedRead, bytesTold, textPinned, pinTold, deviceSized, sizeTold};
 
 // The bytes of a table: its count, and its rows, column by column. (Were ROWS odd, columns would be padded: `size-is` then refuses these numbers.)
 const POOL: usize = 8 + POOL_ROWS * (4 + 4 + 8 + 8);
@@ -156,4 +158,20 @@ pub extern "C" fn planner_pin_text(text: &[u8], out: &mut [u8], answer: &mut [u6
     let w = pin_text(text, out);
     let _room = tell_five(w.line, w.number, w.namespace, w.owner, w.detail, answer);
     w.length as u64
+}
+
+// A PCI device's requests, from the words read from its six base address registers after all ones were written: twelve numbers each, in front of `requests`. It answers
+// with how many requests there are; the answer's five numbers are told where `answer` has room for them.
+#[no_mangle]
+pub extern "C" fn planner_registers(
+    words: &[u64],
+    requester: u64,
+    requests: &mut [u64],
+    answer: &mut [u64],
+) -> u64
+    ensures { λ r. ⌜ deviceSized r (now (requests .exit)) (now (answer .exit)) ≡ sizeTold (registersInto (now (words .entry)) requester (now (requests .entry))) (now (answer .entry)) ⌝ }
+{
+    let s = registers(words, requester, requests);
+    let _room = tell_five(s.number, 0, 0, 0, 0, answer);
+    s.count as u64
 }

@@ -1,3 +1,4 @@
+pub mod CopyLaws
 pub mod PinLaws
 pub mod NarrowLaws
 pub mod ChoiceLaws
@@ -5,3 +6,4 @@ pub mod BackLaws
 pub mod FormLaws
 pub mod FlatLaws
 pub mod StoreLaws
+pub mod NumbersLaws

@@ -1,6 +1,6 @@
 -- Requests as plain numbers, twelve a request, and a plan of them. Assumes nothing.
 use mathlib.Core.Bool.{Bool, true, false, _&&_}
-use mathlib.Core.List.{List, [], _∷_}
+use mathlib.Core.List.{List, [], _∷_, _++_}
 use Prim.Native.Nat.{ℕ, zero, suc, _+_, _*_, _/_}
 use lib.Dec.{leb, eqb}
 use lib.ListN.{length, getD}
@@ -77,6 +77,30 @@ unfoldable pub requestIn : (kind requester slot a b c x n y m z l : ℕ) → Req
 requestIn kind requester slot a b c x n y m z l =
     orBad (fits requester && (fits slot && readable (formAt kind) a b c x n y m z l))
     record { requester = requester; slot = slot; want = wantAt (formAt kind) a b c (choiceAt x n) (choiceAt y m) (choiceAt z l) }
+
+-- ---- one request as its twelve numbers: what its kind does not use, and what an automatic choice leaves open, is 0
+
+abbrev pub codeOf : Choice → ℕ
+codeOf auto = 0
+codeOf (at n) = 1
+
+abbrev pub numberIn : Choice → ℕ
+numberIn auto = 0
+numberIn (at n) = n
+
+abbrev pub numbersOfWant : ℕ → ℕ → Want → List ℕ
+numbersOfWant q slot (mmioWant size a c) = 1 ∷ q ∷ slot ∷ size ∷ a ∷ 0 ∷ codeOf c ∷ numberIn c ∷ 0 ∷ 0 ∷ 0 ∷ 0 ∷ []
+numbersOfWant q slot (pioWant size a c) = 2 ∷ q ∷ slot ∷ size ∷ a ∷ 0 ∷ codeOf c ∷ numberIn c ∷ 0 ∷ 0 ∷ 0 ∷ 0 ∷ []
+numbersOfWant q slot (inputWant k t s c) = 3 ∷ q ∷ slot ∷ k ∷ t ∷ s ∷ codeOf c ∷ numberIn c ∷ 0 ∷ 0 ∷ 0 ∷ 0 ∷ []
+numbersOfWant q slot (hostWant c) = 4 ∷ q ∷ slot ∷ 0 ∷ 0 ∷ 0 ∷ codeOf c ∷ numberIn c ∷ 0 ∷ 0 ∷ 0 ∷ 0 ∷ []
+numbersOfWant q slot (msiWant k i n d e l) = 5 ∷ q ∷ slot ∷ k ∷ i ∷ n ∷ codeOf d ∷ numberIn d ∷ codeOf e ∷ numberIn e ∷ codeOf l ∷ numberIn l ∷ []
+
+unfoldable pub numbersOf : Request → List ℕ
+numbersOf r = numbersOfWant (r .requester) (r .slot) (r .want)
+
+unfoldable pub numbersOfAll : List Request → List ℕ
+numbersOfAll [] = []
+numbersOfAll (r ∷ rs) = numbersOf r ++ numbersOfAll rs
 
 -- ---- a list of them
 

@@ -18,6 +18,7 @@ ghost use Rattle.choose.specs.Ids.{deviceChoice, eventChoice, lpiChoice};
 ghost use Rattle.request.specs.Asked.{wantOf, requestOf};
 ghost use Rattle.flat.specs.Flat.{requestSize, choiceAt, named, allFit, input, msi, formAt, readable, wantAt, bad, requestIn, requestAt};
 
+pub mod copy;
 pub mod pin;
 
 // The numbers of one request.

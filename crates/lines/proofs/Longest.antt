@@ -22,7 +22,7 @@ use Rattle.lines.proofs.DigitLaws.{digits-length}
 
 -- ---- a line
 
-behind-length : (xs : List ℕ) → length (behind (map digits xs)) ≤ length xs * field
+pub behind-length : (xs : List ℕ) → length (behind (map digits xs)) ≤ length xs * field
 unfolding behind
 behind-length [] = omega arith
 behind-length (x ∷ xs) = omega (arith, length-append (digits x) (behind (map digits xs)), digits-length x, behind-length xs)

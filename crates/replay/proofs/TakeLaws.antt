@@ -9,26 +9,6 @@ use Rattle.definition.specs.Plan.{written}
 use Rattle.flat.specs.Flat.{requestSize}
 use Rattle.replay.specs.Again.{block, blocks, taken}
 
--- ---- one number after another
-
-pub copied-start : (other w : List ℕ) (to : ℕ) → sets other (to + 0) (drop 0 w) ≡ sets other to w
-copied-start other w to = let e : to + 0 ≡ to = omega arith in ap (λ (i : ℕ). sets other i w) e
-
-pub copied-on : (list other : List ℕ) (from n to k : ℕ) → k < n → from + n ≤ length list
-    → sets (set other (to + k) (getD list (from + k) 0)) (to + (k + 1)) (drop (k + 1) (take n (drop from list))) ≡ sets other (to + k) (drop k (take n (drop from list)))
-copied-on list other from n to k l h =
-    let w : List ℕ = take n (drop from list) in
-    let long : length w ≡ n = omega (arith, length-take n (drop from list), length-drop from list) in
-    let e : getD w k 0 ≡ getD list (from + k) 0 = getD-take n (drop from list) k 0 l ∙ getD-drop from list k 0 in
-    let f : to + (k + 1) ≡ suc (to + k) = omega arith in
-    let g : k + 1 ≡ suc k = omega arith in
-    sym (ap (sets other (to + k)) (drop-cons w k 0 (omega arith)) ∙ (λ i. sets (set other (to + k) (e i)) (sym f i) (drop (sym g i) w)))
-
-pub copied-all : (other w : List ℕ) (n i : ℕ) → length w ≤ n → sets other i (drop n w) ≡ other
-copied-all other w n i l = ap (sets other i) (drop-of-length-le w l)
-
--- ---- one line after another
-
 sets-append : (l : List ℕ) (i : ℕ) (a b : List ℕ) → sets l i (a ++ b) ≡ sets (sets l i a) (i + length a) b
 sets-append l i [] b = let e : i + 0 ≡ i = omega arith in ap (λ (j : ℕ). sets l j b) (sym e)
 sets-append l i (x ∷ a) b =

@@ -1,10 +1,10 @@
 // Some of a list's lines taken, in any order.
 use flat::REQUEST;
+use flat::copy::copy;
 use flat::pin::lesser;
 ghost use mathlib.Core.Path.{_≡_};
-ghost use Prim.Native.Nat.{_+_, _*_, _≤_, min};
-ghost use lib.ListN.{length, take, drop};
-ghost use lib.Seq.{sets};
+ghost use Prim.Native.Nat.{_*_, min};
+ghost use lib.ListN.{length};
 ghost use Rattle.definition.specs.Plan.{written};
 ghost use Rattle.flat.specs.Flat.{requestSize};
 ghost use Rattle.replay.specs.Again.{taken};
@@ -17,18 +17,6 @@ pub fn begins(i: u64, long: usize) -> usize
         return REQUEST * i as usize;
     }
     long
-}
-
-// So many numbers of a list put into another.
-pub fn copy(list: &[u64], from: usize, n: usize, other: &mut [u64], to: usize)
-    requires { ⌜ (from + n ≤ length (now list)) × (to + n ≤ length (now other)) ⌝ }
-    ensures { λ _. ⌜ now (other .exit) ≡ sets (now (other .entry)) to (take n (drop from (now (list .entry)))) ⌝ }
-{
-    let mut k: usize = 0;
-    while k < n {
-        other[to + k] = list[from + k];
-        k += 1;
-    }
 }
 
 // The lines of these indices, in this order, put in front as far as there is room, and how many numbers they are. An index past the last line takes nothing.

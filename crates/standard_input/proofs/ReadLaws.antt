@@ -1,4 +1,4 @@
--- Why reading stops; and the bytes read decide what is printed, though no more of an input is read than one byte past the longest text. Assumes nothing.
+-- Why reading stops; and the bytes read decide what is printed, though no more of an input is read than one byte past the longest that is answered. Assumes nothing.
 use mathlib.Core.Path.{_≡_, refl, sym, subst, ap, _∙_}
 use mathlib.Core.Bool.{Bool, true, false}
 use mathlib.Core.List.{List}
@@ -13,7 +13,6 @@ use mir.ValLaws.{toZ-ofZ}
 use lib.ListN.{length, take}
 use lib.Seq.{take-all, length-take-le}
 use borrow.Author.Tests.{ltb-true, leb-true, leb-false}
-use Rattle.lines.specs.Base.{textLimit}
 use Rattle.io.specs.Counts.{clamped}
 use Rattle.standard_input.specs.Reads.{Stopped, ReadOf, Prints}
 
@@ -38,15 +37,15 @@ within long n (negsuc k) s = s
 pub read-back : (z : ℤ) → SFits w64 z → (b : Bool) → ltZ (toZ w64 (ofZ w64 z)) (pos 0) ≡ b → ltZ z (pos 0) ≡ b
 read-back z f b e = ap (λ (y : ℤ). ltZ y (pos 0)) (sym (toZ-ofZ w64 z f)) ∙ e
 
--- ---- what is printed: f answers more than the longest text as it answers the whole input
+-- ---- what is printed: f answers more bytes than its limit as it answers the whole input
 
-module _ (f : List ℕ → List ℕ) (cut : (n : ℕ) (text : List ℕ) → textLimit < n → f (take n text) ≡ f text) where
-  read-decides : (buf input : List ℕ) (n k : ℕ) → textLimit < length buf → Stopped (length buf) n (pos k) → ReadOf input (take n buf) (pos k) → f (take n buf) ≡ f input
+module _ {limit : ℕ} (f : List ℕ → List ℕ) (cut : (n : ℕ) (text : List ℕ) → limit < n → f (take n text) ≡ f text) where
+  read-decides : (buf input : List ℕ) (n k : ℕ) → limit < length buf → Stopped (length buf) n (pos k) → ReadOf input (take n buf) (pos k) → f (take n buf) ≡ f input
   read-decides buf input n zero l s r = ap f (r .front ∙ take-all (length (take n buf)) input (r .end refl))
   read-decides buf input n (suc k) l s r = ap f (r .front) ∙ cut (length (take n buf)) input (omega (arith, s, length-take-le n buf (omega (arith, s))))
 
   -- no read failed
-  pub prints-front : (buf out : List ℕ) (n e : ℕ) (last : ℤ) → ltZ last (pos 0) ≡ false → textLimit < length buf → Stopped (length buf) n last → e ≤ length out
+  pub prints-front : (buf out : List ℕ) (n e : ℕ) (last : ℤ) → ltZ last (pos 0) ≡ false → limit < length buf → Stopped (length buf) n last → e ≤ length out
       → take e out ≡ f (take n buf) → Prints f (take n buf) last e out
   prints-front buf out n e (pos k) z l s inside is = record { inside = inside; prints = λ input r. is ∙ read-decides buf input n k l s r }
   prints-front buf out n e (negsuc k) z l s inside is = absurd (subst T z tt)

@@ -1,55 +1,34 @@
 -- Laws of the `got` lines of several records: one after the other, and none but their own numbers are read. Assumes nothing.
 use mathlib.Core.Path.{_≡_, refl, sym, ap, _∙_}
-use mathlib.Core.List.{List, _++_, append-assoc, append-nil}
-use Prim.Native.Nat.{ℕ, zero, suc, _+_, _-_, _*_, _≤_, _<_}
+use mathlib.Core.List.{List, [], _++_}
+use Prim.Native.Nat.{ℕ, zero, suc, _+_, _*_, _≤_, _<_}
 use native.Mathlib.Omega.{arith}
-use lib.ListN.{length, take, drop, getD, length-append, length-take, length-drop, take-append-drop, List·getD-append}
-use lib.Seq.{drop-drop, take-append-le, drop-append-le, take-all}
+use lib.ListN.{length, take, drop, getD, length-take, length-drop, take-append-drop, List·getD-append}
+use lib.Seq.{take-append-le, drop-append-le}
 use Rattle.definition.specs.Tables.{recordSize}
 use Rattle.lines.specs.Output.{carriedBy, gotLine, gotLines}
 use Rattle.writers.specs.Put.{Put}
-use Rattle.writers.proofs.PutLaws.{put-then, carried-few}
+use Rattle.writers.proofs.PutLaws.{carried-few}
+use Rattle.writers.proofs.EachLaws.{lines-none, lines-room, lines-turn}
 
 -- ---- one after the other
 
-pub gots-part : (i k : ℕ) (rs : List ℕ) → gotLines (i + k) rs ≡ gotLines i rs ++ gotLines k (drop (recordSize * i) rs)
+none : (rs : List ℕ) → gotLines 0 rs ≡ []
 unfolding gotLines
-gots-part zero k rs = let e : 0 + k ≡ k = omega arith in ap (λ (j : ℕ). gotLines j rs) e
-gots-part (suc i) k rs =
-    let e : suc i + k ≡ suc (i + k) = omega arith in
-    let d : recordSize + recordSize * i ≡ recordSize * suc i = omega arith in
-    ap (λ (j : ℕ). gotLines j rs) e
-    ∙ ap (λ (b : List ℕ). gotLine rs ++ b) (gots-part i k (drop recordSize rs))
-    ∙ sym (append-assoc (gotLine rs) (gotLines i (drop recordSize rs)) (gotLines k (drop (recordSize * i) (drop recordSize rs))))
-    ∙ ap (λ (l : List ℕ). (gotLine rs ++ gotLines i (drop recordSize rs)) ++ gotLines k l) (drop-drop (recordSize * i) recordSize rs ∙ ap (λ (j : ℕ). drop j rs) d)
+none rs = refl
 
-gots-more : (i : ℕ) (rs : List ℕ) → gotLines (i + 1) rs ≡ gotLines i rs ++ gotLine (drop (recordSize * i) rs)
+next : (n : ℕ) (rs : List ℕ) → gotLines (suc n) rs ≡ gotLine rs ++ gotLines n (drop recordSize rs)
 unfolding gotLines
-gots-more i rs = gots-part i 1 rs ∙ ap (λ (b : List ℕ). gotLines i rs ++ b) (append-nil (gotLine (drop (recordSize * i) rs)))
-
--- a list from k on, as the code lends it
-pub rest-is : (rs : List ℕ) (k : ℕ) → take (length rs - k) (drop k rs) ≡ drop k rs
-rest-is rs k = take-all (length rs - k) (drop k rs) (omega (arith, length-drop k rs))
+next n rs = refl
 
 pub gots-none : (out rs : List ℕ) → Put out 0 (gotLines 0 rs) 0 out
-unfolding gotLines
-gots-none out rs = (refl, refl)
+gots-none = lines-none gotLine recordSize gotLines none next
 
--- the room of one more of n
 pub gots-room : (n i : ℕ) (rs : List ℕ) → i < n → length (gotLines i rs) + length (gotLine (drop (recordSize * i) rs)) ≤ length (gotLines n rs)
-gots-room n i rs l =
-    let e : i + 1 + (n - (i + 1)) ≡ n = omega arith in
-    omega (
-      arith,
-      ap (λ (j : ℕ). length (gotLines j rs)) (sym e),
-      ap length (gots-part (i + 1) (n - (i + 1)) rs),
-      length-append (gotLines (i + 1) rs) (gotLines (n - (i + 1)) (drop (recordSize * (i + 1)) rs)),
-      ap length (gots-more i rs),
-      length-append (gotLines i rs) (gotLine (drop (recordSize * i) rs)),
-    )
+gots-room = lines-room gotLine recordSize gotLines none next
 
-pub gots-turn : (out : List ℕ) (rs : List ℕ) (i e f : ℕ) (o₁ o₂ : List ℕ) → Put out 0 (gotLines i rs) e o₁ → Put o₁ e (gotLine (drop (recordSize * i) rs)) f o₂ → Put out 0 (gotLines (i + 1) rs) f o₂
-gots-turn out rs i e f o₁ o₂ a b = rw (gots-more i rs) (put-then out 0 (gotLines i rs) e o₁ a (gotLine (drop (recordSize * i) rs)) f o₂ b)
+pub gots-turn : (out rs : List ℕ) (i e f : ℕ) (o₁ o₂ : List ℕ) → Put out 0 (gotLines i rs) e o₁ → Put o₁ e (gotLine (drop (recordSize * i) rs)) f o₂ → Put out 0 (gotLines (i + 1) rs) f o₂
+gots-turn = lines-turn gotLine recordSize gotLines none next
 
 -- ---- what stands behind the records is not read
 

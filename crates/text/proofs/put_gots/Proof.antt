@@ -8,7 +8,8 @@ use Rattle.definition.specs.Tables.{recordSize}
 use Rattle.lines.specs.Output.{gotLine, gotLines}
 use Rattle.writers.specs.Put.{Put}
 use Rattle.writers.proofs.PutLaws.{put-length}
-use Rattle.text.proofs.GotLaws.{rest-is, gots-none, gots-room, gots-turn}
+use Rattle.writers.proofs.EachLaws.{rest-is}
+use Rattle.text.proofs.GotLaws.{gots-none, gots-room, gots-turn}
 use Rattle.text.proofs.put_gots.Statement.{statement}
 use Rattle.text.proofs.put_gots.Tie as tie
 

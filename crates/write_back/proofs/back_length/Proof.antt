@@ -6,7 +6,7 @@ use mathlib.Core.List.{List, []}
 use Prim.Native.Nat.{ℕ, _≤_, _-_}
 use lib.ListN.{length}
 use Rattle.lines.specs.Place.{endAt}
-use Rattle.text.proofs.GotLaws.{rest-is}
+use Rattle.writers.proofs.EachLaws.{rest-is}
 use Rattle.write_back.proofs.WalkLaws.{Walked, walk-starts, walk-ends, walk-turn}
 use Rattle.write_back.proofs.back_length.Statement.{statement}
 use Rattle.write_back.proofs.back_length.Tie as tie

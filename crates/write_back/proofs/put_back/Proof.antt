@@ -8,7 +8,7 @@ use lib.ListN.{length}
 use Rattle.lines.specs.Place.{endAt}
 use Rattle.writers.specs.Put.{Put}
 use Rattle.writers.proofs.PutLaws.{put-length}
-use Rattle.text.proofs.GotLaws.{rest-is}
+use Rattle.writers.proofs.EachLaws.{rest-is}
 use Rattle.write_back.proofs.WalkLaws.{Walked, walk-starts, walk-ends, walk-turn}
 use Rattle.write_back.proofs.put_back.Statement.{statement}
 use Rattle.write_back.proofs.put_back.Tie as tie

@@ -1,13 +1,13 @@
 -- What is left to copy equals the whole. Assumes nothing.
 use mathlib.Core.Path.{_≡_, refl, sym, _∙_}
-use Rattle.replay.proofs.TakeLaws.{copied-start, copied-on, copied-all}
+use Rattle.flat.proofs.CopyLaws.{copied-start, copied-on, copied-all}
 use borrow.Author.Needs.{needs}
 use Prim.Native.Nat.{_≤_, _+_, _-_}
 use native.Mathlib.Omega.{arith}
 use lib.ListN.{length, take, drop, length-take}
 use lib.Seq.{sets}
-use Rattle.replay.proofs.take.copy.Statement.{statement}
-use Rattle.replay.proofs.take.copy.Tie as tie
+use Rattle.flat.proofs.copy.copy.Statement.{statement}
+use Rattle.flat.proofs.copy.copy.Tie as tie
 
 abbrev Inv-loop : tie.InvT-loop
 Inv-loop list from n other₀ to k₀ other k = (k ≤ n) × (length other ≡ length other₀) × (sets other (to + k) (drop k (take n (drop from list))) ≡ sets other₀ to (take n (drop from list)))

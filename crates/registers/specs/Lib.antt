@@ -1,0 +1,3 @@
+pub mod Told
+pub mod Sizing
+pub mod Gathered

@@ -1,0 +1,6 @@
+pub mod WordLaws
+pub mod LineLaws
+pub mod WantLaws
+pub mod FairLaws
+pub mod CapLaws
+pub mod SizeLaws

@@ -1,0 +1,4 @@
+pub mod Words
+pub mod Sizes
+pub mod Examples
+pub mod Code
