@@ -38,6 +38,7 @@ pub mod MaskLaws
 pub mod AskedLaws
 pub mod RegisterLaws
 pub mod RegisterWordLaws
+pub mod RegisterFairLaws
 pub mod Cases
 pub mod RegisterCases
 pub mod Example

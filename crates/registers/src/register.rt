@@ -99,7 +99,17 @@ pub fn port_mask(w: u32) -> u32
     w - w % 4
 }
 
-// Ports, whose size must fit their 16 bits.
+// Ports are as many as 16 bits hold.
+pub fn sized_ports(n: u64) -> Asked
+    ensures { λ r. ⌜ askedOf r ≡ portsWant n ⌝ }
+{
+    if 65535 < n {
+        return Asked::Refused(Fault::PortsTooLarge);
+    }
+    Asked::Ports(n)
+}
+
+// Ports.
 pub fn asked_ports(w: u32) -> Asked
     ensures { λ r. ⌜ askedOf r ≡ (sizeOf 32 (portMask w) then portsWant) ⌝ }
 {
@@ -107,11 +117,7 @@ pub fn asked_ports(w: u32) -> Asked
     if !good_mask_32(m) {
         return Asked::Refused(Fault::BadMask);
     }
-    let n = size_32(m) as u64;
-    if 65535 < n {
-        return Asked::Refused(Fault::PortsTooLarge);
-    }
-    Asked::Ports(n)
+    sized_ports(size_32(m) as u64)
 }
 
 // Memory of one word.

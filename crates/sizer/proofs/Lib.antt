@@ -1,6 +1,5 @@
 pub mod WordLaws
 pub mod LineLaws
 pub mod WantLaws
-pub mod FairLaws
 pub mod CapLaws
 pub mod SizeLaws

@@ -16,6 +16,7 @@ use Rattle.definition.specs.Calls.{want}
 use Rattle.definition.specs.Plan.{written}
 use Rattle.definition.specs.Registers.{registerCount, registers}
 use Rattle.definition.specs.RegisterLaws.{registers-says}
+use Rattle.definition.specs.RegisterFairLaws.{Ranges, end, mmio, pio, Fair, registers-fair}
 use Rattle.flat.specs.Flat.{requestSize, numbersOf, numbersOfAll}
 use Rattle.lines.specs.declared.form.Row.{Row}
 use Rattle.lines.specs.Base.{bytes, tab, newline, split, _andThen_}
@@ -34,7 +35,6 @@ use Rattle.sizer.specs.Sizes.{sizesOf, wantLines, answerLines, sizesOutp
 use Rattle.sizer.specs.Code.{cappedWord, askLine, askLines, sizesLimit}
 use Rattle.sizer.proofs.LineLaws.{line-long}
 use Rattle.sizer.proofs.WantLaws.{ask-length}
-use Rattle.sizer.proofs.FairLaws.{Ranges, end, mmio, pio, Fair, registers-fair}
 use Rattle.sizer.proofs.CapLaws.{sizes-capped}
 
 -- ---- the lines of requests, from their numbers
@@ -180,13 +180,13 @@ module _ (text : List ℕ) (r : Row) (is : r ≡ rowOf (lineBy cappedWord text))
   pub no-line : r .good ≡ false → sizesOutput text ≡ noLine 0 (says 0 10 0 0 0)
   no-line g = output-is ∙ ap answerLines (bad-by (lineBy cappedWord text) r is g)
 
-  module _ (g : r .good ≡ true) (number count : ℕ) (list : List ℕ) (s : sized number count list ≡ registersInto (r .n) (getD (r .n) registerCount 0) (replicate 72 0)) where
+  module _ (g : r .good ≡ true) (number count : ℕ) (list : List ℕ) (s : sized number count list ≡ registersInto (r .n) (getD (r .n) registerCount 0) (replicate (registerCount * requestSize) 0)) where
     answered : Outcome (sizesOf (lineBy cappedWord text)) number count list
     unfolding registersInto
     answered =
         let (l, a) = good-by (lineBy cappedWord text) r (line-count cappedWord text) is g in
-        outcome (sizesOf (lineBy cappedWord text)) (replicate 72 0) list number count (sizes-fair (lineBy cappedWord text)) (sizes-few (lineBy cappedWord text))
-        (s ∙ rw (registersInto, le-leb registerCount (length (r .n)) (omega arith)) (ap (λ (x : Answer (List Request)). sizing x (replicate 72 0)) a))
+        outcome (sizesOf (lineBy cappedWord text)) (replicate (registerCount * requestSize) 0) list number count (sizes-fair (lineBy cappedWord text)) (sizes-few (lineBy cappedWord text))
+        (s ∙ rw (registersInto, le-leb registerCount (length (r .n)) (omega arith)) (ap (λ (x : Answer (List Request)). sizing x (replicate (registerCount * requestSize) 0)) a))
 
     pub few-wants : number ≡ 0 → count ≤ registerCount
     few-wants e = answered .few e

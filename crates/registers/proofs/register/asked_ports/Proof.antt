@@ -1,12 +1,10 @@
 -- Ports. Assumes nothing.
-use mathlib.Core.Path.{_≡_, sym, ap, _∙_}
-use mathlib.Core.Bool.{true}
+use mathlib.Core.Path.{sym, ap, _∙_}
 use Prim.Native.Nat.{_-_, _^_}
-use native.Mathlib.Omega.{arith}
 use borrow.Author.Needs.{needs}
 use borrow.Author.Tests.{not-true, not-false}
 use Rattle.definition.specs.Registers.{goodMask, portMask, portsWant}
-use Rattle.registers.proofs.SizeLaws.{bad-size, good-size, mask-pos, ports-fit, ports-many}
+use Rattle.registers.proofs.SizeLaws.{bad-size, good-size, mask-pos}
 use Rattle.registers.proofs.register.asked_ports.Statement.{statement}
 use Rattle.registers.proofs.register.asked_ports.Tie as tie
 
@@ -21,19 +19,10 @@ size-32-requires c κs = mask-pos 32 _ (sym (c .before .good-mask-32 .ensures) �
 returns-2 : tie.Need-returns-2
 returns-2 c =
     let x = c .before .before .before .before .before .args in
-    let good : goodMask 32 (portMask (x .w)) ≡ true =
-    ap (goodMask 32) (sym (c .before .before .before .before .port-mask .ensures)) ∙ sym (c .before .before .before .good-mask-32 .ensures) ∙ not-false _ (c .before .before .if1 .left) in
-    let size : 2 ^ 32 - portMask (x .w) ≡ c .before .size-32 .result = sym (c .before .size-32 .ensures ∙ ap (λ m. 2 ^ 32 - m) (c .before .before .before .before .port-mask .ensures)) in
-    sym (good-size 32 (portMask (x .w)) portsWant good ∙ ap portsWant size ∙ ports-many (c .before .size-32 .result) (c .if2 .taken))
-
-returns-3 : tie.Need-returns-3
-returns-3 c =
-    let x = c .before .before .before .before .before .args in
-    let good : goodMask 32 (portMask (x .w)) ≡ true =
-    ap (goodMask 32) (sym (c .before .before .before .before .port-mask .ensures)) ∙ sym (c .before .before .before .good-mask-32 .ensures) ∙ not-false _ (c .before .before .if1 .left) in
-    let size : 2 ^ 32 - portMask (x .w) ≡ c .before .size-32 .result = sym (c .before .size-32 .ensures ∙ ap (λ m. 2 ^ 32 - m) (c .before .before .before .before .port-mask .ensures)) in
-    sym (good-size 32 (portMask (x .w)) portsWant good ∙ ap portsWant size ∙ ports-fit (c .before .size-32 .result) (c .if2 .left))
+    let mask = c .before .before .before .before .port-mask .ensures in
+    c .sized-ports .ensures ∙ ap portsWant (c .before .size-32 .ensures ∙ ap (λ m. 2 ^ 32 - m) mask)
+    ∙ sym (good-size 32 (portMask (x .w)) portsWant (ap (goodMask 32) (sym mask) ∙ sym (c .before .before .before .good-mask-32 .ensures) ∙ not-false _ (c .before .before .if1 .left)))
 
 pub asked-ports-spec : {M : Type 1} → statement M
 asked-ports-spec =
-    tie.close (tie.spec (λ c κs. search needs) (λ c κs. search needs) returns size-32-requires (λ c. search needs) returns-2 returns-3)
+    tie.close (tie.spec (λ c κs. search needs) (λ c κs. search needs) returns size-32-requires (λ c. search needs) (λ c κs. search needs) returns-2)
