@@ -16,7 +16,7 @@ use Rattle.definition.specs.Base.{allOf, pairsOf, Refusal, badInput, sho
 use Rattle.definition.specs.BaseLaws.{and-l, and-r, and-i, eq→eqb, all-from}
 use Rattle.definition.specs.Tables.{top}
 use Rattle.definition.specs.Request.{auto, Want, mmioWant, pioWant, Request, goodChoice, oneBit, goodWant, goodRequest}
-use Rattle.definition.specs.Registers.{bit, cleared, Register, nothing, ports, memory, pair, unknown, registerOf, memoryMask, pairMask, upperOnes, portMask, goodMask, sizeOf, memoryWant, portsWant, asked, _also_, askedAt, takesNext, askedFrom, registers}
+use Rattle.definition.specs.Registers.{cleared, Register, nothing, ports, memory, pair, unknown, registerOf, memoryMask, pairMask, upperOnes, portMask, goodMask, sizeOf, memoryWant, portsWant, asked, _also_, askedAt, takesNext, askedFrom, registers}
 use Rattle.definition.specs.RequestLaws.{not-accepted, then-accepted, require-accepted, required, ones-zero}
 use Rattle.definition.specs.MaskLaws.{good-mask, mask-good}
 

@@ -14,7 +14,7 @@ use Rattle.definition.specs.Base.{portsTooLarge, accepted}
 use Rattle.definition.specs.BaseLaws.{T-true, T-false, eq→eqb}
 use Rattle.definition.specs.Tables.{top}
 use Rattle.definition.specs.Request.{auto, Want, mmioWant, pioWant}
-use Rattle.definition.specs.Registers.{bit, cleared, nothing, ports, memory, pair, memoryOf, registerOf, upperOnes, portMask, asked}
+use Rattle.definition.specs.Registers.{bit, cleared, nothing, ports, memoryOf, registerOf, upperOnes, portMask, asked}
 use Rattle.definition.specs.RequestLaws.{required}
 use Rattle.definition.specs.RegisterLaws.{size-reads}
 

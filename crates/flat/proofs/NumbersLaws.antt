@@ -1,17 +1,17 @@
 -- A request's twelve numbers read back as the request, and a list of them as the plan that was meant. Assumes nothing.
 use mathlib.Core.Path.{_≡_, refl, ap, _∙_}
 use mathlib.Core.Bool.{Bool, true, false, _&&_}
-use mathlib.Core.List.{List, [], _∷_, _++_, List·Memᴰ, List·Memᴰ·head, List·Memᴰ·tail}
+use mathlib.Core.List.{List, [], _∷_, List·Memᴰ, List·Memᴰ·head, List·Memᴰ·tail}
 use Prim.Native.Nat.{ℕ, _*_, _/_, _≤_}
 use native.Mathlib.Omega.{arith}
 use lib.Dec.{T, leb, ltb, leb→le, le→leb}
 use lib.ListN.{length, length-append}
 use Rattle.definition.specs.BaseLaws.{and-l, and-r, and-i, T-true, eq→eqb}
 use Rattle.definition.specs.Tables.{top, lastTrigger, shared, nature, input, device, event, lpi}
-use Rattle.definition.specs.Request.{Choice, auto, at, Want, mmioWant, pioWant, inputWant, hostWant, msiWant, Request, goodChoice, oneBit, goodWant, goodRequest}
+use Rattle.definition.specs.Request.{Choice, auto, at, Want, mmioWant, pioWant, inputWant, hostWant, msiWant, Request, goodChoice, goodWant, goodRequest}
 use Rattle.definition.specs.Calls.{State}
 use Rattle.definition.specs.Plan.{plan}
-use Rattle.flat.specs.Flat.{requestSize, known, choiceAt, fits, allFit, named, readable, wantAt, formAt, orBad, requestIn, codeOf, numberIn, numbersOfWant, numbersOf, numbersOfAll, requestAt, requestsOf, requestsFrom, wholeRequests, flatPlan}
+use Rattle.flat.specs.Flat.{requestSize, known, choiceAt, fits, allFit, named, readable, wantAt, orBad, requestIn, codeOf, numberIn, numbersOfWant, numbersOf, numbersOfAll, requestAt, requestsOf, requestsFrom, wholeRequests, flatPlan}
 use Rattle.flat.proofs.FlatLaws.{flat-whole}
 use Rattle.flat.proofs.StoreLaws.{requests-cons}
 

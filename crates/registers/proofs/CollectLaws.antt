@@ -2,15 +2,15 @@
 use mathlib.Core.Path.{_≡_, refl, sym, subst, ap, ap₂, _∙_}
 use mathlib.Core.Bool.{Bool, true, false}
 use mathlib.Core.List.{List, [], _∷_, _++_, append-nil, append-assoc}
-use mathlib.Core.Option.{Option, none, some}
+use mathlib.Core.Option.{none, some}
 use Prim.Native.Nat.{ℕ, suc, _+_, _*_, _≤_, _<_}
 use native.Mathlib.Omega.{arith}
 use lib.Dec.{ltb, leb}
-use lib.ListN.{length, getD, take, drop, length-append, length-take, length-map, drop-of-length-le}
+use lib.ListN.{length, getD, take, drop, length-append, drop-of-length-le}
 use lib.Seq.{sets, sets-eq, length-sets, take-at}
 use borrow.Author.Tests.{ltb-true, ltb-false, le-leb, lt-leb}
 use Rattle.definition.specs.Base.{Refusal, tell, Answer, accepted, refused, _then_}
-use Rattle.definition.specs.Request.{auto, Want, mmioWant, pioWant, Request}
+use Rattle.definition.specs.Request.{auto, mmioWant, pioWant, Request}
 use Rattle.definition.specs.Registers.{registerCount, registerOf, takesNext, asked, _also_, requestsAt, askedAt, askedFrom}
 use Rattle.definition.specs.PlanLaws.{tell-number}
 use Rattle.definition.specs.AskedLaws.{also-assoc, behind, past, asked-step}

@@ -1,10 +1,9 @@
 -- The size that a mask says, by the code's test of it. Assumes nothing.
-use mathlib.Core.Path.{_≡_, refl, sym, subst, ap}
+use mathlib.Core.Path.{_≡_, sym, subst, ap}
 use mathlib.Core.Bool.{Bool, true, false}
 use mathlib.Core.List.{[], _∷_}
 use Prim.Native.Nat.{ℕ, _-_, _^_, _<_, _≤_}
-use native.Mathlib.Omega.{arith}
-use lib.Dec.{T, ltb, leb, ltb→lt}
+use lib.Dec.{T, ltb, ltb→lt}
 use borrow.Author.Tests.{le-leb, lt-leb}
 use Rattle.definition.specs.Tables.{top}
 use Rattle.definition.specs.Base.{badMask, portsTooLarge, Answer, accepted, refused, require, _then_}

@@ -4,7 +4,6 @@ use mathlib.Core.Bool.{true, false}
 use Prim.Native.Nat.{ℕ, _+_, _/_, _%_}
 use native.Mathlib.Nat.{add-zero}
 use native.Mathlib.Omega.{arith}
-use lib.Dec.{eqb}
 use borrow.Author.Tests.{eq-eqb, ne-eqb}
 use Rattle.definition.specs.Registers.{bit, cleared, nothing, ports, memory, pair, unknown, memoryOf, registerOf, portMask}
 use Rattle.definition.specs.RegisterWordLaws.{register-by, upper-all, upper-none}

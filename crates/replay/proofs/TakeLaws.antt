@@ -4,7 +4,7 @@ use mathlib.Core.List.{List, [], _∷_, _++_}
 use Prim.Native.Nat.{ℕ, zero, suc, _+_, _-_, _*_, _≤_, _<_, min}
 use native.Mathlib.Omega.{arith}
 use lib.ListN.{length, getD, set, take, drop, length-take, length-drop, length-append, drop-of-length-le}
-use lib.Seq.{sets, sets-eq, drop-cons, getD-take, getD-drop, take-nil, drop-nil}
+use lib.Seq.{sets, sets-eq, drop-cons, take-nil, drop-nil}
 use Rattle.definition.specs.Plan.{written}
 use Rattle.flat.specs.Flat.{requestSize}
 use Rattle.replay.specs.Again.{block, blocks, taken}

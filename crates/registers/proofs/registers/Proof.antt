@@ -1,7 +1,5 @@
 -- 11, 2 and 2 in their turn, then the registers. Assumes nothing.
-use mathlib.Core.Path.{_≡_, sym, subst, ap, _∙_}
-use mathlib.Core.Bool.{true}
-use native.Mathlib.Omega.{arith}
+use mathlib.Core.Path.{sym, subst, ap, _∙_}
 use lib.Dec.{T}
 use lib.Seq.{length-take-le}
 use borrow.Author.Needs.{needs}

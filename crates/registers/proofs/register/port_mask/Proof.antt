@@ -1,6 +1,5 @@
 -- Upper bits that read zero. Assumes nothing.
 use mathlib.Core.Path.{sym}
-use native.Mathlib.Omega.{arith}
 use borrow.Author.Needs.{needs}
 use Rattle.registers.proofs.WordLaws.{ones-taken, ones-left}
 use Rattle.registers.proofs.register.port_mask.Statement.{statement}

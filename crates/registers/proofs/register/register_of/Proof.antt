@@ -1,6 +1,5 @@
 -- What a word says, test by test. Assumes nothing.
 use mathlib.Core.Path.{sym}
-use borrow.Author.Needs.{needs}
 use Rattle.registers.proofs.WordLaws.{says-nothing, says-ports, says-unknown, says-pair, says-memory}
 use Rattle.registers.proofs.register.register_of.Statement.{statement}
 use Rattle.registers.proofs.register.register_of.Tie as tie
