@@ -6,9 +6,9 @@ use mathlib.Core.Option.{none}
 use Prim.Native.Nat.{ℕ, _+_, _-_, _<_, _≤_}
 use native.Mathlib.Omega.{arith}
 use lib.ListN.{length, take, drop, length-drop, drop-of-length-le}
-use lib.Seq.{take-all, drop-cons, length-take-le}
-use lib.Dec.{ltb, leb}
-use borrow.Author.Tests.{lt-ltb, le-ltb, ltb-true, ltb-false, le-leb, lt-leb, leb-true, leb-false}
+use lib.Seq.{take-all, drop-cons}
+use lib.Dec.{ltb}
+use borrow.Author.Tests.{lt-ltb, le-ltb, ltb-true, ltb-false, le-leb, lt-leb}
 use Rattle.lines.specs.Base.{textLimit, newline, split}
 use Rattle.lines.specs.Line.{readLine}
 use Rattle.lines.specs.Code.{first}
@@ -144,13 +144,3 @@ ended-long text l = rw (ended, lt-leb (length text) textLimit l)
 pub ended-within : (text : List ℕ) → length text ≤ textLimit → ended text ≡ close (feed step beginning text)
 unfolding ended
 ended-within text l = rw (ended, le-leb (length text) textLimit l)
-
--- more of a text than the longest one has says as much as the whole
-pub ended-cut : (n : ℕ) (text : List ℕ) → textLimit < n → ended (take n text) ≡ ended text
-ended-cut n text l = go (leb (length text) n) refl
-  where
-    go : (b : Bool) → leb (length text) n ≡ b → ended (take n text) ≡ ended text
-    go true e = ap ended (take-all n text (leb-true (length text) n e))
-    go false e =
-        let h : n < length text = leb-false (length text) n e in
-        ended-long (take n text) (omega (arith, length-take-le n text (omega arith))) ∙ sym (ended-long text (omega arith))

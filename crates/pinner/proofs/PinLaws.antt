@@ -1,14 +1,14 @@
 -- What stands in front of the buffer is the definition's answer to the bytes read: the pinned text, or the line `no`. Assumes nothing.
 use mathlib.Core.Path.{_≡_, refl, sym, ap, subst, _∙_}
 use mathlib.Core.Logic.{_⊎_, inl, inr}
-use mathlib.Core.Bool.{Bool, true, false, _&&_}
-use mathlib.Core.List.{List, [], _∷_, _++_, map}
+use mathlib.Core.Bool.{Bool, true, false}
+use mathlib.Core.List.{List, [], _++_, map}
 use Prim.Native.Nat.{ℕ, _+_, _≤_, _<_}
 use native.Mathlib.Omega.{arith}
-use lib.Dec.{eqb, leb}
+use lib.Dec.{leb}
 use lib.ListN.{length, take, drop, getD, length-append}
-use lib.Seq.{sets-eq, take-all, take-at, length-take-le}
-use borrow.Author.Tests.{eqb-false, le-leb, leb-true, leb-false}
+use lib.Seq.{sets-eq, take-at}
+use borrow.Author.Tests.{eqb-false, le-leb, leb-true}
 use Rattle.definition.specs.Base.{says}
 use Rattle.definition.specs.BaseLaws.{and-false}
 use Rattle.definition.specs.Plan.{written}
@@ -16,7 +16,7 @@ use Rattle.lines.specs.Base.{textLimit, bytes}
 use Rattle.lines.specs.Numbers.{digits}
 use Rattle.lines.specs.Line.{lineWith}
 use Rattle.lines.specs.Output.{noLine}
-use Rattle.lines.specs.Text.{Sofar, accepts, ended}
+use Rattle.lines.specs.Text.{Sofar, accepts, overlong, ended}
 use Rattle.lines.specs.Back.{back, Pinned, pinning, pinnedBy, pinsTo, pinnedOutput, pinOutput}
 use Rattle.lines.proofs.FeedLaws.{ended-long}
 use Rattle.lines.proofs.Longest.{no-length}
@@ -24,21 +24,14 @@ use Rattle.writers.specs.Put.{Put}
 use Rattle.write_back.specs.Answer.{answerOf}
 use Rattle.write_back.specs.declared.Written.{Written}
 
--- ---- the bytes read decide
+-- ---- texts longer than the longest are answered alike
 
-pub cut-pin : (n : ℕ) (text : List ℕ) → textLimit < n → pinOutput (take n text) ≡ pinOutput text
+pub alike-pin : (a b : List ℕ) → textLimit < length a → textLimit < length b → pinOutput a ≡ pinOutput b
 unfolding pinOutput
-cut-pin n text l = go (leb (length text) n) refl
+alike-pin a b l m = over a l ∙ sym (over b m)
   where
-    over : (t : List ℕ) → textLimit < length t → pinOutput t ≡ pinnedOutput (ended t) []
-    over t h = ap (λ (u : Sofar). pinnedOutput u (back t)) (ended-long t h) ∙ sym (ap (λ (u : Sofar). pinnedOutput u []) (ended-long t h))
-
-    go : (b : Bool) → leb (length text) n ≡ b → pinOutput (take n text) ≡ pinOutput text
-    go true e = ap pinOutput (take-all n text (leb-true (length text) n e))
-    go false e =
-        let h : n < length text = leb-false (length text) n e in
-        let k : textLimit < length (take n text) = omega (arith, length-take-le n text (omega arith)) in
-        over (take n text) k ∙ ap (λ (u : Sofar). pinnedOutput u []) (ended-long (take n text) k ∙ sym (ended-long text (omega arith))) ∙ sym (over text (omega arith))
+    over : (t : List ℕ) → textLimit < length t → pinOutput t ≡ pinnedOutput overlong []
+    over t h = ap (λ (u : Sofar). pinnedOutput u (back t)) (ended-long t h)
 
 -- ---- written, or refused
 

@@ -1,5 +1,5 @@
--- What stands in front of the buffer is the definition's output of the bytes read; and of more than the longest text no more is needed. Assumes nothing.
-use mathlib.Core.Path.{_≡_, refl, ap, _∙_}
+-- What stands in front of the buffer is the definition's output of the bytes read; and texts longer than the longest are answered alike. Assumes nothing.
+use mathlib.Core.Path.{_≡_, refl, sym, ap, _∙_}
 use mathlib.Core.List.{List}
 use Prim.Native.Nat.{ℕ, _≤_, _<_}
 use native.Mathlib.Omega.{arith}
@@ -10,12 +10,12 @@ use Rattle.definition.specs.Plan.{written}
 use Rattle.lines.specs.Base.{textLimit}
 use Rattle.lines.specs.Output.{outputLimit}
 use Rattle.lines.specs.Text.{answer, output}
-use Rattle.lines.proofs.FeedLaws.{ended-cut}
+use Rattle.lines.proofs.FeedLaws.{ended-long}
 use Rattle.text.specs.Respond.{Replied, replied, respondsTo}
 
-pub cut-output : (n : ℕ) (text : List ℕ) → textLimit < n → output (take n text) ≡ output text
+pub alike-output : (a b : List ℕ) → textLimit < length a → textLimit < length b → output a ≡ output b
 unfolding output
-cut-output n text l = ap answer (ended-cut n text l)
+alike-output a b l m = ap answer (ended-long a l ∙ sym (ended-long b m))
 
 -- ---- what stands in front of the buffer
 

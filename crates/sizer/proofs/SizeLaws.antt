@@ -1,14 +1,14 @@
 -- Laws of the program's output: what is read and answered is the definition's output, which has its longest; and no more of an input is needed than its limit. Assumes nothing.
 use mathlib.Core.Path.{_≡_, refl, sym, ap, _∙_}
-use mathlib.Core.Bool.{Bool, true, false, _&&_}
+use mathlib.Core.Bool.{true, false, _&&_}
 use mathlib.Core.List.{List, [], _∷_, _++_, append-assoc}
 use mathlib.Core.Option.{Option, none, some}
 use Prim.Native.Nat.{ℕ, zero, suc, _+_, _*_, _-_, _≤_, _<_}
 use native.Mathlib.Omega.{arith}
 use lib.Dec.{eqb, leb}
 use lib.ListN.{length, take, drop, getD, replicate, length-append, List·getD-append}
-use lib.Seq.{sets, sets-eq, length-sets, take-all, take-at, length-take-le, take-append-le}
-use borrow.Author.Tests.{le-leb, leb-true, leb-false}
+use lib.Seq.{sets, sets-eq, length-sets, take-at, take-append-le}
+use borrow.Author.Tests.{le-leb}
 use Rattle.definition.specs.Base.{badLine, says, tell, Answer, accepted, refused}
 use Rattle.definition.specs.PlanLaws.{tell-number}
 use Rattle.definition.specs.Request.{auto, mmioWant, pioWant, Request}
@@ -211,14 +211,8 @@ module _ (text out : List ℕ) (r : ℕ) (out′ : List ℕ) (room : sizesLimit 
       ap (take r) (put-exact out 0 (sizesOutput text) r out′ p fits)
       ∙ take-at (sizesOutput text) (drop (0 + length (sizesOutput text)) out) r (omega (arith, p .0))
 
--- ---- of an input that is too long no more is needed than one byte past the limit
+-- ---- inputs that are too long are answered alike
 
-pub cut-sizes : (n : ℕ) (text : List ℕ) → sizeTextLimit < n → sizesOutput (take n text) ≡ sizesOutput text
+pub alike-sizes : (a b : List ℕ) → sizeTextLimit < length a → sizeTextLimit < length b → sizesOutput a ≡ sizesOutput b
 unfolding sizesOutput
-cut-sizes n text l = go (leb (length text) n) refl
-  where
-    go : (b : Bool) → leb (length text) n ≡ b → sizesOutput (take n text) ≡ sizesOutput text
-    go true e = ap sizesOutput (take-all n text (leb-true (length text) n e))
-    go false e =
-        let h : n < length text = leb-false (length text) n e in
-        rw (line-long word (take n text) (omega (arith, length-take-le n text (omega arith))), line-long word text (omega arith))
+alike-sizes a b l m = rw (line-long word a l, line-long word b m)

@@ -6,7 +6,7 @@ use Prim.Native.Nat.{ℕ, zero, suc, _≤_, _<_}
 use native.Mathlib.Omega.{arith}
 use lib.IntN.{ℤ, pos, negsuc}
 use lib.Signed.{ltZ, leZ}
-use lib.Dec.{T}
+use lib.Dec.{T, leb}
 use mir.Syntax.{w64}
 use mir.Val.{SFits, toZ, ofZ}
 use mir.ValLaws.{toZ-ofZ}
@@ -37,9 +37,18 @@ within long n (negsuc k) s = s
 pub read-back : (z : ℤ) → SFits w64 z → (b : Bool) → ltZ (toZ w64 (ofZ w64 z)) (pos 0) ≡ b → ltZ z (pos 0) ≡ b
 read-back z f b e = ap (λ (y : ℤ). ltZ y (pos 0)) (sym (toZ-ofZ w64 z f)) ∙ e
 
--- ---- what is printed: f answers more bytes than its limit as it answers the whole input
+-- ---- what is printed: f answers all inputs alike that are longer than its limit, so of such a one no more is needed than one byte past the limit
 
-module _ {limit : ℕ} (f : List ℕ → List ℕ) (cut : (n : ℕ) (text : List ℕ) → limit < n → f (take n text) ≡ f text) where
+module _ {limit : ℕ} (f : List ℕ → List ℕ) (alike : (a b : List ℕ) → limit < length a → limit < length b → f a ≡ f b) where
+  cut : (n : ℕ) (text : List ℕ) → limit < n → f (take n text) ≡ f text
+  cut n text l = go (leb (length text) n) refl
+    where
+      go : (b : Bool) → leb (length text) n ≡ b → f (take n text) ≡ f text
+      go true e = ap f (take-all n text (leb-true (length text) n e))
+      go false e =
+          let h : n < length text = leb-false (length text) n e in
+          alike (take n text) text (omega (arith, length-take-le n text (omega arith))) (omega arith)
+
   read-decides : (buf input : List ℕ) (n k : ℕ) → limit < length buf → Stopped (length buf) n (pos k) → ReadOf input (take n buf) (pos k) → f (take n buf) ≡ f input
   read-decides buf input n zero l s r = ap f (r .front ∙ take-all (length (take n buf)) input (r .end refl))
   read-decides buf input n (suc k) l s r = ap f (r .front) ∙ cut (length (take n buf)) input (omega (arith, s, length-take-le n buf (omega (arith, s))))

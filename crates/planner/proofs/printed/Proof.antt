@@ -7,7 +7,7 @@ use lib.ListN.{take}
 use lib.Seq.{length-take-le}
 use Rattle.lines.specs.Text.{output}
 use Rattle.standard_input.proofs.ReadLaws.{read-back, prints-nothing, prints-front, within}
-use Rattle.planner.proofs.PrintLaws.{cut-output, front-inside, front-is}
+use Rattle.planner.proofs.PrintLaws.{alike-output, front-inside, front-is}
 use borrow.Author.Needs.{needs}
 use Rattle.planner.proofs.printed.Statement.{statement}
 use Rattle.planner.proofs.printed.Tie as tie
@@ -26,7 +26,7 @@ returns-2 c =
     let s = c .before .before .before .before .before .before .before .before .before .before in
     let f : SFits w64 (s .args .input .last) = search needs in
     let is = c .before .before .respond .ensures in
-    prints-front output cut-output (s .args .buf .now) _ (s .args .input .n) _ (s .args .input .last) (read-back (s .args .input .last) f false (c .before .before .before .before .before .if1 .left)) (s .pre .0) (s .pre .1 .0) (front-inside _ (s .args .out .now) _ _ _ (s .pre .1 .1) is) (front-is _ (s .args .out .now) _ _ _ (s .pre .1 .1) is)
+    prints-front output alike-output (s .args .buf .now) _ (s .args .input .n) _ (s .args .input .last) (read-back (s .args .input .last) f false (c .before .before .before .before .before .if1 .left)) (s .pre .0) (s .pre .1 .0) (front-inside _ (s .args .out .now) _ _ _ (s .pre .1 .1) is) (front-is _ (s .args .out .now) _ _ _ (s .pre .1 .1) is)
 
 pub printed-spec : {M : Type 1} → statement M
 printed-spec =

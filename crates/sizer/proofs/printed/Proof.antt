@@ -7,7 +7,7 @@ use lib.ListN.{take}
 use lib.Seq.{length-take-le}
 use Rattle.standard_input.proofs.ReadLaws.{read-back, prints-nothing, prints-front, within}
 use Rattle.sizer.specs.Sizes.{sizesOutput}
-use Rattle.sizer.proofs.SizeLaws.{cut-sizes, front-inside, front-is}
+use Rattle.sizer.proofs.SizeLaws.{alike-sizes, front-inside, front-is}
 use borrow.Author.Needs.{needs}
 use Rattle.sizer.proofs.printed.Statement.{statement}
 use Rattle.sizer.proofs.printed.Tie as tie
@@ -28,7 +28,7 @@ returns-2 c =
     let s = c .before .before .before .before .before .before .before .before .before .before in
     let f : SFits w64 (s .args .input .last) = search needs in
     let x = c .before .before .sizes in
-    prints-front sizesOutput cut-sizes (s .args .buf .now) (x .last .1 .0) (s .args .input .n) (x .result) (s .args .input .last) (read-back (s .args .input .last) f false (c .before .before .before .before .before .if1 .left)) (s .pre .0) (s .pre .1 .0)
+    prints-front sizesOutput alike-sizes (s .args .buf .now) (x .last .1 .0) (s .args .input .n) (x .result) (s .args .input .last) (read-back (s .args .input .last) f false (c .before .before .before .before .before .if1 .left)) (s .pre .0) (s .pre .1 .0)
     (front-inside (take (s .args .input .n) (s .args .buf .now)) (s .args .out .now) (x .result) (x .last .1 .0) (s .pre .1 .1) (x .ensures)) (front-is (take (s .args .input .n) (s .args .buf .now)) (s .args .out .now) (x .result) (x .last .1 .0) (s .pre .1 .1) (x .ensures))
 
 pub printed-spec : {M : Type 1} → statement M
