@@ -16,7 +16,9 @@ A command is a line of at most thirteen numbers, parted by single blanks; those 
   9 length requester slot kind ..      the same with a list of that length
   6                                    print whether pools and reservations are sound, and whether all tables are
   10                                   print 1 if the last call left every number of all tables as it was, else 0
+  11 requester                         withdraw everything granted to a requester
 """
+import itertools
 import pathlib
 import random
 import sys
@@ -235,6 +237,22 @@ class State:
             self.t[3, k].copy_of(self.t[2, k])
         self.say(0)
 
+    def withdraw(self, q):
+        if not self.sound():
+            return self.say(1)
+        if not 0 < q <= W32:
+            return self.say(2)
+        granted = {k: self.t[3, k].used()[self.t[2, k].count :] for k in KINDS}
+        if not any(r["owner"] == q for rows in granted.values() for r in rows):
+            return self.say(13)
+        for k in KINDS:
+            left = Table(3, k)
+            for r in self.t[2, k].used() + [r for r in granted[k] if r["owner"] != q]:
+                left.push(r)
+            self.t[3, k] = left
+        self.touched = True
+        self.say(0)
+
     # ---- one request
 
     def find(self, k, dom, pool_dom, size, align):
@@ -347,7 +365,7 @@ class Run:
         c = list(c) + [0] * (14 - len(c))
         op, x = c[0], c[1:]
         s = self.s
-        if op in (1, 2, 3, 8, 9):
+        if op in (1, 2, 3, 8, 9, 11):
             s.touched = False
         if op == 0:
             self.s = State()
@@ -359,6 +377,9 @@ class Run:
             self.out.append(" ".join(map(str, s.said)))
         elif op == 3:
             s.start()
+            self.out.append(" ".join(map(str, s.said)))
+        elif op == 11:
+            s.withdraw(x[0])
             self.out.append(" ".join(map(str, s.said)))
         elif op == 4:
             s.poke(*x[:5])
@@ -448,10 +469,11 @@ def domains(r):
 
 
 def low_rows(r):
-    """A row of LPIs that starts too low is unsound in each of the four tables, for the calls that judge the table: owners by requests alone. One at the least LPI is not."""
+    """A row of LPIs that starts too low is unsound in each of the four tables, for the calls that judge the table: owners by requests and withdrawals alone. One at the
+    least LPI is not."""
     calls = [
         (1, 0, 1, 0, 10), (1, 1, 5, 5, 6, 3, 4, 3, 4, FIRST + 90, FIRST + 99), (1, 0, 5, 5, 6, 3, 4, 3, 4, 0, 1), (2, 9, 1, 0, 10), (2, 9, 7, 5, FIRST + 90, FIRST + 99), (2, 9, 7, 5, 0, 1),
-        (3,), (8, 9, 0, 4), (8, 9, 0, 5, 5, 6, 1), (9, 3, 9, 0, 4),
+        (3,), (8, 9, 0, 4), (8, 9, 0, 5, 5, 6, 1), (9, 3, 9, 0, 4), (11, 3), (11, 9), (11, 0),
     ]
     for a in range(4):
         for start in (FIRST - 1, FIRST, 0):
@@ -805,8 +827,84 @@ def request_malformed(r):
     r.checked(3)
 
 
+def withdrawals(r):
+    """Rows of two owners in every order behind a reservation, in each table alone; full tables; a requester in all seven tables, as a reservation alone, and none; what is
+    free again is granted again; after a refused request, a reservation and a start."""
+    for k in KINDS:
+        owner = columns(3, k).index("owner") + 1
+
+        def table(held, rows, others, k=k, owner=owner):
+            r.do(0)
+            r.do(7, 2, k, held)
+            r.do(7, 3, k, rows)
+            for i in others:
+                r.do(4, 3, k, owner, i, 8)
+
+        # the first row is a reservation of 3, who has none to all of the other rows
+        for others in itertools.product((False, True), repeat=4):
+            table(1, 5, [i for i, other in enumerate(others, 1) if other])
+            r.checked(11, 3)
+            r.do(10)
+            r.do(11, 3)
+            r.do(6)
+        for q in (0, 9, W32, W32 + 1, W64):
+            r.do(11, q)
+            r.do(10)
+        # a full table: the one row that goes, and the one that stays
+        for i in (0, ROWS // 2, ROWS - 1):
+            table(0, ROWS, [i])
+            r.do(11, 8)
+            r.do(6)
+            table(0, ROWS, [i])
+            r.checked(11, 3)
+            r.do(6)
+        # reservations alone, and a full table of them
+        for rows in (2, ROWS):
+            table(rows, rows, [])
+            r.do(11, 3)
+            r.do(10)
+    # all seven tables, of rows of 3 and 8 by turns; the reservations are 3's
+    r.do(0)
+    for k in KINDS:
+        r.do(7, 2, k, 2)
+        r.do(7, 3, k, 6)
+        for i in (3, 5):
+            r.do(4, 3, k, columns(3, k).index("owner") + 1, i, 8)
+    for q in (8, 8, 3, 3):
+        r.checked(11, q)
+        r.do(6)
+    # what is free again is the least there is
+    r.do(0)
+    for use in (0, 1):
+        for k in (1, 2, 4):
+            r.do(1, use, k, 16, 48)
+        r.do(1, use, 3, 1, 16, 20)
+        r.do(1, use, 5, 1, 2, 8, 12, 0, 4, FIRST, FIRST + 8)
+    wants = [(1, 8, 8), (2, 8, 8), (3, 1, 0, 1), (4,), (5, 1, 2, 2)]
+    r.do(2, 4, 4, 17, 18)
+    r.do(3)
+    for q in (4, 5, 4):
+        for w in wants:
+            r.do(8, q, 0, *w)
+    # refused: 5 holds the first of them
+    r.do(8, 5, 1, 1, 8, 8, 0, 1, 16)
+    for q in (4, 5):
+        r.checked(11, q)
+        for w in wants:
+            r.do(8, 6, 1, *w)
+        r.do(5)
+    # a reservation since the start makes it 1 until the next, which forgets all grants
+    r.do(2, 6, 4, 40, 41)
+    for q in (6, 0):
+        r.do(11, q)
+        r.do(10)
+    r.do(3)
+    r.do(11, 6)
+    r.do(5)
+
+
 def random_requests(r, seed, rounds):
-    g = random.Random(seed)
+    g, h = random.Random(seed), random.Random(~seed)
     for _ in range(rounds):
         r.do(0)
         for use in (0, 1):
@@ -843,6 +941,9 @@ def random_requests(r, seed, rounds):
             else:
                 x = (g.randrange(2), g.randrange(2), g.randrange(1, 4)) + ch(12) + ch(8) + ((1, FIRST + 20 + g.randrange(14)) if g.random() < 0.4 else AUTO)
             r.do(8, g.randrange(1, 9), g.randrange(3), kind, *x)
+            if h.random() < 0.15:
+                r.do(11, h.randrange(10))
+                r.do(10)
         r.do(5)
         r.do(6)
 
@@ -884,7 +985,7 @@ def random_calls(r, seed, rounds):
 
 def main():
     r = Run()
-    for part in (pool_order, pool_full, domains, low_rows, holds, hold_full, started, last_row, malformed, broken, stand_cases, request_bounds, request_full, blocks, request_malformed):
+    for part in (pool_order, pool_full, domains, low_rows, holds, hold_full, started, last_row, malformed, broken, stand_cases, request_bounds, request_full, blocks, request_malformed, withdrawals):
         part(r)
     random_calls(r, 1, 30)
     random_requests(r, 2, 150)

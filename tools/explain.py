@@ -24,6 +24,7 @@ REFUSALS = {
     10: ("BadLine", "the line is not of a form that a plan can have"),
     11: ("Short", f"a plan has at most {WANTS} wants"),
     12: ("BadLpi", f"LPIs begin at {FIRST_LPI}, and a range of them starts below that"),
+    13: ("NotFound", "nothing is granted to the requester that is to be withdrawn"),
     14: ("BadType", "a register asks for memory of a type that is neither 32-bit nor 64-bit"),
     15: ("BadPair", "a 64-bit register begins at the last word, so it has no high half"),
     16: ("BadMask", "the mask of a register is zero, or its ones are not contiguous from the top"),

@@ -11,6 +11,7 @@ mod stack;
 mod tables;
 mod theirs;
 mod time;
+mod withdraw;
 
 use face::{Flat, Lent};
 use forms::OfKind;
@@ -43,6 +44,7 @@ fn main() {
     inputs.iter().for_each(requests);
     crawl::crawls();
     growth::growth();
+    withdraw::withdrawals();
     inputs.iter().for_each(by_value);
     stacks(&inputs[1]);
 }
@@ -190,6 +192,7 @@ fn stacks(input: &Input) {
     row("`planner_plan`", seen(|| lent.plan(&numbers)));
     let mut refused = Lent::of(&state);
     row("`planner_plan`, refused and put back", seen(|| refused.plan(&twice(&numbers))));
+    assert_eq!((refused.state.number, refused.state.index), (8, RUN as u64 - 1));
     for (what, call) in [
         ("`planner_call`, a pool range", vec![1, 0, 1, 1 << 40, 1 << 41]),
         ("`planner_call`, a reservation", vec![2, 7, 1, 1 << 40, 1 << 41]),
@@ -198,6 +201,8 @@ fn stacks(input: &Input) {
         let mut copy = state.clone();
         row(what, seen(|| face::call(&mut copy, &call)));
     }
+    let mut granted = lent.clone();
+    row("`planner_call`, a withdrawal", seen(|| assert_eq!(face::call(&mut granted.state, &[5, 1]), 0)));
     row("`planner_read`", seen(|| face::read(&state, &[4, 1, 0])));
     row("`planner_pin`", seen(|| face::pin(&mut numbers.clone(), &lent.results)));
     let (text, mut out) = (TEXT.replace(' ', "\t").into_bytes(), vec![0; 1 << 16]);
@@ -223,13 +228,11 @@ fn stacks(input: &Input) {
     );
 }
 
-/// The same requests with the last one's fixed number taken by the one before it: refused at the end, after every row went in.
+/// The same requests, the last of which asks for what a fixed one before it has: refused at the end, after every row went in.
 fn twice(numbers: &[Flat]) -> Vec<Flat> {
-    let fixed = numbers.iter().rev().find(|one| one[6] == 1).expect("a fixed request");
-    let mut all = numbers.to_vec();
-    let last = all.len() - 1;
-    all[last] = *fixed;
-    all
+    let before = &numbers[..numbers.len() - 1];
+    let fixed = before.iter().rev().find(|one| one[6] == 1).expect("a fixed request");
+    [before, &[*fixed]].concat()
 }
 
 fn seen<R>(call: impl FnOnce() -> R + Send) -> usize {

@@ -24,7 +24,10 @@
  * 4 owners (PLANNER_ROWS rows a table). Kinds: 1 MMIO, 2 PIO, 3 input, 4 host IRQ, 5 device, 6 event, 7 LPI. A row more than a table has
  * is refused with 9.
  * A start makes the owners copies of the reservations and forgets all grants. After a reservation made since then the owners no longer
- * begin with the reservations: requests and plans are answered with 1 until the planner is started again. Pools may be added at any time.
+ * begin with the reservations: requests, plans and withdrawals are answered with 1 until the planner is started again. Pools may be added at
+ * any time.
+ * A withdrawal takes from the owners all that was granted to one requester, and no reservation: those behind close up in their order, and later
+ * requests may have the rows and numbers that are free again.
  *
  * Numbers
  * -------
@@ -63,13 +66,14 @@
  *     11 short: a list is too short, or a plan longer than PLANNER_MOST requests, or a pinned text longer than its buffer or than PLANNER_TEXT bytes, or
  *        fewer words than PLANNER_REGISTERS, or a list that cannot hold all requests of a device's registers
  *     12 bad LPI: a pool or a reservation whose range of LPIs starts below PLANNER_FIRST_LPI; a request for such an LPI is 6
+ *     13 not found: nothing is granted to the requester that is to be withdrawn; reservations are no grants
  *     14 bad type: a register of memory that is neither of 32 nor of 64 bits
  *     15 bad pair: a register of 64 bits begins at the last word, and has no high half
  *     16 bad mask: the mask of a register is zero, or its ones are not contiguous from the top
  *     17 ports too large: a register asks for 65,536 ports or more, which the 16 bits of PIO cannot hold
- * Where more than one applies the order is 1, 11, 2, 3, 4, 12, then 5, 6 or 7, then 8, then 9, of an MSI pool each tried on all three of its ranges; a
- * text's own refusal comes before the 11 of its pinned text. Of registers it is 11 for too few words, 2, then for each register in its turn 14, 15, 16, 17,
- * and last 11 for the requests: the first fault decides.
+ * Where more than one applies the order is 1, 11, 2, 3, 4, 12, then 5, 6 or 7, then 8, then 9, of an MSI pool each tried on all three of its ranges; of a
+ * withdrawal it is 1, 11, 2, 13; a text's own refusal comes before the 11 of its pinned text. Of registers it is 11 for too few words, 2, then for each
+ * register in its turn 14, 15, 16, 17, and last 11 for the requests: the first fault decides.
  * Namespaces: 1 MMIO, 2 PIO, 3 input of a controller, 4 host IRQ, 5 an ITS of a controller (device, event), 6 LPI of a controller.
  * Details: 1 address ranges overlap, 2 trigger differs, 3 not shareable, 4 host IRQ taken, 5 device taken, 6 events overlap, 7 LPIs overlap.
  *
@@ -85,7 +89,7 @@
  * left alone is proved for callers who lend a whole one; that shorter memory is not even read is what the compiler makes of it, and
  * tested. Null is tested by the helpers below alone.
  *
- * Stack, as measured (docs/SPEED.md): planner_call 5 KB, planner_allocate and planner_plan 24 KB, planner_read, planner_pin and
+ * Stack, as measured (docs/SPEED.md): planner_call 5 KB and, where it withdraws, 24 KB; planner_allocate 2 KB, planner_plan 24 KB where it is refused; planner_read, planner_pin and
  * planner_registers less than 1 KB; planner_text and planner_pin_text keep a state and the results of a plan there: give a thread that makes them PLANNER_TEXT_STACK bytes. */
 #ifndef PLANNER_H
 #define PLANNER_H
@@ -139,6 +143,7 @@ uint64_t planner_fresh(uint64_t *state, uint64_t size);
  *                                             6 event c its device s e, 7 LPI c s e, 8 pair c n trigger host
  *   3                                         start
  *   4, then a request's twelve numbers        one request, whose record is not told
+ *   5, requester                              withdraw: everything granted to the requester goes, from plans and single requests, for all its slots
  * Too few numbers are 11; an unknown first number, use or kind, or a number too large for its field, is 2. */
 uint64_t planner_call(uint64_t *state, uint64_t size, const uint64_t *numbers, size_t n, uint64_t *answer, size_t m);
 
@@ -151,9 +156,10 @@ uint64_t planner_allocate(uint64_t *state, uint64_t size, const uint64_t *reques
 uint64_t planner_plan(uint64_t *state, uint64_t size, const uint64_t *requests, size_t n, uint64_t *results, size_t m);
 
 /* Writes granted records back into their requests, in order: what was automatic then asks for the number that it was given. Lend it the
- * filled front part of the results and no more. Any selection of the requests of a plan that was accepted from a fresh start, written back,
- * gets the same numbers again, in any order, from a fresh start on the same pools and reservations, provided that each automatic pool range
- * lies inside a fixed one. For a plan that is a text there is planner_pin_text. */
+ * filled front part of the results and no more. Of the requests that were accepted since one start, one by one or in plans accepted whole, and
+ * whose requester was not withdrawn after them, any selection of at most PLANNER_MOST, written back, gets the same numbers again, in any order, as one plan from a
+ * fresh start on the pools and reservations of that start, provided that each automatic pool range lies inside a fixed one. For a plan that is
+ * a text there is planner_pin_text. */
 void planner_pin(uint64_t *requests, size_t n, const uint64_t *results, size_t m);
 
 /* Reading back. `what` is 0: the last answer's five numbers; or part, kind, row: the nine numbers of a row, used or not, as it is stored. What a
@@ -323,6 +329,12 @@ static inline uint64_t planner_size(const uint64_t words[PLANNER_REGISTERS], uin
 static inline uint64_t planner_start(uint64_t *state) {
     const uint64_t x[1] = {3};
     return planner_do(state, x, 1);
+}
+
+/* Withdraws everything granted to a requester: 13 where there is nothing. Its reservations stay, and so does what all others have. */
+static inline uint64_t planner_withdraw(uint64_t *state, uint64_t requester) {
+    const uint64_t x[2] = {5, requester};
+    return planner_do(state, x, 2);
 }
 
 /* Adds a range to the pools of a use: 0 automatic, 1 fixed. */

@@ -2,7 +2,7 @@
 
 use std::ops::Range;
 
-use crate::calls::{no, rows_of_add, Add, Choice, Hold, Kind, Need, Place, Refusal, Request, Row, Tables};
+use crate::calls::{no, rows_of_add, Add, Choice, Hold, Kind, Need, Place, Refusal, Request, Row, Seven, Tables};
 use crate::resources::bare::Bare;
 use crate::{InterruptSharing, InterruptTrigger};
 
@@ -104,6 +104,25 @@ pub fn lacks_pool_row(tables: &Tables, add: &Add) -> bool {
 /// 9 for a request: an owner table that it needs has no free row. It comes last, so the original is asked first.
 pub fn no_room(tables: &Tables, request: &Request) -> bool {
     request.need.kinds().iter().any(|kind| tables.of(Place::Owner, *kind).len() >= HELD_ROWS)
+}
+
+/// 2 for a withdrawal, and then 13: the original has none.
+pub fn no_withdrawal(tables: &Tables, requester: u32) -> Option<Refusal> {
+    let granted = |kind: &Kind| granted_rows(tables, *kind).iter().any(|row| row.owner == requester);
+    refuse(requester == 0, no::BAD_INPUT).or_else(|| refuse(!Kind::ALL.iter().any(granted), no::NOT_FOUND))
+}
+
+/// The owner tables without what was granted to a requester: reservations stay, the other rows keep their order.
+pub fn owners_without(tables: &Tables, requester: u32) -> Seven {
+    Kind::ALL.map(|kind| {
+        let left = granted_rows(tables, kind).iter().filter(|row| row.owner != requester);
+        tables.of(Place::Held, kind).iter().chain(left).copied().collect()
+    })
+}
+
+/// The rows behind as many as there are reservations.
+fn granted_rows(tables: &Tables, kind: Kind) -> &[Row] {
+    &tables.of(Place::Owner, kind)[tables.of(Place::Held, kind).len()..]
 }
 
 /// Where a row goes in a table that all domains share; the original keeps a list for each domain. A pool row goes

@@ -69,6 +69,16 @@ impl Tables {
         &mut seven[kind as usize]
     }
 
+    /// Whether each automatic pool range lies inside a fixed one: whatever is granted can then be asked for by its number.
+    pub fn auto_in_fixed(&self) -> bool {
+        Kind::ALL.iter().all(|kind| {
+            let fixed = self.of(Place::Fixed, *kind);
+            let holds =
+                |row: &Row, wide: &Row| wide.domain == row.domain && wide.start <= row.start && row.end <= wide.end;
+            self.of(Place::Auto, *kind).iter().all(|row| fixed.iter().any(|wide| holds(row, wide)))
+        })
+    }
+
     fn seven(&self, place: Place) -> &Seven {
         match place {
             Place::Auto => &self.auto,
@@ -184,6 +194,10 @@ pub enum Call {
         requests: Vec<Request>,
         results: usize,
     },
+    /// Everything granted to a requester goes.
+    Withdraw {
+        requester: u32,
+    },
 }
 
 /// 01's nine numbers of a granted request.
@@ -203,6 +217,7 @@ pub mod no {
     pub const BAD_LINE: u32 = 10;
     pub const SHORT: u32 = 11;
     pub const BAD_LPI: u32 = 12;
+    pub const NOT_FOUND: u32 = 13;
 }
 
 /// A refusal as 01 numbers it; what it does not name is 0.
@@ -290,6 +305,22 @@ pub fn rows_of_record(record: &Record) -> Vec<(Kind, Row)> {
             (Kind::Lpi, ranged([a as u32, 0, 0], &(e..e + f), owner)),
         ],
     }
+}
+
+/// A granted request with its answer written back: it asks for what it was given.
+pub fn pinned(request: &Request, record: &Record) -> Request {
+    let mut request = request.clone();
+    match &mut request.need {
+        Need::Mmio { base, .. } => *base = Choice::Fixed(record[3]),
+        Need::Pio { base, .. } => *base = Choice::Fixed(record[3] as u16),
+        Need::Input { input, .. } => *input = Choice::Fixed(record[4]),
+        Need::Host { irq } => *irq = Choice::Fixed(record[3]),
+        Need::Msi { device, event, lpi, .. } => {
+            let [d, e, l] = [record[5], record[6], record[7]].map(|number| Choice::Fixed(number as u32));
+            (*device, *event, *lpi) = (d, e, l);
+        }
+    }
+    request
 }
 
 fn pool_place(fixed: bool) -> Place {

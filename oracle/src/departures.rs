@@ -36,7 +36,7 @@ fn requests(call: &Call) -> &[Request] {
     match call {
         Call::Request(request) | Call::OfKind(request) => std::slice::from_ref(request),
         Call::Plan { requests, .. } => requests,
-        Call::Add(_) | Call::Start => &[],
+        Call::Add(_) | Call::Start | Call::Withdraw { .. } => &[],
     }
 }
 
@@ -132,7 +132,7 @@ fn full_for_requests(tables: &Tables, call: &Call) -> bool {
 fn owners_unsound(tables: &Tables, call: &Call) -> bool {
     let kinds: &[Kind] = match call {
         Call::OfKind(request) => request.need.kinds(),
-        Call::Request(_) | Call::Plan { .. } => &Kind::ALL,
+        Call::Request(_) | Call::Plan { .. } | Call::Withdraw { .. } => &Kind::ALL,
         Call::Add(_) | Call::Start => &[],
     };
     added::malformed(tables, kinds).is_some()

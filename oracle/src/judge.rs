@@ -2,8 +2,8 @@
 
 use crate::added;
 use crate::calls::{
-    by_domain, no, rows_of_add, rows_of_record, Add, Answer, Call, Kind, Place, PlanAnswer, Record, Request, Seven,
-    Tables,
+    by_domain, no, pinned, rows_of_add, rows_of_record, Add, Answer, Call, Kind, Place, PlanAnswer, Record, Request,
+    Seven, Tables,
 };
 use crate::resources::bare::Bare;
 
@@ -11,12 +11,17 @@ use crate::resources::bare::Bare;
 pub struct Judge {
     bare: Bare,
     tables: Tables,
+    /// What was granted since the start, refused plans left out, and not withdrawn; none once a reservation was made since.
+    lines: Option<Vec<Line>>,
 }
+
+/// A request with its answer written back, and the answer.
+type Line = (Request, Record);
 
 impl Judge {
     /// Fresh tables.
     pub fn fresh() -> Self {
-        Self { bare: Bare::new(), tables: Tables::default() }
+        Self { bare: Bare::new(), tables: Tables::default(), lines: Some(Vec::new()) }
     }
 
     /// All tables in 01's order. Pools and reservations are held against the original's after every call that adds;
@@ -44,6 +49,8 @@ impl Judge {
         }
         if answer.is_refused() {
             self.bare = before;
+        } else if matches!(add, Add::Hold { .. } | Add::Pair { .. }) {
+            self.lines = None;
         }
         self.follow(add);
         answer
@@ -52,7 +59,23 @@ impl Judge {
     /// The owner tables become copies of the reservations.
     pub fn start(&mut self) -> Answer {
         self.tables.owners = self.tables.held.clone();
+        self.lines = Some(Vec::new());
         self.bare.start();
+        Answer::Accepted
+    }
+
+    /// Everything granted to a requester goes. The original has no such call: it begins again with what is left.
+    pub fn withdraw(&mut self, requester: u32) -> Answer {
+        let refused =
+            added::malformed(&self.tables, &Kind::ALL).or_else(|| added::no_withdrawal(&self.tables, requester));
+        if let Some(refusal) = refused {
+            return Answer::Refused(refusal);
+        }
+        self.tables.owners = added::owners_without(&self.tables, requester);
+        if let Some(lines) = &mut self.lines {
+            lines.retain(|(request, _)| request.requester != requester);
+        }
+        self.begin_again();
         Answer::Accepted
     }
 
@@ -84,7 +107,7 @@ impl Judge {
         if let Some(refusal) = refused {
             return PlanAnswer { answer: Answer::Refused(refusal), index: 0, records: Vec::new() };
         }
-        let before = self.tables.owners.clone();
+        let before = (self.tables.owners.clone(), self.lines.as_ref().map(Vec::len));
         let mut records = Vec::new();
         for (index, request) in requests.iter().enumerate() {
             match self.judged(request) {
@@ -106,6 +129,7 @@ impl Judge {
             Call::Request(request) => self.request(request),
             Call::OfKind(request) => self.request_of_kind(request),
             Call::Plan { requests, results } => return self.plan(requests, *results),
+            Call::Withdraw { requester } => self.withdraw(*requester),
         };
         let records = match &answer {
             Answer::Granted(record) => vec![*record],
@@ -123,7 +147,7 @@ impl Judge {
                 bare.seat(&self.tables.owners);
                 Some(bare.request(request))
             }
-            Call::Start | Call::Plan { .. } => None,
+            Call::Start | Call::Plan { .. } | Call::Withdraw { .. } => None,
         }
     }
 
@@ -138,7 +162,7 @@ impl Judge {
         match answer {
             Answer::Granted(_) if full => Answer::plain(no::FULL),
             Answer::Granted(record) => {
-                self.record(&record);
+                self.record(request, &record);
                 Answer::Granted(record)
             }
             refused => refused,
@@ -164,15 +188,38 @@ impl Judge {
         aside.request(request)
     }
 
-    fn record(&mut self, record: &Record) {
+    fn record(&mut self, request: &Request, record: &Record) {
         for (kind, row) in rows_of_record(record) {
             added::insert_row(self.tables.of_mut(Place::Owner, kind), Place::Owner, row);
         }
+        if let Some(lines) = &mut self.lines {
+            lines.push((pinned(request, record), *record));
+        }
     }
 
-    fn put_back(&mut self, owners: Seven) {
+    fn put_back(&mut self, (owners, lines): (Seven, Option<usize>)) {
         self.tables.owners = owners;
+        if let (Some(kept), Some(length)) = (&mut self.lines, lines) {
+            kept.truncate(length);
+        }
         self.bare.forget_allocators();
+    }
+
+    /// The original begins from the reservations and is asked for the lines that are left, each by the numbers that it was
+    /// given: it must give them again. Where these cannot be asked for, or are not known, it goes on from the owner rows.
+    fn begin_again(&mut self) {
+        self.bare.forget_allocators();
+        let Some(lines) = &self.lines else { return };
+        let rows = lines.iter().flat_map(|(_, record)| rows_of_record(record));
+        let mut owners = self.tables.held.clone();
+        rows.for_each(|(kind, row)| owners[kind as usize].push(row));
+        assert_eq!(owners, self.tables.owners, "the owners are the reservations and the lines that are left");
+        if self.tables.auto_in_fixed() {
+            self.bare.start();
+            for (request, record) in lines {
+                assert_eq!(self.bare.request(request), Answer::Granted(*record), "again {request:?}");
+            }
+        }
     }
 
     /// Takes the rows that the original has added into the tables, and holds both against each other.

@@ -78,7 +78,10 @@ fn odd_numbers() {
     let mut number = |numbers: &[u64]| face.step(&Step::Call(numbers.to_vec())).answer[0];
     assert_eq!(number(&[]), 11);
     assert_eq!(number(&[0]), 2);
-    assert_eq!(number(&[5]), 2);
+    assert_eq!(number(&[6]), 2);
+    assert_eq!(number(&[5]), 11);
+    assert_eq!(number(&[5, 0]), 2);
+    assert_eq!(number(&[5, 1]), 13);
     assert_eq!(number(&[1, 0, 1, 0]), 11);
     assert_eq!(number(&[1, 2, 1, 0, 1]), 2);
     assert_eq!(number(&[1, 0, 6]), 2);
@@ -90,12 +93,20 @@ fn odd_numbers() {
     // Asked before a start: the owner table does not begin with the reservation.
     assert_eq!(number(&[4]), 1);
     assert_eq!(number(&[4, 1, 1, 0, 1, 1, 0, 0, 0, 0, 0, 0, 0]), 1);
+    assert_eq!(number(&[5]), 1);
+    assert_eq!(number(&[5, 1 << 32]), 1);
+    assert_eq!(number(&[5, 1]), 1);
     assert_eq!(number(&[3]), 0);
     assert_eq!(number(&[4]), 11);
     assert_eq!(number(&[4, 1, 1, 0, 1, 1, 0, 2, 0, 0, 0, 0, 0]), 2);
     assert_eq!(number(&[4, 1, 1, 0, 1, 1, 0, 0, 0, 7, 7, 7, 7]), 0);
     let rows = face.tables().owners[0].iter().map(|row| (row.start, row.end)).collect::<Vec<_>>();
     assert_eq!(rows, [(0, 1), (1, 2)]);
+    // Asked by whom the reservation is, which stays.
+    assert_eq!(face.step(&Step::Call(vec![5, 1 << 32])).answer[0], 2);
+    assert_eq!(face.step(&Step::Call(vec![5, 1, 9, 9])).answer[0], 0);
+    assert_eq!(face.step(&Step::Call(vec![5, 1])).answer, [13, 0, 0, 0, 0]);
+    assert_eq!(face.tables().owners[0].len(), 1);
 }
 
 #[test]

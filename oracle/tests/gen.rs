@@ -40,6 +40,7 @@ fn name(call: &Call) -> &'static str {
         Call::Request(_) => "request",
         Call::OfKind(_) => "kind",
         Call::Plan { .. } => "plan",
+        Call::Withdraw { .. } => "withdraw",
     }
 }
 
@@ -124,9 +125,11 @@ fn sequences_reach_every_refusal() {
     println!("{counts:#?}");
     let adds = ["accepted", "2 0 0", "3 0 0", "4 0 0", "5 0 0", "9 0 0", "12 0 0"].map(|key| format!("add {key}"));
     let plans = ["accepted", "1 0 0", "2 0 0", "9 0 0", "11 0 0"].map(|key| format!("plan {key}"));
+    let withdrawals = ["accepted", "1 0 0", "2 0 0", "13 0 0"].map(|key| format!("withdraw {key}"));
     let asked = OF_REQUESTS.iter().chain(&["accepted", "1 0 0"]);
     let requests = asked.flat_map(|key| [format!("request {key}"), format!("kind {key}")]);
-    expect(&counts, adds.into_iter().chain(plans).chain(requests));
+    expect(&counts, adds.into_iter().chain(plans).chain(withdrawals).chain(requests));
+    assert!(counts["withdraw accepted"] * 2 > counts["withdraw 13 0 0"]);
 }
 
 /// An MSI domain is refused at each of its three ranges for each reason, LPIs are pooled, held and asked for on both sides

@@ -308,6 +308,28 @@ impl Plain {
         PlanAnswer { answer: Answer::Accepted, index: 0, records }
     }
 
+    /// Everything granted to one requester goes; reservations stay even if their owner has the same number.
+    fn withdraw(&mut self, requester: u32) -> Answer {
+        if requester == 0 {
+            return Answer::plain(no::BAD_INPUT);
+        }
+        let mut gone = 0;
+        for kind in Kind::ALL {
+            let held = self.tables.of(Place::Held, kind).len();
+            let table = self.tables.of_mut(Place::Owner, kind);
+            for at in (held..table.len()).rev() {
+                if table[at].owner == requester {
+                    table.remove(at);
+                    gone += 1;
+                }
+            }
+        }
+        if gone == 0 {
+            return Answer::plain(no::NOT_FOUND);
+        }
+        Answer::Accepted
+    }
+
     fn call(&mut self, call: &Call) -> PlanAnswer {
         let answer = match call {
             Call::Add(add) => self.add(add),
@@ -315,10 +337,11 @@ impl Plain {
                 self.tables.owners = self.tables.held.clone();
                 Answer::Accepted
             }
-            Call::Request(_) if !self.sound(&Kind::ALL) => Answer::plain(no::MALFORMED),
+            Call::Request(_) | Call::Withdraw { .. } if !self.sound(&Kind::ALL) => Answer::plain(no::MALFORMED),
             Call::OfKind(request) if !self.sound(request.need.kinds()) => Answer::plain(no::MALFORMED),
             Call::Request(request) | Call::OfKind(request) => self.request(request),
             Call::Plan { requests, results } => return self.plan(requests, *results),
+            Call::Withdraw { requester } => self.withdraw(*requester),
         };
         let records = match answer {
             Answer::Granted(record) => vec![record],

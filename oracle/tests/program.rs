@@ -60,7 +60,7 @@ fn every_written_line_reads_back() {
                 Call::Add(add) => check(line_of_add(&add), Line::Add(add)),
                 Call::Request(request) | Call::OfKind(request) => wants.push(request),
                 Call::Plan { requests, .. } => wants.extend(requests),
-                Call::Start => {}
+                Call::Start | Call::Withdraw { .. } => {}
             }
         }
     }

@@ -63,6 +63,7 @@ int main(void) {
     EXPECT(planner_pool_host(state, 0, 1, 2) == 1);
     EXPECT(planner_hold_host(state, 1, 1, 2) == 1);
     EXPECT(planner_start(state) == 1);
+    EXPECT(planner_withdraw(state, 1) == 1);
     EXPECT(planner_ask(state, request, record) == 1 && record[0] == 7);
     plans();
     texts();

@@ -1,6 +1,6 @@
-//! What can be asked: pool ranges, reservations, requests; each as the numbers that the planner reads.
+//! What can be asked: pool ranges, reservations, requests; each as the numbers that the planner reads. A request with its answer written back.
 
-use crate::REQUEST;
+use crate::{raw, Granted, REQUEST};
 use core::ops::Range;
 
 /// Which pools a range is added to: those that automatic requests search, or those that fixed requests are allowed in.
@@ -222,6 +222,15 @@ pub enum Choice<T> {
     Fixed(T),
 }
 
+impl<T> Choice<T> {
+    /// That number, where there is one.
+    fn ask_for(&mut self, number: Option<T>) {
+        if let Some(number) = number {
+            *self = Choice::Fixed(number);
+        }
+    }
+}
+
 impl<T: Into<u64> + Copy> Choice<T> {
     fn numbers(&self) -> [u64; 2] {
         match *self {
@@ -347,5 +356,44 @@ impl Request {
             z[0],
             z[1],
         ]
+    }
+
+    /// The request with its answer written back: what was automatic then asks for the number that it was given. A record that is not of this kind, requester and
+    /// slot changes nothing. Of a whole plan [`Plan::pin`](crate::Plan::pin) does the same.
+    ///
+    /// Of the requests that were accepted since one start, one by one or in plans accepted whole, and whose requester was not withdrawn after them, any selection,
+    /// written back, gets the same numbers again, in any order, as one plan from a fresh start on the pools and reservations of that start, provided that each
+    /// automatic pool range lies inside a fixed one.
+    ///
+    /// ```
+    /// use thurgoleo::{Choice, Planner, Pool, Request, Use, Want};
+    /// let mut planner = Planner::new().unwrap();
+    /// planner.add_pool(Use::Automatic, Pool::Host { start: 40, end: 60 }).unwrap();
+    /// let irq = Request { requester: 7, slot: 0, want: Want::HostIrq { choice: Choice::Auto } };
+    /// let granted = planner.allocate(&irq).unwrap();
+    /// assert_eq!(irq.pinned(&granted).want, Want::HostIrq { choice: Choice::Fixed(40) });
+    ///
+    /// let other = Request { slot: 1, ..irq };
+    /// assert_eq!(other.pinned(&granted), other);
+    /// ```
+    pub fn pinned(&self, granted: &Granted) -> Request {
+        let mut numbers = self.numbers();
+        raw::pin(&mut numbers, &granted.numbers());
+        let [x, y, z] = [7, 9, 11].map(|at| (numbers[at - 1] == 1).then_some(numbers[at]));
+        let mut request = *self;
+        match &mut request.want {
+            Want::Mmio { choice, .. } => choice.ask_for(x),
+            Want::Pio { choice, .. } => choice.ask_for(x.map(|n| n as u16)),
+            Want::Input { choice, .. } => choice.ask_for(x),
+            Want::HostIrq { choice } => choice.ask_for(x),
+            Want::Msi {
+                device, event, lpi, ..
+            } => {
+                device.ask_for(x.map(|n| DeviceId(n as u32)));
+                event.ask_for(y.map(|n| EventId(n as u32)));
+                lpi.ask_for(z.map(|n| Lpi(n as u32)));
+            }
+        }
+        request
     }
 }

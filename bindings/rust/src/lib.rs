@@ -95,7 +95,7 @@ pub struct Row {
     pub owner: u64,
 }
 
-/// The planner with its tables: [`STATE_SIZE`] bytes, on the stack unless it is put elsewhere; making one takes three of them there, so make it where there is room and keep it. Requests, plans, the calls that add or start and reading back run on a stack of 64 KB; [`text`] and [`pin_text`] keep a state there: give a thread that makes them [`TEXT_STACK`] bytes.
+/// The planner with its tables: [`STATE_SIZE`] bytes, on the stack unless it is put elsewhere; making one takes three of them there, so make it where there is room and keep it. Requests, plans, withdrawals, the calls that add or start and reading back run on a stack of 64 KB; [`text`] and [`pin_text`] keep a state there: give a thread that makes them [`TEXT_STACK`] bytes.
 #[derive(Clone)]
 pub struct Planner {
     state: [u64; WORDS],
@@ -199,6 +199,33 @@ impl Planner {
         answer::unsay(&mut self.state);
         let number = raw::allocate(&mut self.state, &request.numbers(), &mut record);
         answer::said(&self.state, number).map(|()| Granted::of(record))
+    }
+
+    /// Withdraws everything granted to a requester, by plans and single requests, for all its slots; NotFound where there is nothing. Reservations stay, also those
+    /// whose owner has the same number, and so does what all others have: their rows close up in order, and later requests may have the rows and numbers that
+    /// are free again. The requester may come back; nothing is kept for it. Requester 0 is BadInput.
+    ///
+    /// ```
+    /// use thurgoleo::{Choice, Hold, Kind, Part, Planner, Pool, Refusal, Request, Use, Want};
+    /// let mut planner = Planner::new()?;
+    /// planner.add_pool(Use::Automatic, Pool::Host { start: 40, end: 60 })?;
+    /// planner.reserve(7, Hold::Host { start: 40, end: 41 })?;
+    /// planner.start()?;
+    /// let irq = |requester, slot| Request { requester, slot, want: Want::HostIrq { choice: Choice::Auto } };
+    /// for (requester, slot) in [(7, 0), (8, 0), (7, 1)] {
+    ///     planner.allocate(&irq(requester, slot))?;
+    /// }
+    ///
+    /// // 41 and 43 go, 40 is reserved and stays
+    /// planner.withdraw(7)?;
+    /// let left: Vec<_> = planner.rows(Part::Owners, Kind::Host).map(|row| (row.owner, row.start)).collect();
+    /// assert_eq!(left, [(7, 40), (8, 42)]);
+    /// assert_eq!(planner.withdraw(7), Err(Refusal::NotFound));
+    /// assert_eq!(planner.allocate(&irq(9, 0))?.number(), 41);
+    /// # Ok::<(), Refusal>(())
+    /// ```
+    pub fn withdraw(&mut self, requester: u32) -> Result<(), Refusal> {
+        self.call(&[5, requester.into()])
     }
 
     /// A plan: its requests in order. If one is refused the tables are put back, and the results keep what was granted before it.

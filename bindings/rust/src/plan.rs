@@ -120,7 +120,7 @@ impl Plan {
     }
 
     /// Writes what the last run granted back into the requests: what was automatic is then asked for by its number. Requests that were not granted stay.
-    /// For a plan that is a text there is [`pin_text`](crate::pin_text).
+    /// For a single request there is [`Request::pinned`], for a plan that is a text [`pin_text`](crate::pin_text).
     pub fn pin(&mut self) {
         raw::pin(
             &mut self.requests[..REQUEST * self.asked],

@@ -33,6 +33,8 @@ pub enum Refusal {
     Short,
     /// A range of LPIs, pooled or reserved, starts below [`FIRST_LPI`]. No request is refused so.
     BadLpi,
+    /// Nothing is granted to the requester that is to be withdrawn. Reservations are no grants.
+    NotFound,
     /// A register of memory is neither of 32 nor of 64 bits.
     BadType,
     /// A register of 64 bits begins at the last word, and has no high half.
@@ -64,6 +66,7 @@ impl Refusal {
             10 => Refusal::BadLine,
             11 => Refusal::Short,
             12 => Refusal::BadLpi,
+            13 => Refusal::NotFound,
             14 => Refusal::BadType,
             15 => Refusal::BadPair,
             16 => Refusal::BadMask,
@@ -87,6 +90,7 @@ impl Refusal {
             Refusal::BadLine => 10,
             Refusal::Short => 11,
             Refusal::BadLpi => 12,
+            Refusal::NotFound => 13,
             Refusal::BadType => 14,
             Refusal::BadPair => 15,
             Refusal::BadMask => 16,
@@ -126,6 +130,7 @@ impl fmt::Display for Refusal {
     /// let refusal = Refusal::Conflict { namespace: 4, owner: 9, detail: 4 };
     /// assert_eq!(refusal.to_string(), "owner 9 stands in the way among host IRQs: the host IRQ is taken");
     /// assert_eq!(Refusal::BadLpi.to_string(), "a range of LPIs starts below 8192");
+    /// assert_eq!(Refusal::NotFound.to_string(), "nothing is granted to the requester");
     /// assert_eq!(Refusal::BadPair.to_string(), "a register of 64 bits begins at the last word");
     /// ```
     fn fmt(&self, f: &mut fmt::Formatter<'_>) -> fmt::Result {
@@ -163,6 +168,7 @@ impl fmt::Display for Refusal {
             Refusal::BadLine => f.write_str("the line cannot be read"),
             Refusal::Short => f.write_str("a list is too short, or a plan too long"),
             Refusal::BadLpi => write!(f, "a range of LPIs starts below {FIRST_LPI}"),
+            Refusal::NotFound => f.write_str("nothing is granted to the requester"),
             Refusal::BadType => f.write_str("a register of memory is neither of 32 nor of 64 bits"),
             Refusal::BadPair => f.write_str("a register of 64 bits begins at the last word"),
             Refusal::BadMask => f.write_str(

@@ -130,7 +130,12 @@ fn what_cannot_be_read() {
     for (numbers, number) in [
         (&[][..], 11),
         (&[0], 2),
-        (&[5], 2),
+        (&[5], 11),
+        (&[5, 0], 2),
+        (&[5, 1 << 32], 2),
+        (&[5, u64::MAX], 2),
+        (&[5, 1], 13),
+        (&[6], 2),
         (&[u64::MAX], 2),
         (&[1], 11),
         (&[1, 0, 9], 2),
@@ -167,7 +172,16 @@ fn what_cannot_be_read() {
 fn an_unsound_state_is_1_before_all_else() {
     let mut s = state();
     s[0] = POOL_ROWS as u64 + 1;
-    for numbers in [&[][..], &[9], &[1, 0, 1], &[3], &[4]] {
+    for numbers in [
+        &[][..],
+        &[9],
+        &[1, 0, 1],
+        &[3],
+        &[4],
+        &[5],
+        &[5, 0],
+        &[5, 1],
+    ] {
         assert_eq!(call(&mut s, numbers)[0], 1);
     }
     assert_eq!(s[0], POOL_ROWS as u64 + 1);

@@ -101,3 +101,29 @@ fn what_cannot_be_read_is_not_pinned() {
         assert_eq!(request[6..8], [1, 16]);
     }
 }
+
+/// One request of each kind, with its own record and with all others': the typed request says what the planner writes into its numbers.
+#[test]
+fn a_single_request_is_pinned() {
+    let mut p = stand();
+    let requests = mixed(5);
+    let granted: Vec<_> = requests.iter().map(|r| p.allocate(r).unwrap()).collect();
+    for request in &requests {
+        for granted in &granted {
+            let (mut numbers, record) = (request.numbers(), granted.numbers());
+            pin(&mut numbers, &record);
+            let pinned = request.pinned(granted);
+            assert_eq!(pinned.numbers(), numbers);
+            assert_eq!(
+                pinned == *request,
+                record[1] != u64::from(request.requester)
+            );
+            assert_eq!(pinned.pinned(granted), pinned);
+        }
+    }
+    // from a fresh start each gets what it had, from the last to the first
+    let mut again = stand();
+    for (request, granted) in requests.iter().zip(&granted).rev() {
+        assert_eq!(again.allocate(&request.pinned(granted)), Ok(*granted));
+    }
+}

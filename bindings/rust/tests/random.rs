@@ -96,7 +96,7 @@ fn calls(count: usize) {
         } else if which > 0 {
             // a refusal changes the five numbers alone; an accepted call leaves tables that a start takes
             let said = memory[WORDS - 4];
-            assert!(said <= 12);
+            assert!(said <= 13);
             if said != 0 {
                 assert!(memory[..WORDS - 4] == before[..WORDS - 4]);
                 refused += 1;

@@ -152,6 +152,7 @@ fn nothing_is_accepted(size: u64) {
     assert_eq!(p.add_pool(Use::Fixed, ports), malformed);
     assert_eq!(p.reserve(1, Hold::Host { start: 1, end: 2 }), malformed);
     assert_eq!(p.start(), malformed);
+    assert_eq!(p.withdraw(1), malformed);
     assert_eq!(p.allocate(&IRQ), Err(Refusal::Malformed));
     if answer() != 0 {
         assert!(p.row(Part::Owners, Kind::Host, 0).is_none());
@@ -174,8 +175,8 @@ fn nothing_is_accepted(size: u64) {
 
 #[test]
 fn whatever_it_answers() {
-    let silent = [0, 1, 2, 9, 12, 18, u64::MAX].map(|number| (number, false));
-    let writing = [1, 2, u64::MAX].map(|number| (number, true));
+    let silent = [0, 1, 2, 9, 12, 13, 18, u64::MAX].map(|number| (number, false));
+    let writing = [1, 2, 13, u64::MAX].map(|number| (number, true));
     for size in [STATE_SIZE as u64, 0, 1, 8, STATE_SIZE as u64 + 8, u64::MAX] {
         for (number, writes) in silent.into_iter().chain(writing) {
             SIZE.store(size, SeqCst);

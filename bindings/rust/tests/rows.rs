@@ -164,7 +164,8 @@ impl State {
         out
     }
 
-    /// Whether pools and reservations are sound: a call with too few numbers is 1 before it is 11. Whether all tables are: a plan of no requests is 1 before it is 0.
+    /// Whether pools and reservations are sound: a call with too few numbers is 1 before it is 11. Whether all tables are: a plan of no requests is 1 before it is 0. A
+    /// withdrawal judges as a plan does, before it is 11 or 2.
     fn judged(&self) -> [u64; 2] {
         let mut tried = State(self.0.clone(), Vec::new());
         tried.call(&[1]);
@@ -172,7 +173,12 @@ impl State {
         let none: &mut [u64] = &mut [];
         let (from, to) = (none.as_ptr(), none.as_mut_ptr());
         unsafe { planner_plan(tried.lent(), SIZE, from, 0, to, 0) };
-        [given, u64::from(tried.answer()[0] == 0)]
+        let sound = u64::from(tried.answer()[0] == 0);
+        for (numbers, number) in [(&[5][..], 11), (&[5, 0], 2)] {
+            tried.call(numbers);
+            assert_eq!(tried.answer()[0], if sound == 1 { number } else { 1 });
+        }
+        [given, sound]
     }
 }
 
@@ -219,6 +225,11 @@ fn run(commands: &str) -> String {
             7 => state.fill(place(1), place(2), place(3)),
             8 => ask(&mut state, &x[1..13], 9, &mut shown),
             9 => ask(&mut state, &x[2..14], place(1), &mut shown),
+            11 => {
+                x[0] = 5;
+                state.call(&x);
+                writeln!(shown, "{}", line(&state.answer())).unwrap();
+            }
             _ => writeln!(shown, "{}", u64::from(state.1 == state.tables())).unwrap(),
         }
     }

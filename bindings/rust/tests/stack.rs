@@ -1,4 +1,4 @@
-//! Requests, plans, calls that add or start, reading back, and registers on a stack of 64 KB, as a hypervisor's thread has it: through the C face the same answers, records and states as on a
+//! Requests, plans, calls that add or start, withdrawals, reading back, and registers on a stack of 64 KB, as a hypervisor's thread has it: through the C face the same answers, records and states as on a
 //! large one; through the wrapper what it grants. A text, answered and pinned, on the stack that is said to be enough for it.
 
 mod common;
@@ -138,6 +138,8 @@ const CALLS: &[&[u64]] = &[
     &[3],
     &[4, 1, 9, 0, 0x1000, 0x1000, 0, 0, 0, 0, 0, 0, 0],
     &[5],
+    &[5, 9],
+    &[6],
     &[],
 ];
 
@@ -155,6 +157,29 @@ fn calls_that_add_or_start() {
         assert_eq!(same(planner_call, &unsound, call, 0).0, 1);
     }
     assert_eq!(accepted, 15);
+}
+
+/// As many grants as a plan has, of all kinds, by two requesters: one goes, then the other; there is none of a third.
+#[test]
+fn withdrawals() {
+    let mut state = stand().as_words().to_vec();
+    let mut requests = numbers(&mixed(MOST));
+    for (i, request) in requests.chunks_mut(REQUEST).enumerate() {
+        request[1] = 7 + (i % 3 % 2) as u64;
+    }
+    let (filled, planned, _) = made(LARGE, planner_plan, &state, &requests, RECORD * MOST);
+    assert_eq!(filled as usize, RECORD * MOST);
+    let (number, one_left, told) = same(planner_call, &planned, &[5, 7], 5);
+    assert_eq!((number, told), (0, vec![0; 5]));
+    let (number, none_left, _) = same(planner_call, &one_left, &[5, 8], 5);
+    assert_eq!(number, 0);
+    assert!(none_left == state);
+    for requester in [7, 9, 0, 1 << 32] {
+        let (number, after, _) = same(planner_call, &none_left, &[5, requester], 0);
+        assert_eq!(number, if requester % (1 << 32) == 0 { 2 } else { 13 });
+        state[after.len() - 5] = number;
+        assert!(after == state);
+    }
 }
 
 unsafe extern "C" fn read(

@@ -21,6 +21,10 @@ unfoldable pub firstOf {ℓ} : {A : Type ℓ} → (A → Bool) → List A → Op
 firstOf p [] = none
 firstOf p (x ∷ xs) = elim (p x) [ true ↦ some x | false ↦ firstOf p xs ]
 
+unfoldable pub onlyOf {ℓ} : {A : Type ℓ} → (A → Bool) → List A → List A  -- the elements that pass, in their order
+onlyOf p [] = []
+onlyOf p (x ∷ xs) = elim (p x) [ true ↦ x ∷ onlyOf p xs | false ↦ onlyOf p xs ]
+
 unfoldable pub lower : ℕ → Option ℕ → ℕ  -- the lesser of the two, where there is a second
 lower x none = x
 lower x (some y) = min x y
@@ -31,7 +35,7 @@ leastOf p (x ∷ xs) = let rest : Option ℕ = leastOf p xs in elim (p x) [ true
 
 -- ---- refusals and answers
 pub data Refusal : Type 0 where  -- what stands behind a name is what it names: an owner, a namespace, a detail
-  malformed badInput badOwner emptyRange full badLine short badLpi badType badPair badMask portsTooLarge : Refusal
+  malformed badInput badOwner emptyRange full badLine short badLpi notFound badType badPair badMask portsTooLarge : Refusal
   reserved : ℕ → Refusal  -- the owner
   fixedNotAllowed exhausted : ℕ → Refusal  -- the namespace
   conflict : ℕ → ℕ → ℕ → Refusal  -- namespace, owner, detail
@@ -62,6 +66,7 @@ tell i full = says i 9 0 0 0
 tell i badLine = says i 10 0 0 0
 tell i short = says i 11 0 0 0
 tell i badLpi = says i 12 0 0 0
+tell i notFound = says i 13 0 0 0
 tell i badType = says i 14 0 0 0
 tell i badPair = says i 15 0 0 0
 tell i badMask = says i 16 0 0 0

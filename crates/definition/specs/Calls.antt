@@ -62,8 +62,11 @@ granting cs s = state (s .pools) (s .held) (λ k. pushAll (s .owners k) (rowsOf 
 abbrev pub starting : State → State  -- the owner tables become copies of the reservations, whatever they held
 starting s = state (s .pools) (s .held) (s .held) silence
 
-abbrev pub stored : List Span → Table Span  -- one pool table has other used rows, and zeros behind them
-stored ps = record { count = length ps; rows = ps ++ replicate (poolLimit - length ps) blankSpan }
+abbrev pub filled : {A : Type 0} → ℕ → A → List A → Table A  -- a table of these used rows, and zeros behind them
+filled size zero rows = record { count = length rows; rows = rows ++ replicate (size - length rows) zero }
+
+abbrev pub stored : List Span → Table Span  -- one pool table has other used rows
+stored = filled poolLimit blankSpan
 
 abbrev pub sameUse : Use → Use → Bool
 sameUse automatic automatic = true

@@ -1,19 +1,21 @@
 -- Laws of tables cut back: rows that were pushed are gone, and a plan's grants with them. Assumes nothing.
 use mathlib.Core.Path.{_≡_, refl, sym, ap, _∙_}
-use mathlib.Core.Bool.{Bool}
-use mathlib.Core.List.{List, [], _∷_}
-use Prim.Native.Nat.{ℕ, zero, suc, _≤_}
+use mathlib.Core.Bool.{Bool, true, not}
+use mathlib.Core.List.{List, [], _∷_, _++_}
+use Prim.Native.Nat.{ℕ, zero, suc, _+_, _-_, _≤_, max}
 use native.Mathlib.Omega.{arith}
-use lib.ListN.{length, getD, set, drop}
+use native.Mathlib.Nat.{add-zero}
+use lib.ListN.{length, getD, set, take, drop, replicate, take-append-drop}
 use lib.Seq.{getD-set-other, set-getD, set-set}
 use lib.Dec.{T}
 use Rattle.definition.specs.Base.{allOf, Refusal, Said, silence, tell}
 use Rattle.definition.specs.BaseLaws.{and-l, and-r}
-use Rattle.definition.specs.Tables.{Kind, kinds, sameRow, Table, blankRow}
+use Rattle.definition.specs.Tables.{Kind, kinds, sameRow, Table, used, blankRow}
 use Rattle.definition.specs.Pools.{Claim, rowsOf}
 use Rattle.definition.specs.Calls.{State, state, sound, saying, pushAll, granting}
 use Rattle.definition.specs.Plan.{Grant, stopped, allRows, ended}
-use Rattle.definition.specs.Cut.{wiped, cutTo, cutting}
+use Rattle.definition.specs.Cut.{wiped, cutTo, cutting, staying, closeTo}
+use Rattle.definition.specs.OnlyLaws.{only-none}
 use Rattle.definition.specs.WipeLaws.{wiped-none, wiped-down}
 use Rattle.definition.specs.RowLaws.{every-kind, row-eq}
 use Rattle.definition.specs.StateLaws.{sound-for}
@@ -51,6 +53,35 @@ module _ {A : Type 0} (b : A) where
   bare-from p same zero (r ∷ rows) t (suc j) h = bare-from p same zero rows (and-r (p r) (allOf p rows) t) j (omega arith)
   bare-from p same (suc n) (r ∷ rows) t zero h = absurd (omega arith)
   bare-from p same (suc n) (r ∷ rows) t (suc j) h = bare-from p same n rows t j (omega arith)
+
+-- ---- all rows go
+
+drop-nil : {A : Type 0} (j : ℕ) → _≡_ {A = List A} (drop j []) []
+drop-nil zero = refl
+drop-nil (suc j) = refl
+
+-- the table cut, in its parts
+wiped-parts : {A : Type 0} (b : A) (m n j : ℕ) (rows : List A) → j ≡ max m n → take m rows ++ (replicate (length (drop m (take n rows))) b ++ drop j rows) ≡ wiped m n b rows
+unfolding wiped
+wiped-parts {A} b m zero j rows e =
+    let f : j ≡ m = omega (arith, e) in
+    ap (λ (xs : List A). take m rows ++ (replicate (length xs) b ++ drop j rows)) (drop-nil m) ∙ ap (λ i. take m rows ++ drop i rows) f ∙ take-append-drop m rows
+wiped-parts b zero (suc n) j [] e = drop-nil j
+wiped-parts b (suc m) (suc n) j [] e = drop-nil j
+wiped-parts b m (suc n) zero (r ∷ rows) e = absurd (omega (arith, e))
+wiped-parts {A} b zero (suc n) (suc j) (r ∷ rows) e = ap {B = List A} (λ rs. b ∷ rs) (wiped-parts b zero n j rows (omega (arith, e)))
+wiped-parts {A} b (suc m) (suc n) (suc j) (r ∷ rows) e = ap {B = List A} (λ rs. r ∷ rs) (wiped-parts b m n j rows (omega (arith, e)))
+
+pub close-all : {A : Type 0} (m : ℕ) (b : A) (t : Table A) → closeTo (λ r. true) m b t ≡ cutTo m b t
+unfolding closeTo cutTo
+close-all m b t =
+    let z : staying (λ r. true) m t ≡ [] = only-none (λ r. not true) (drop m (used t)) (λ x n u. u) in
+    let d : length (drop m (used t)) - 0 ≡ length (drop m (used t)) = omega arith in
+    λ i. record {
+      count = (ap (λ xs. m + length xs) z ∙ add-zero m) i;
+      rows = (ap (λ xs. take m (t .rows) ++ (xs ++ (replicate (length (drop m (used t)) - length xs) b ++ drop (max m (t .count)) (t .rows)))) z
+          ∙ ap (λ n. take m (t .rows) ++ (replicate n b ++ drop (max m (t .count)) (t .rows))) d ∙ wiped-parts b m (t .count) (max m (t .count)) (t .rows) refl) i;
+    }
 
 -- ---- the whole state
 

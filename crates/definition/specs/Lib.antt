@@ -4,9 +4,12 @@ pub mod Pools
 pub mod Request
 pub mod Calls
 pub mod Plan
+pub mod Withdraw
+pub mod History
 pub mod Registers
 pub mod Cut
 pub mod BaseLaws
+pub mod OnlyLaws
 pub mod SearchLaws
 pub mod RowLaws
 pub mod ClaimLaws
@@ -27,11 +30,15 @@ pub mod ReplayLaws
 pub mod PickLaws
 pub mod PlanLaws
 pub mod FloorLaws
+pub mod WithdrawLaws
 pub mod WipeLaws
 pub mod CutLaws
-pub mod CountLaws
+pub mod GrantLaws
+pub mod HistoryLaws
+pub mod LiveLaws
 pub mod IntoLaws
 pub mod IntoPlanLaws
+pub mod StayLaws
 pub mod ReadLaws
 pub mod ReadRowsLaws
 pub mod MaskLaws
@@ -42,3 +49,4 @@ pub mod RegisterFairLaws
 pub mod Cases
 pub mod RegisterCases
 pub mod Example
+pub mod WithdrawCases

@@ -32,7 +32,7 @@ unfolding indices
 map-cons g gs i zero = refl
 map-cons g gs i (suc k) = ap {B = List Grant} (λ xs. nth gs i ∷ xs) (map-cons g gs (suc i) k)
 
-nth-all : (gs : List Grant) → map (nth gs) (indices 0 (length gs)) ≡ gs
+pub nth-all : (gs : List Grant) → map (nth gs) (indices 0 (length gs)) ≡ gs
 unfolding indices
 nth-all [] = refl
 nth-all (g ∷ gs) = ap {B = List Grant} (λ xs. g ∷ xs) (map-cons g gs 0 (length gs) ∙ nth-all gs)

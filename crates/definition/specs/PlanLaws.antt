@@ -3,13 +3,13 @@ use mathlib.Core.Path.{_≡_, refl, sym, subst, ap, _∙_}
 use mathlib.Core.Logic.{_⊎_, inl, inr}
 use mathlib.Core.Bool.{Bool, true, false}
 use mathlib.Core.List.{List, _++_, map}
-use Prim.Native.Nat.{ℕ, _+_, _*_, _≤_, min}
+use Prim.Native.Nat.{ℕ, _*_, _≤_, min}
 use native.Mathlib.Omega.{arith}
 use lib.ListN.{length, take, length-map, length-take}
 use lib.Dec.{T, leb, leb→le, le→leb}
 use Rattle.definition.specs.BaseLaws.{and-l, and-r, and-i, either}
 use Rattle.definition.specs.Tables.{planLimit, recordSize, Kind, kinds}
-use Rattle.definition.specs.Base.{Refusal, malformed, badInput, badOwner, emptyRange, full, badLine, short, badLpi, badType, badPair, badMask, portsTooLarge, reserved, fixedNotAllowed, exhausted, conflict, Said, says, silence, tell, Answer, accepted, refused, require, _then_}
+use Rattle.definition.specs.Base.{Refusal, malformed, badInput, badOwner, emptyRange, full, badLine, short, badLpi, notFound, badType, badPair, badMask, portsTooLarge, reserved, fixedNotAllowed, exhausted, conflict, Said, says, silence, tell, Answer, accepted, refused, require, _then_}
 use Rattle.definition.specs.Pools.{Claim, rowsOf, _⊕_, Hold, heldRows, reserve}
 use Rattle.definition.specs.Request.{Request, resolve}
 use Rattle.definition.specs.Calls.{State, state, poolsOf, heldOf, ownersOf, given, sound, saying, pushAll, holding, granting, starting, hold, start, want, settle, serve}
@@ -18,7 +18,7 @@ use Rattle.definition.specs.RowLaws.{every-kind}
 use Rattle.definition.specs.ClaimLaws.{Fits, length-put, rows-append}
 use Rattle.definition.specs.TableLaws.{push-append}
 use Rattle.definition.specs.RequestLaws.{require-accepted, required, AutoInFixed, Bounded}
-use Rattle.definition.specs.StateLaws.{Sound, GivenFor, SoundFor, given-for, for-given, sound-for, for-sound, sound-saying, sound-ground, sound-fits, granting-sound, settle-malformed}
+use Rattle.definition.specs.StateLaws.{Sound, GivenFor, SoundFor, given-for, for-given, sound-for, for-sound, sound-saying, sound-ground, sound-fits, granting-sound, start-sound, settle-malformed}
 use Rattle.definition.specs.RunLaws.{run-take, run-requests, run-kept, Sounds, not-done}
 use Rattle.definition.specs.ReplayLaws.{Pick, pick-length, Ready, run-ready, kept, replay-run, kept-rows, kept-records}
 
@@ -34,6 +34,7 @@ tell-number i full e = omega arith
 tell-number i badLine e = omega arith
 tell-number i short e = omega arith
 tell-number i badLpi e = omega arith
+tell-number i notFound e = omega arith
 tell-number i badType e = omega arith
 tell-number i badPair e = omega arith
 tell-number i badMask e = omega arith
@@ -53,6 +54,7 @@ told-at i full = refl
 told-at i badLine = refl
 told-at i short = refl
 told-at i badLpi = refl
+told-at i notFound = refl
 told-at i badType = refl
 told-at i badPair = refl
 told-at i badMask = refl
@@ -137,12 +139,13 @@ unfolding planRun
 says-plan rs s out gs d =
     ap atOnce (required (sound kinds s) malformed _ (d .judged) ∙ required (roomy rs out) short (accepted (run (poolsOf s) (ownersOf s) rs)) (d .has-room)) ∙ d .ran
 
-roomy-fewer : (rs qs : List Request) (out out′ : List ℕ) → T (roomy rs out) → length qs ≤ length rs → recordSize * length qs ≤ length out′ → T (roomy qs out′)
+roomy-from : (rs : List Request) (out : List ℕ) → length rs ≤ planLimit → recordSize * length rs ≤ length out → T (roomy rs out)
 unfolding roomy
-roomy-fewer rs qs out out′ t fewer long =
-    let t₁ : T (leb (length rs) planLimit) = search (and-l, and-r) in
-    let l : length qs ≤ planLimit = omega (arith, leb→le (length rs) planLimit t₁) in
-    search (and-i, le→leb)
+roomy-from rs out few long = search (and-i, le→leb)
+
+roomy-few : (rs : List Request) (out : List ℕ) → T (roomy rs out) → length rs ≤ planLimit
+unfolding roomy
+roomy-few rs out t = let t₁ : T (leb (length rs) planLimit) = search (and-l, and-r) in leb→le (length rs) planLimit t₁
 
 roomy-long : (rs : List Request) (out : List ℕ) → T (roomy rs out) → recordSize * length rs ≤ length out
 unfolding roomy
@@ -155,7 +158,7 @@ plan-take i rs s out gs e =
     let n : length (take i rs) ≡ min i (length rs) = length-take i rs in
     says-plan (take i rs) s out (take i gs) record {
       judged = d .judged;
-      has-room = roomy-fewer rs (take i rs) out out (d .has-room) (omega arith) (omega (arith, roomy-long rs out (d .has-room)));
+      has-room = roomy-from (take i rs) out (omega (arith, roomy-few rs out (d .has-room))) (omega (arith, roomy-long rs out (d .has-room)));
       ran = run-take (poolsOf s) i rs (ownersOf s) gs (d .ran);
     }
 
@@ -217,6 +220,31 @@ given-alike s t ep eh g =
     let h : GivenFor kinds s = given-for kinds s g in
     for-given kinds t (λ k m. record { pools = rw ep (h k m .pools); held = rw eh (h k m .held) })
 
+-- the same pools and reservations, room for the results, and lines that can all be added to the reservations: any of them, pinned, as one plan from a fresh start
+module _ (s t : State) (gs ps : List Grant) (out : List ℕ) (g : T (given kinds s)) (ready : Ready (poolsOf s) (heldOf s) gs) (picked : Pick ps gs) (few : length ps ≤ planLimit)
+    (same-pools : t .pools ≡ s .pools) (same-held : t .held ≡ s .held) (long : recordSize * length ps ≤ length out) where
+  ready-start : serve kinds start t ≡ starting s
+  ready-start = start-is kinds t (given-alike s t same-pools same-held g) ∙ (λ i. state (same-pools i) (same-held i) (same-held i) silence)
+
+  ready-run : planRun (map pinned ps) (starting s) out ≡ done (map kept ps)
+  ready-run = says-plan (map pinned ps) (starting s) out (map kept ps) record {
+    judged = for-sound kinds (starting s) (λ k m. start-sound s k (given-for kinds s g k m));
+    has-room = roomy-from (map pinned ps) out (omega (arith, length-map ps pinned)) (omega (arith, length-map ps pinned));
+    ran = replay-run picked ready;
+  }
+
+  -- all are accepted (the five numbers are 0), each gets the numbers it had before, and each owner table is its reservation table with those lines' rows
+  -- pushed to its end in the order run
+  pub ready-replay : plan (map pinned ps) (serve kinds start t) out ≡ lent (granting (allRows ps) (starting s)) (written (records ps) out)
+  unfolding plan
+  ready-replay = rw (ready-start, ready-run, kept-rows ps, kept-records ps)
+
+  pub ready-rows : (k : Kind) → ownersOf (plan (map pinned ps) (serve kinds start t) out .state) k ≡ heldOf s k ++ rowsOf k (allRows ps)
+  unfolding _⊕_
+  ready-rows k =
+      let e : ownersOf (granting (allRows (map kept ps)) (starting s)) k ≡ heldOf s k ++ rowsOf k (allRows (map kept ps)) = (plan-done (map pinned ps) (starting s) out (map kept ps) ready-run k) .1 in
+      rw ready-replay (rw (kept-rows ps) at e)
+
 -- the hypotheses of demand 3: a plan was accepted from freshly started tables; each range of the automatic pools lies inside one range of the fixed
 -- pools of its kind and domain; any of its lines, each at most once, in any order; the same pools and reservations; room for their results
 pub record Again (s t : State) (rs : List Request) (out : List ℕ) (ps : List Grant) (out′ : List ℕ) : Type 0 where
@@ -228,36 +256,31 @@ pub record Again (s t : State) (rs : List Request) (out : List ℕ) (ps : List G
   pub long : recordSize * length ps ≤ length out′
 
 module _ (s t : State) (rs : List Request) (out : List ℕ) (ps : List Grant) (out′ : List ℕ) (a : Again s t rs out ps out′) where
-  started-again : (serve kinds start t ≡ starting s) × (planRun (map pinned ps) (starting s) out′ ≡ done (map kept ps))
-  started-again =
-      let gs : List Grant = grantsOf (planRun rs (serve kinds start s) out) in
-      let d : Done rs (serve kinds start s) out gs = plan-says rs (serve kinds start s) out gs (plan-accepted rs (serve kinds start s) out (a .was-accepted)) in
-      let g : T (given kinds s) = started-given s (d .judged) in
-      let is : serve kinds start s ≡ starting s = start-is kinds s g in
-      let is′ : serve kinds start t ≡ starting s = start-is kinds t (given-alike s t (a .same-pools) (a .same-held) g) ∙ (λ i. state (a .same-pools i) (a .same-held i) (a .same-held i) silence) in
-      let j : T (sound kinds (starting s)) = rw is at (d .judged) in
-      let h : SoundFor kinds (starting s) = sound-for kinds (starting s) j in
-      let ran : run (poolsOf (starting s)) (ownersOf (starting s)) rs ≡ done gs = subst (λ (x : State). run (poolsOf x) (ownersOf x) rs ≡ done gs) is (d .ran) in
-      let ready : Ready (poolsOf (starting s)) (ownersOf (starting s)) gs = run-ready (poolsOf (starting s)) (all-bounded (starting s) h) (a .inside) rs (ownersOf (starting s)) gs (all-sounds (starting s) h) (all-fits (starting s) h) ran in
-      let few : length gs ≡ length rs = sym (length-map gs (λ g. g .request)) ∙ ap length (run-requests (poolsOf (starting s)) rs (ownersOf (starting s)) gs ran) in
-      let n : length (map pinned ps) ≡ length ps = length-map ps pinned in (
-        is′,
-        says-plan (map pinned ps) (starting s) out′ (map kept ps) record {
-          judged = j;
-          has-room = roomy-fewer rs (map pinned ps) out out′ (d .has-room) (omega (arith, pick-length (a .picked))) (omega (arith, a .long));
-          ran = replay-run (a .picked) ready;
-        },
-      )
+  abbrev first : List Grant
+  first = grantsOf (planRun rs (serve kinds start s) out)
 
-  -- DEMAND 3: all are accepted (the five numbers are 0), each gets the numbers it had before (the records are those of the first run), and each
+  ran-first : Done rs (serve kinds start s) out first
+  ran-first = plan-says rs (serve kinds start s) out first (plan-accepted rs (serve kinds start s) out (a .was-accepted))
+
+  was-given : T (given kinds s)
+  was-given = started-given s (ran-first .judged)
+
+  ready-first : Ready (poolsOf s) (heldOf s) first
+  ready-first =
+      let h : SoundFor kinds (starting s) = sound-for kinds (starting s) (rw (start-is kinds s was-given) at (ran-first .judged)) in
+      let ran : run (poolsOf (starting s)) (ownersOf (starting s)) rs ≡ done first = subst (λ (x : State). run (poolsOf x) (ownersOf x) rs ≡ done first) (start-is kinds s was-given) (ran-first .ran) in
+      run-ready (poolsOf s) (all-bounded (starting s) h) (a .inside) rs (heldOf s) first (all-sounds (starting s) h) (all-fits (starting s) h) ran
+
+  few-first : length ps ≤ planLimit
+  few-first =
+      let e : length first ≡ length rs = sym (length-map first (λ g. g .request)) ∙ ap length (plan-requests rs (serve kinds start s) out first (plan-accepted rs (serve kinds start s) out (a .was-accepted))) in
+      omega (arith, pick-length (a .picked), roomy-few rs out (ran-first .has-room))
+
+  -- DEMAND 3 for one plan: all are accepted (the five numbers are 0), each gets the numbers it had before (the records are those of the first run), and each
   -- owner table is its reservation table with those lines' rows pushed to its end in the order run
   pub replay : plan (map pinned ps) (serve kinds start t) out′ ≡ lent (granting (allRows ps) (starting s)) (written (records ps) out′)
-  unfolding plan
-  replay = rw (started-again .0, started-again .1, kept-rows ps, kept-records ps)
+  replay = ready-replay s t first ps out′ was-given ready-first (a .picked) few-first (a .same-pools) (a .same-held) (a .long)
 
   -- .. so the tables hold the reservations and those lines' rows, and nothing else
   pub replay-rows : (k : Kind) → ownersOf (plan (map pinned ps) (serve kinds start t) out′ .state) k ≡ heldOf s k ++ rowsOf k (allRows ps)
-  unfolding _⊕_
-  replay-rows k =
-      let e : ownersOf (granting (allRows (map kept ps)) (starting s)) k ≡ heldOf s k ++ rowsOf k (allRows (map kept ps)) = (plan-done (map pinned ps) (starting s) out′ (map kept ps) (started-again .1) k) .1 in
-      rw replay (rw (kept-rows ps) at e)
+  replay-rows = ready-rows s t first ps out′ was-given ready-first (a .picked) few-first (a .same-pools) (a .same-held) (a .long)

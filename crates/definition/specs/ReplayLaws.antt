@@ -2,19 +2,20 @@
 -- once, in any order. Of requests the proof knows only `resolved`, of rows only that `clash` is symmetric. Assumes nothing.
 use mathlib.Core.Path.{_≡_, refl, sym, ap, _∙_}
 use mathlib.Core.Logic.{_⊎_, inl, inr}
+use mathlib.Core.Bool.{Bool, true, false}
 use mathlib.Core.List.{List, [], _∷_, _++_, map, List·Memᴰ, List·Memᴰ·head, List·Memᴰ·tail, List·Memᴰ·cases-cons, List·Memᴰ·not-nil}
 use Prim.Native.Nat.{suc, _+_, _≤_}
 use native.Mathlib.Omega.{arith}
 use lib.ListN.{length, length-append}
 use Rattle.definition.specs.Tables.{rowLimit, Kind}
-use Rattle.definition.specs.Base.{Answer, accepted, refused}
+use Rattle.definition.specs.Base.{onlyOf, Answer, accepted, refused}
 use Rattle.definition.specs.Pools.{Holders, Claim, rowsOf, _⊕_}
 use Rattle.definition.specs.Request.{Want, mmioWant, pioWant, inputWant, hostWant, msiWant, Request, Pools, resolve}
 use Rattle.definition.specs.Plan.{Grant, grant, done, after, run, allRows, record-of, recordOf, records, pinWant, pinned}
 use Rattle.definition.specs.ClaimLaws.{rows-append, Fits, length-put, FreeOf, Clear, clear-sym, free-put, put-free}
 use Rattle.definition.specs.RequestLaws.{AutoInFixed, Bounded}
 use Rattle.definition.specs.ResolveLaws.{Resolved, resolved, rows-kept}
-use Rattle.definition.specs.RunLaws.{run-accepted, run-refused, not-done, after-done, Sounds}
+use Rattle.definition.specs.RunLaws.{run-accepted, run-refused, not-done, after-done, put-nil, put-append, Sounds}
 
 -- ---- any of them, each at most once, in any order
 
@@ -115,6 +116,32 @@ ready-join {P} {S} g hs f a r = record {
     again : (h : Grant) → (h ≡ g) ⊎ List·Memᴰ h hs → Again P h
     again h (inl e) = rw e a
     again h (inr m) = r .agains h m
+
+-- those that can be added, and behind them others
+pub ready-append : {P : Pools} {S : Holders} (gs hs : List Grant) → Ready P S gs → Ready P (S ⊕ allRows gs) hs → Ready P S (gs ++ hs)
+ready-append {P} {S} [] hs r t = rw (put-nil S) at t
+ready-append {P} {S} (g ∷ gs) hs r t =
+    ready-join g (gs ++ hs) (r .frees g (List·Memᴰ·head refl)) (r .agains g (List·Memᴰ·head refl))
+    (ready-append gs hs ((ready-take now r) .1) (rw (put-append S (g .rows) (allRows gs)) at t))
+
+-- one left out
+ready-less : {P : Pools} {S : Holders} (g : Grant) (gs : List Grant) → Ready P S (g ∷ gs) → Ready P S gs
+ready-less {P} {S} g gs r = record {
+  frees = λ h m. r .frees h (List·Memᴰ·tail m);
+  agains = λ h m. r .agains h (List·Memᴰ·tail m);
+  pairs = r .pairs .1;
+  fit = λ k. let n : length (rowsOf k (allRows (g ∷ gs))) ≡ length (rowsOf k (g .rows)) + length (rowsOf k (allRows gs)) = take-count k {g = g} {hs = gs} now in omega (arith, r .fit k);
+}
+
+-- .. and any that fail a test
+pub ready-only : {P : Pools} {S : Holders} (p : Grant → Bool) (gs : List Grant) → Ready P S gs → Ready P S (onlyOf p gs)
+unfolding onlyOf
+ready-only p [] r = r
+ready-only {P} {S} p (g ∷ gs) r = go (λ X x. ready-only p gs x) (p g)
+  where
+    go : ((X : Holders) → Ready P X gs → Ready P X (onlyOf p gs)) → (b : Bool) → Ready P S (elim b [ true ↦ g ∷ onlyOf p gs | false ↦ onlyOf p gs ])
+    go below true = ready-join g (onlyOf p gs) (r .frees g (List·Memᴰ·head refl)) (r .agains g (List·Memᴰ·head refl)) (below (S ⊕ g .rows) ((ready-take now r) .1))
+    go below false = below S (ready-less g gs r)
 
 pub run-ready : (P : Pools) → ((k : Kind) → Bounded P k) → AutoInFixed P → (rs : List Request) (S : Holders) (gs : List Grant) → Sounds S → Fits S → run P S rs ≡ done gs → Ready P S gs
 unfolding run

@@ -121,6 +121,13 @@ need k d size a q = record { kind = k; dom = d; size = size; alignment = a; trig
 abbrev pub inputNeed : ℕ → ℕ → ℕ → ℕ → Need  -- one input: controller, trigger, sharing, and who asks
 inputNeed controller trigger sharing q = record { kind = input; dom = dom controller 0 0; size = 1; alignment = 1; trigger = trigger; sharing = sharing; requester = q }
 
+abbrev pub kindsOf : Want → List Kind  -- the kinds whose tables a request needs, one row in each
+kindsOf (mmioWant size a c) = mmio ∷ []
+kindsOf (pioWant size a c) = pio ∷ []
+kindsOf (inputWant controller trigger sharing c) = input ∷ []
+kindsOf (hostWant c) = host ∷ []
+kindsOf (msiWant controller its count cd ce cl) = device ∷ event ∷ lpi ∷ []
+
 abbrev pub one : Pools → Holders → Need → Choice → Answer (List Claim)
 one P S n c = place P S n c then λ r. accepted (at-kind (n .kind) r ∷ [])
 

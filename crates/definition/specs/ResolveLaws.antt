@@ -10,21 +10,13 @@ use Rattle.definition.specs.Base.{allOf, pairsOf, badInput, full, accept
 use Rattle.definition.specs.BaseLaws.{and-l, and-r, and-i, →not-T}
 use Rattle.definition.specs.Tables.{top, lastTrigger, shared, dom, within, Kind, mmio, pio, input, host, device, event, lpi, nature, sameKind, Row, clash, goodRow}
 use Rattle.definition.specs.Pools.{at-kind, Holders, Claim, _⊕_, room}
-use Rattle.definition.specs.Request.{Choice, auto, at, Want, mmioWant, pioWant, inputWant, hostWant, msiWant, Request, goodChoice, oneBit, goodWant, goodRequest, Need, Pools, place, need, inputNeed, one, claims, resolve}
+use Rattle.definition.specs.Request.{Choice, auto, at, Want, mmioWant, pioWant, inputWant, hostWant, msiWant, Request, goodChoice, oneBit, goodWant, goodRequest, Need, Pools, place, need, inputNeed, one, kindsOf, claims, resolve}
 use Rattle.definition.specs.Plan.{grant, pinChoice, pinWant, pinned}
 use Rattle.definition.specs.RowLaws.{clash-sym, Beside}
 use Rattle.definition.specs.ClaimLaws.{otherKind, goods-added, pairs-added, Fits, fits-one, fits-room, length-put, FreeOf}
 use Rattle.definition.specs.RequestLaws.{then-accepted, require-accepted, required, AutoInFixed, Bounded, SoundRows, Makes, Placed, placed, oneBit-pos, range-made, input-made}
 
 -- ---- the rows of one request
-
--- the kinds whose tables it needs
-abbrev pub kindsOf : Want → List Kind
-kindsOf (mmioWant s a c) = mmio ∷ []
-kindsOf (pioWant s a c) = pio ∷ []
-kindsOf (inputWant k t s c) = input ∷ []
-kindsOf (hostWant c) = host ∷ []
-kindsOf (msiWant k i n d e l) = device ∷ event ∷ lpi ∷ []
 
 pub record Claimed (P : Pools) (S : Holders) (q : ℕ) (w : Want) (cs : List Claim) : Type 0 where
   pub free-of : FreeOf S cs

@@ -6,16 +6,16 @@ use Prim.Native.Nat.{ℕ, _+_, _≤_}
 use native.Mathlib.Omega.{arith}
 use lib.ListN.{length}
 use lib.Dec.{T, leb, leb→le}
-use Rattle.definition.specs.Base.{allOf, pairsOf, Refusal, malformed, Said, silence, tell, Answer, accepted, refused, require, _then_}
+use Rattle.definition.specs.Base.{allOf, pairsOf, malformed, Said, silence, tell, Answer, accepted, refused, require, _then_}
 use Rattle.definition.specs.BaseLaws.{and-l, and-r, and-i, and-false, T-false, →not-T, not-T→, all-in, all-from}
 use Rattle.definition.specs.Tables.{poolLimit, rowLimit, Kind, nature, sameKind, Span, sameSpan, Row, sameRow, meets, clash, Table, used, blankSpan, blankRow, fitsSpan, floored, goodRow, goodSpan, begins, inOrder, soundPool, soundHeld, soundOwners}
-use Rattle.definition.specs.Pools.{In, spans, Pool, entered, hasPlace, admit, Claim, rowsOf, _⊕_, Hold, heldRows, reserve}
-use Rattle.definition.specs.Request.{Request, Use, automatic, fixed, resolve}
+use Rattle.definition.specs.Pools.{In, spans, Pool, entered, admit, Claim, rowsOf, _⊕_, Hold, heldRows, reserve}
+use Rattle.definition.specs.Request.{Request, Use, automatic, fixed, kindsOf, resolve}
 use Rattle.definition.specs.Calls.{State, fresh, poolsOf, heldOf, ownersOf, givenAt, soundAt, given, sound, saying, holding, granting, starting, stored, sameUse, pooling, entering, Call, pool, hold, start, want, settle, serve}
 use Rattle.definition.specs.RowLaws.{same-kind, row-refl, span-refl, clash-meets, meets-sym}
 use Rattle.definition.specs.ClaimLaws.{otherKind, apart-kinds, goods-added, pairs-added, fits-one}
 use Rattle.definition.specs.RequestLaws.{required, SoundRows}
-use Rattle.definition.specs.ResolveLaws.{kindsOf, Ground, Resolved, resolved, rows-kept}
+use Rattle.definition.specs.ResolveLaws.{Ground, Resolved, resolved, rows-kept}
 use Rattle.definition.specs.TableLaws.{SoundTable, table-says, says-table, table-length, table-grown, table-fresh, stored-sound}
 use Rattle.definition.specs.PoolLaws.{SoundSpans, entered-sound, Admitted, admit-says, spans-apart, Reserved, reserve-says, held-apart}
 

@@ -9,7 +9,7 @@ use lib.Dec.{T, leb, eqb, leb→le, le→leb, eqb→eq}
 use Rattle.definition.specs.Base.{allOf, pairsOf}
 use Rattle.definition.specs.BaseLaws.{and-l, and-r, and-i, eq→eqb}
 use Rattle.definition.specs.Tables.{poolLimit, Kind, Span, sameSpan, Table, used, tidy, blankSpan, goodSpan, inOrder, soundTable}
-use Rattle.definition.specs.Calls.{zeros, pushAll, stored}
+use Rattle.definition.specs.Calls.{zeros, pushAll, filled, stored}
 use Rattle.definition.specs.RowLaws.{span-eq, span-refl}
 
 -- ---- lists
@@ -95,6 +95,11 @@ module _ {A : Type 0} where
         blank = λ z b. below .blank z (rw (drop-set (t .count) (t .rows) r) (drop-more z (t .count) (t .rows) b));
       }
 
+  pub push-count : (t : Table A) (rs : List A) → pushAll t rs .count ≡ t .count + length rs
+  unfolding pushAll
+  push-count t [] = omega arith
+  push-count t (r ∷ rs) = push-count (record { count = suc (t .count); rows = set (t .rows) (t .count) r }) rs ∙ omega arith
+
   -- no row pushed: nothing changed
   pub push-nil : (t : Table A) → pushAll t [] ≡ t
   unfolding pushAll
@@ -146,34 +151,46 @@ module _ {A : Type 0} where
     unfolding allOf pairsOf
     table-fresh a h = record { tidied = record { whole = length-replicate size a; within = omega arith; blank = all-replicate z size a h }; goods = tt; pairs = tt }
 
--- ---- a pool table made anew
+-- ---- a table made anew
 
-pub stored-used : (ps : List Span) → used (stored ps) ≡ ps
-stored-used ps = take-front ps (replicate (poolLimit - length ps) blankSpan)
+pub filled-used : {A : Type 0} (size : ℕ) (b : A) (rs : List A) → used (filled size b rs) ≡ rs
+filled-used size b rs = take-front rs (replicate (size - length rs) b)
 
-pub stored-sound : (k : Kind) (ps : List Span) → length ps ≤ poolLimit → T (allOf (goodSpan k) ps) → T (pairsOf inOrder ps)
-    → SoundTable poolLimit (sameSpan blankSpan) (goodSpan k) inOrder (stored ps)
-stored-sound k ps h g p = record {
-  tidied = record {
-    whole = length-append ps (replicate (poolLimit - length ps) blankSpan) ∙ omega (arith, length-replicate (poolLimit - length ps) blankSpan);
-    within = h;
-    blank = rw (drop-front ps (replicate (poolLimit - length ps) blankSpan)) (all-replicate (sameSpan blankSpan) (poolLimit - length ps) blankSpan (span-refl blankSpan));
-  };
-  goods = rw (stored-used ps) g;
-  pairs = rw (stored-used ps) p;
-}
+module _ {A : Type 0} (size : ℕ) (z good : A → Bool) (fit : A → A → Bool) (b : A) (blank : T (z b)) where
+  pub filled-sound : (rs : List A) → length rs ≤ size → T (allOf good rs) → T (pairsOf fit rs) → SoundTable size z good fit (filled size b rs)
+  filled-sound rs h g p = record {
+    tidied = record {
+      whole = length-append rs (replicate (size - length rs) b) ∙ omega (arith, length-replicate (size - length rs) b);
+      within = h;
+      blank = rw (drop-front rs (replicate (size - length rs) b)) (all-replicate z (size - length rs) b blank);
+    };
+    goods = rw (filled-used size b rs) g;
+    pairs = rw (filled-used size b rs) p;
+  }
 
--- a sound pool table is its used rows and zeros: storing what it holds changes nothing
-pub stored-same : (t : Table Span) → Tidy poolLimit (sameSpan blankSpan) t → stored (used t) ≡ t
-stored-same t h = λ i. record { count = n i; rows = rows i }
+-- a tidy table is its used rows and zeros: storing what it holds changes nothing
+pub filled-same : {A : Type 0} (size : ℕ) (z : A → Bool) (b : A) → ((x : A) → T (z x) → x ≡ b) → (t : Table A) → Tidy size z t → filled size b (used t) ≡ t
+filled-same size z b same t h = λ i. record { count = n i; rows = rows i }
   where
     n : length (used t) ≡ t .count
     n = used-length t (omega (arith, h .whole, h .within))
 
-    rest : drop (t .count) (t .rows) ≡ replicate (poolLimit - length (used t)) blankSpan
+    rest : drop (t .count) (t .rows) ≡ replicate (size - length (used t)) b
     rest =
-        let m : length (drop (t .count) (t .rows)) ≡ poolLimit - length (used t) = omega (arith, length-drop (t .count) (t .rows), h .whole, n) in
-        replicate-all (sameSpan blankSpan) blankSpan (λ x s. sym (span-eq blankSpan x s)) (drop (t .count) (t .rows)) (h .blank) ∙ ap (λ j. replicate j blankSpan) m
+        let m : length (drop (t .count) (t .rows)) ≡ size - length (used t) = omega (arith, length-drop (t .count) (t .rows), h .whole, n) in
+        replicate-all z b same (drop (t .count) (t .rows)) (h .blank) ∙ ap (λ j. replicate j b) m
 
-    rows : used t ++ replicate (poolLimit - length (used t)) blankSpan ≡ t .rows
+    rows : used t ++ replicate (size - length (used t)) b ≡ t .rows
     rows = ap (λ xs. used t ++ xs) (sym rest) ∙ take-append-drop (t .count) (t .rows)
+
+-- ---- of pools
+
+pub stored-used : (ps : List Span) → used (stored ps) ≡ ps
+stored-used ps = filled-used poolLimit blankSpan ps
+
+pub stored-sound : (k : Kind) (ps : List Span) → length ps ≤ poolLimit → T (allOf (goodSpan k) ps) → T (pairsOf inOrder ps)
+    → SoundTable poolLimit (sameSpan blankSpan) (goodSpan k) inOrder (stored ps)
+stored-sound k ps h g p = filled-sound poolLimit (sameSpan blankSpan) (goodSpan k) inOrder blankSpan (span-refl blankSpan) ps h g p
+
+pub stored-same : (t : Table Span) → Tidy poolLimit (sameSpan blankSpan) t → stored (used t) ≡ t
+stored-same t h = filled-same poolLimit (sameSpan blankSpan) blankSpan (λ x s. sym (span-eq blankSpan x s)) t h

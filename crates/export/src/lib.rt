@@ -57,7 +57,7 @@ pub extern "C" fn planner_fresh(state: &mut State, size: u64) -> u64
     1
 }
 
-// A call that adds or starts, or one request, from its numbers. It answers with the number of the answer; all five are told where the list has room for them.
+// A call that adds or starts, one request, or a withdrawal, from its numbers. It answers with the number of the answer; all five are told where the list has room for them.
 #[no_mangle]
 pub extern "C" fn planner_call(
     state: &mut State,

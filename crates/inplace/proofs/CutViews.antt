@@ -1,27 +1,30 @@
--- A table that is cut column by column is the definition's table cut. Assumes nothing.
+-- A table that closes up column by column is the definition's table that closes up. Assumes nothing.
 use mathlib.Core.Path.{_≡_, refl, ap, sym, _∙_}
 use mathlib.Core.Bool.{Bool, true, false}
-use mathlib.Core.Logic.{_⊎_, inl, inr, ⊎-elim}
 use mathlib.Core.List.{List, [], _∷_}
 use Prim.Native.Nat.{ℕ, zero, suc, _+_, _-_, _≤_, _<_}
 use native.Mathlib.Omega.{arith}
-use lib.Dec.{leb, ltb, eqb}
-use lib.ListN.{getD, set}
-use lib.Seq.{getD-set-other, ext-getD}
-use borrow.Author.Tests.{ltb-true, ltb-false, leb-true, leb-false, eqb-true, eqb-false}
-use Rattle.definition.specs.Tables.{rowLimit, Kind, mmio, pio, input, host, device, event, lpi, blankRow, rangeRow, wiredRow, dom}
+use lib.Dec.{ltb}
+use lib.ListN.{length, getD, set, length-set, List·getD-eq-default}
+use lib.Seq.{getD-set-same, getD-set-other, set-out}
+use borrow.Author.Tests.{ltb-true, ltb-false}
+use Rattle.definition.specs.Tables.{rowLimit, Kind, mmio, pio, input, host, device, event, lpi, Row, Table, blankRow, rangeRow, wiredRow, dom}
 use Rattle.definition.specs.Calls as C
+use Rattle.definition.specs.Cut.{closeTo, cutting, closing}
+use Rattle.definition.specs.CutLaws.{close-all}
+use Rattle.definition.specs.Withdraw.{ownedBy}
 use Rattle.tables.specs.Below.{listed}
-use Rattle.tables.specs.Views.{rangeOf, inputOf, rangeAt, inputAt, rangesView, inputsView, stateView}
+use Rattle.tables.specs.Views.{rangesView, inputsView, holdersView, stateView}
 use Rattle.tables.specs.declared.Ranges.{Ranges}
 use Rattle.tables.specs.declared.Inputs.{Inputs}
+use Rattle.tables.specs.declared.Holders.{Holders}
 use Rattle.tables.specs.declared.State.{State}
-use Rattle.tables.proofs.ListedLaws.{listed-length, listed-at}
-use Rattle.inplace.specs.Cut.{zeroed, lesser, cutRanges, cutInputs}
-use Rattle.definition.specs.Cut.{wiped, cutTo, cutting}
-use Rattle.definition.specs.WipeLaws.{wiped-length, wiped-below, wiped-within, wiped-above}
-use Rattle.inplace.specs.Marks.{countsIn, restored}
+use Rattle.tables.proofs.ListedLaws.{listed-length, listed-at, listed-set}
+use Rattle.inplace.specs.Cut.{goes, goesBy, placed, closed, lesser, closeRanges, closeInputs}
+use Rattle.inplace.specs.Marks.{marksBy, countsIn, takenOut}
 use Rattle.inplace.specs.declared.marks.Marks.{Marks}
+use Rattle.inplace.proofs.CutLaws.{lesser-within, goes-one, without, moved, place-gone, place-kept, column-gone, column-kept, place-most, column-length}
+use Rattle.inplace.proofs.CloseLaws.{closes-up, close-is}
 
 -- ---- a column
 
@@ -30,94 +33,110 @@ set-zero [] i = refl
 set-zero (x ∷ c) zero = refl
 set-zero (x ∷ c) (suc i) = set-zero c i
 
-zeroed-in : (m : ℕ) (c : List ℕ) (k j : ℕ) → m ≤ j → j < m + k → getD (zeroed m c k) j 0 ≡ 0
-unfolding zeroed
-zeroed-in m c zero j l h = absurd (omega arith)
-zeroed-in m c (suc k) j l h = go (λ u. zeroed-in m c k j l u) (eqb j (m + k)) refl
+-- a number that was at or behind a place is found there, however long the columns are
+set-back : (d c : List ℕ) (i j : ℕ) → i ≤ j → length d ≡ length c → getD (set d i (getD c j 0)) i 0 ≡ getD c j 0
+set-back d c i j l z = go (ltb i (length d)) refl
   where
-    go : (j < m + k → getD (zeroed m c k) j 0 ≡ 0) → (b : Bool) → eqb j (m + k) ≡ b → getD (set (zeroed m c k) (m + k) 0) j 0 ≡ 0
-    go below true e = ap (λ (i : ℕ). getD (set (zeroed m c k) (m + k) 0) i 0) (eqb-true j (m + k) e) ∙ set-zero (zeroed m c k) (m + k)
-    go below false e =
-        let other : j ≡ m + k → ⊥ = eqb-false j (m + k) e in
-        getD-set-other (zeroed m c k) (m + k) j 0 0 other ∙ below (omega (arith, other))
+    go : (b : Bool) → ltb i (length d) ≡ b → getD (set d i (getD c j 0)) i 0 ≡ getD c j 0
+    go true e = getD-set-same d i (getD c j 0) 0 (ltb-true i (length d) e)
+    go false e =
+        let out : length d ≤ i = ltb-false i (length d) e in
+        ap (λ (x : List ℕ). getD x i 0) (set-out d i (getD c j 0) out) ∙ List·getD-eq-default d 0 out ∙ sym (List·getD-eq-default c 0 (omega (arith, out, z)))
 
-zeroed-out : (m : ℕ) (c : List ℕ) (k j : ℕ) → (j < m) ⊎ (m + k ≤ j) → getD (zeroed m c k) j 0 ≡ getD c j 0
-unfolding zeroed
-zeroed-out m c zero j o = refl
-zeroed-out m c (suc k) j (inl l) = getD-set-other (zeroed m c k) (m + k) j 0 0 (λ e. omega arith) ∙ zeroed-out m c k j (inl l)
-zeroed-out m c (suc k) j (inr l) = getD-set-other (zeroed m c k) (m + k) j 0 0 (λ e. omega arith) ∙ zeroed-out m c k j (inr (omega arith))
+-- ---- a table of any layout: F makes a row of a number for each column, and its owner is the number for `owners`
+module _ (F : (List ℕ → ℕ) → Row) (owners : List ℕ) (own : (g : List ℕ → ℕ) → F g .owner ≡ g owners) (whose m n : ℕ) where
+  -- the rows, where f makes the columns of those that were
+  abbrev rowsBy : (List ℕ → List ℕ) → List Row
+  rowsBy f = listed (λ j. F (λ c. getD (f c) j 0)) rowLimit
 
--- ---- rows
+  abbrev was : List Row
+  was = rowsBy (λ c. c)
 
-wipe-listed : {A : Type 0} (b : A) (f g : ℕ → A) (m n size : ℕ) → ((j : ℕ) → j < size → (j < m) ⊎ ((m ≤ j) × (n ≤ j)) → g j ≡ f j) → ((j : ℕ) → j < size → m ≤ j → j < n → g j ≡ b) → listed g size ≡ wiped m n b (listed f size)
-wipe-listed {A} b f g m n size out in-it =
-    ext-getD b (listed g size) (wiped m n b (listed f size)) (listed-length g size ∙ sym (wiped-length b m n (listed f size) ∙ listed-length f size)) (λ j l. at j (omega (arith, l, listed-length g size)))
-  where
-    at : (j : ℕ) → j < size → getD (listed g size) j b ≡ getD (wiped m n b (listed f size)) j b
-    at j l = listed-at g size j b l ∙ go (ltb j m) refl (ltb j n) refl
-      where
-        go : (p : Bool) → ltb j m ≡ p → (q : Bool) → ltb j n ≡ q → g j ≡ getD (wiped m n b (listed f size)) j b
-        go true e q u = out j l (inl (ltb-true j m e)) ∙ sym (wiped-below b m n (listed f size) j (ltb-true j m e) ∙ listed-at f size j b l)
-        go false e true u = in-it j l (ltb-false j m e) (ltb-true j n u) ∙ sym (wiped-within b m n (listed f size) j (ltb-false j m e) (ltb-true j n u))
-        go false e false u = out j l (inr (ltb-false j m e, ltb-false j n u)) ∙ sym (wiped-above b m n (listed f size) j (ltb-false j n u) ∙ listed-at f size j b l)
+  abbrev now : ℕ → List Row
+  now k = rowsBy (λ c. closed whose m owners c k)
 
--- which numbers of a column are zeroed
-module _ (m n : ℕ) where
-  lesser-is : ((n ≤ rowLimit) × (lesser n ≡ n)) ⊎ ((rowLimit < n) × (lesser n ≡ rowLimit))
-  unfolding lesser
-  lesser-is = go (leb n rowLimit) refl
-    where
-      go : (b : Bool) → leb n rowLimit ≡ b → ((n ≤ rowLimit) × (lesser n ≡ n)) ⊎ ((rowLimit < n) × (lesser n ≡ rowLimit))
-      go true e = inl (leb-true n rowLimit e, ap (λ (c : Bool). elim c as (λ _. ℕ) [ true ↦ n | false ↦ rowLimit ]) e)
-      go false e = inr (leb-false n rowLimit e, ap (λ (c : Bool). elim c as (λ _. ℕ) [ true ↦ n | false ↦ rowLimit ]) e)
+  -- one row stored in every column
+  set-rows : (f f′ : List ℕ → List ℕ) (j : ℕ) (g : List ℕ → ℕ) → j < rowLimit → ((c : List ℕ) → getD (f′ c) j 0 ≡ g c) → ((c : List ℕ) (i : ℕ) → (i ≡ j → ⊥) → getD (f′ c) i 0 ≡ getD (f c) i 0) → rowsBy f′ ≡ set (rowsBy f) j (F g)
+  set-rows f f′ j g l here others = listed-set (λ i. F (λ c. getD (f c) i 0)) (λ i. F (λ c. getD (f′ c) i 0)) j rowLimit (F g) l (λ h. F (λ c. here c h)) (λ i o h. F (λ c. others c i o h))
 
-  stays : (j : ℕ) → j < rowLimit → (j < m) ⊎ ((m ≤ j) × (n ≤ j)) → (j < m) ⊎ (m + (lesser n - m) ≤ j)
-  stays j l (inl h) = inl h
-  stays j l (inr (h, u)) = inr (⊎-elim (λ p. omega (arith, p .0, p .1)) (λ p. omega (arith, p .0, p .1)) lesser-is)
+  module _ (k : ℕ) (l : m + k < rowLimit) where
+    row-is : getD was (m + k) (F (λ c. 0)) ≡ F (λ c. getD c (m + k) 0)
+    row-is = listed-at (λ j. F (λ c. getD c j 0)) rowLimit (m + k) (F (λ c. 0)) l
 
-  falls : (j : ℕ) → j < rowLimit → m ≤ j → j < n → j < m + (lesser n - m)
-  falls j l h u = ⊎-elim (λ p. omega (arith, p .0, p .1)) (λ p. omega (arith, p .0, p .1)) lesser-is
+    tested : (b : Bool) → goesBy whose (getD was (m + k) (F (λ c. 0))) ≡ b → goes (getD owners (m + k) 0) whose ≡ b
+    tested b e = sym (ap (goesBy whose) row-is ∙ ap (λ (o : ℕ). goes o whose) (own (λ c. getD c (m + k) 0))) ∙ e
+
+    taken-out : rowsBy (without whose m owners k) ≡ set (now k) (m + k) (F (λ c. 0))
+    taken-out = set-rows (λ c. closed whose m owners c k) (without whose m owners k) (m + k) (λ c. 0) l (λ c. set-zero (closed whose m owners c k) (m + k)) (λ c i o. getD-set-other (closed whose m owners c k) (m + k) i 0 0 o)
+
+    goes-out : goesBy whose (getD was (m + k) (F (λ c. 0))) ≡ true → (now (suc k) ≡ set (now k) (m + k) (F (λ c. 0))) × (placed whose m owners (suc k) ≡ placed whose m owners k)
+    goes-out e = ((λ i. rowsBy (λ c. column-gone whose m owners k c (tested true e) i)) ∙ taken-out, place-gone whose m owners k (tested true e))
+
+    stays-in : goesBy whose (getD was (m + k) (F (λ c. 0))) ≡ false
+        → (now (suc k) ≡ set (set (now k) (m + k) (F (λ c. 0))) (placed whose m owners k) (getD was (m + k) (F (λ c. 0)))) × (placed whose m owners (suc k) ≡ placed whose m owners k + 1)
+    stays-in e =
+        let at : ℕ = placed whose m owners k in (
+          (λ i. rowsBy (λ c. column-kept whose m owners k c (tested false e) i))
+              ∙ set-rows (without whose m owners k) (moved whose m owners k) at (λ c. getD c (m + k) 0) (omega (arith, l, place-most whose m owners k))
+              (λ c. set-back (without whose m owners k c) c at (m + k) (place-most whose m owners k) (length-set (closed whose m owners c k) (m + k) 0 ∙ column-length whose m owners c k))
+              (λ c i o. getD-set-other (without whose m owners k c) at i (getD c (m + k) 0) 0 o)
+              ∙ ap (λ (x : List Row). set x at (F (λ c. getD c (m + k) 0))) taken-out ∙ ap (set (set (now k) (m + k) (F (λ c. 0))) at) (sym row-is),
+          place-kept whose m owners k (tested false e),
+        )
+
+  abbrev table : Table Row
+  table = record { count = n; rows = was }
+
+  pub close-view : _≡_ {A = Table Row} (record { count = placed whose m owners (lesser n - m); rows = now (lesser n - m) }) (closeTo (goesBy whose) m (F (λ c. 0)) table)
+  unfolding placed closed
+  close-view =
+      let long : length was ≡ rowLimit = listed-length (λ j. F (λ c. getD c j 0)) rowLimit in
+      let inside : (k : ℕ) → k < lesser n - m → m + k < rowLimit = λ k l. omega (arith, l, lesser-within n) in
+      let done = closes-up (F (λ c. 0)) (goesBy whose) m was now (placed whose m owners) (lesser n - m) (λ k l. omega (arith, inside k l, long)) refl refl
+      (λ k l. goes-out k (inside k l)) (λ k l. stays-in k (inside k l)) (lesser n - m) (omega arith) in
+      (λ i. record { count = done .1 i; rows = done .0 i }) ∙ sym (close-is (F (λ c. 0)) (goesBy whose) m table long)
 
 -- ---- tables
 
-pub cut-ranges-view : (m : ℕ) (t : Ranges) → rangesView (cutRanges m t) ≡ cutTo m (rangeRow (dom 0 0 0) 0 0 0) (rangesView t)
-unfolding cutTo cutRanges
-cut-ranges-view m t = λ i. record { count = m; rows = rows i }
-  where
-    k : ℕ
-    k = lesser (t .n) - m
+pub close-ranges-view : (whose m : ℕ) (t : Ranges) → rangesView (closeRanges whose m t) ≡ closeTo (goesBy whose) m (rangeRow (dom 0 0 0) 0 0 0) (rangesView t)
+unfolding closeRanges
+close-ranges-view whose m t = close-view (λ g. rangeRow (dom (g (t .controller)) (g (t .its)) (g (t .device))) (g (t .start)) (g (t .end)) (g (t .owner))) (t .owner) (λ g. refl) whose m (t .n)
 
-    rows : listed (λ j. rangeOf (rangeAt (cutRanges m t) j)) rowLimit ≡ wiped m (t .n) (rangeRow (dom 0 0 0) 0 0 0) (listed (λ j. rangeOf (rangeAt t j)) rowLimit)
-    rows = wipe-listed (rangeRow (dom 0 0 0) 0 0 0) (λ j. rangeOf (rangeAt t j)) (λ j. rangeOf (rangeAt (cutRanges m t) j)) m (t .n) rowLimit
-        (λ j l o. let s : (j < m) ⊎ (m + (lesser (t .n) - m) ≤ j) = stays m (t .n) j l o in
-        λ i. rangeRow (dom (zeroed-out m (t .controller) k j s i) (zeroed-out m (t .its) k j s i) (zeroed-out m (t .device) k j s i)) (zeroed-out m (t .start) k j s i) (zeroed-out m (t .end) k j s i) (zeroed-out m (t .owner) k j s i))
-        (λ j l h u. let f : j < m + (lesser (t .n) - m) = falls m (t .n) j l h u in
-        λ i. rangeRow (dom (zeroed-in m (t .controller) k j h f i) (zeroed-in m (t .its) k j h f i) (zeroed-in m (t .device) k j h f i)) (zeroed-in m (t .start) k j h f i) (zeroed-in m (t .end) k j h f i) (zeroed-in m (t .owner) k j h f i))
-
-pub cut-inputs-view : (m : ℕ) (t : Inputs) → inputsView (cutInputs m t) ≡ cutTo m (wiredRow 0 0 0 0 0) (inputsView t)
-unfolding cutTo cutInputs
-cut-inputs-view m t = λ i. record { count = m; rows = rows i }
-  where
-    k : ℕ
-    k = lesser (t .n) - m
-
-    rows : listed (λ j. inputOf (inputAt (cutInputs m t) j)) rowLimit ≡ wiped m (t .n) (wiredRow 0 0 0 0 0) (listed (λ j. inputOf (inputAt t j)) rowLimit)
-    rows = wipe-listed (wiredRow 0 0 0 0 0) (λ j. inputOf (inputAt t j)) (λ j. inputOf (inputAt (cutInputs m t) j)) m (t .n) rowLimit
-        (λ j l o. let s : (j < m) ⊎ (m + (lesser (t .n) - m) ≤ j) = stays m (t .n) j l o in
-        λ i. wiredRow (zeroed-out m (t .controller) k j s i) (zeroed-out m (t .input) k j s i) (zeroed-out m (t .trigger) k j s i) (zeroed-out m (t .sharing) k j s i) (zeroed-out m (t .owner) k j s i))
-        (λ j l h u. let f : j < m + (lesser (t .n) - m) = falls m (t .n) j l h u in
-        λ i. wiredRow (zeroed-in m (t .controller) k j h f i) (zeroed-in m (t .input) k j h f i) (zeroed-in m (t .trigger) k j h f i) (zeroed-in m (t .sharing) k j h f i) (zeroed-in m (t .owner) k j h f i))
+pub close-inputs-view : (whose m : ℕ) (t : Inputs) → inputsView (closeInputs whose m t) ≡ closeTo (goesBy whose) m (wiredRow 0 0 0 0 0) (inputsView t)
+unfolding closeInputs
+close-inputs-view whose m t = close-view (λ g. wiredRow (g (t .controller)) (g (t .input)) (g (t .trigger)) (g (t .sharing)) (g (t .owner))) (t .owner) (λ g. refl) whose m (t .n)
 
 -- ---- the whole state
 
-pub restored-view : (m : Marks) (s : State) → stateView (restored m s) ≡ cutting (countsIn m) (stateView s)
-restored-view m s = λ i. C.state (stateView s .pools) (stateView s .held) (λ k. owners k i) (stateView s .said)
+pub taken-out-view : (m : Marks) (whose : ℕ) (s : State) → stateView (takenOut m whose s) ≡ closing (goesBy whose) (countsIn m) (stateView s)
+taken-out-view m whose s = λ i. C.state (stateView s .pools) (stateView s .held) (λ k. owners k i) (stateView s .said)
   where
-    owners : (k : Kind) → stateView (restored m s) .owners k ≡ cutTo (countsIn m k) (blankRow k) (stateView s .owners k)
-    owners mmio = cut-ranges-view (m .mmio) (s .owners .mmio)
-    owners pio = cut-ranges-view (m .pio) (s .owners .pio)
-    owners input = cut-inputs-view (m .input) (s .owners .input)
-    owners host = cut-ranges-view (m .host) (s .owners .host)
-    owners device = cut-ranges-view (m .device) (s .owners .device)
-    owners event = cut-ranges-view (m .event) (s .owners .event)
-    owners lpi = cut-ranges-view (m .lpi) (s .owners .lpi)
+    owners : (k : Kind) → stateView (takenOut m whose s) .owners k ≡ closeTo (goesBy whose) (countsIn m k) (blankRow k) (stateView s .owners k)
+    owners mmio = close-ranges-view whose (m .mmio) (s .owners .mmio)
+    owners pio = close-ranges-view whose (m .pio) (s .owners .pio)
+    owners input = close-inputs-view whose (m .input) (s .owners .input)
+    owners host = close-ranges-view whose (m .host) (s .owners .host)
+    owners device = close-ranges-view whose (m .device) (s .owners .device)
+    owners event = close-ranges-view whose (m .event) (s .owners .event)
+    owners lpi = close-ranges-view whose (m .lpi) (s .owners .lpi)
+
+-- counts that are read are those of the tables
+pub counts-view : (h : Holders) (s : State) (k : Kind) → countsIn (marksBy h s) k ≡ holdersView h k .count
+counts-view h s mmio = refl
+counts-view h s pio = refl
+counts-view h s input = refl
+counts-view h s host = refl
+counts-view h s device = refl
+counts-view h s event = refl
+counts-view h s lpi = refl
+
+-- with 0 all rows behind the marks go: the definition's tables cut back
+pub cut-back-view : (m : Marks) (s : State) → stateView (takenOut m 0 s) ≡ cutting (countsIn m) (stateView s)
+unfolding goes
+cut-back-view m s =
+    taken-out-view m 0 s ∙ (λ i. C.state (stateView s .pools) (stateView s .held) (λ k. close-all (countsIn m k) (blankRow k) (stateView s .owners k) i) (stateView s .said))
+
+-- .. and with a requester those that it owns
+pub owned-view : (m : Marks) (whose : ℕ) (s : State) → (whose ≡ 0 → ⊥) → stateView (takenOut m whose s) ≡ closing (ownedBy whose) (countsIn m) (stateView s)
+unfolding ownedBy
+owned-view m whose s n = taken-out-view m whose s ∙ (λ i. closing (λ r. sym (goes-one (r .owner) whose n) i) (countsIn m) (stateView s))

@@ -2,12 +2,14 @@ pub mod Acts
 pub mod LendThree
 pub mod Steps
 pub mod CutLaws
+pub mod CloseLaws
 pub mod Plain
 pub mod Lies
 pub mod Swap
-pub mod RestoreWalk
+pub mod TakeOutWalk
 pub mod Deeper
 pub mod PeekWalk
+pub mod Peeks
 pub mod CutViews
 pub mod Callees
 pub mod LendPart

@@ -1,34 +1,53 @@
--- A table cut back to m rows, column by column: its used rows from m on are zero. Assumes nothing.
-use mathlib.Core.Bool.{true, false}
+-- A table's rows taken out, column by column: its used rows from m on that do not go close up, and the places that are left are zero. Assumes nothing.
+use mathlib.Core.Bool.{Bool, true, false, _||_}
 use mathlib.Core.List.{List}
 use Prim.Native.Nat.{ℕ, zero, suc, _+_, _-_}
-use lib.Dec.{leb}
-use lib.ListN.{set}
-use Rattle.definition.specs.Tables.{rowLimit}
+use lib.Dec.{leb, eqb}
+use lib.ListN.{getD, set}
+use Rattle.definition.specs.Tables.{rowLimit, Row}
 use Rattle.tables.specs.Views.{ranges, inputs}
 use Rattle.tables.specs.declared.Ranges.{Ranges}
 use Rattle.tables.specs.declared.Inputs.{Inputs}
 
--- the numbers from m on, k of them, are 0
-unfoldable pub zeroed : ℕ → List ℕ → ℕ → List ℕ
-zeroed m c zero = c
-zeroed m c (suc k) = set (zeroed m c k) (m + k) 0
+-- with 0 everybody's rows go
+unfoldable pub goes : ℕ → ℕ → Bool
+goes owner whose = eqb whose 0 || eqb owner whose
 
--- a table with n used rows, of which k rows from m on are zero
-abbrev pub zeroRanges : ℕ → ℕ → Ranges → ℕ → Ranges
-zeroRanges n m t k =
-    ranges n (zeroed m (t .controller) k) (zeroed m (t .its) k) (zeroed m (t .device) k) (zeroed m (t .start) k) (zeroed m (t .end) k) (zeroed m (t .owner) k)
+abbrev pub goesBy : ℕ → Row → Bool
+goesBy whose r = goes (r .owner) whose
 
-abbrev pub zeroInputs : ℕ → ℕ → Inputs → ℕ → Inputs
-zeroInputs n m t k = inputs n (zeroed m (t .controller) k) (zeroed m (t .input) k) (zeroed m (t .trigger) k) (zeroed m (t .sharing) k) (zeroed m (t .owner) k)
+-- after k rows from m on: the place of the next row that stays
+unfoldable pub placed : ℕ → ℕ → List ℕ → ℕ → ℕ
+placed whose m owners zero = m
+placed whose m owners (suc k) = elim (goes (getD owners (m + k) 0) whose) [ true ↦ placed whose m owners k | false ↦ placed whose m owners k + 1 ]
+
+-- .. and a column: each row's number is taken out, and where the row stays it goes to its place
+unfoldable pub closed : ℕ → ℕ → List ℕ → List ℕ → ℕ → List ℕ
+closed whose m owners c zero = c
+closed whose m owners c (suc k) =
+    elim (goes (getD owners (m + k) 0) whose) [
+      | true ↦ set (closed whose m owners c k) (m + k) 0
+      | false ↦ set (set (closed whose m owners c k) (m + k) 0) (placed whose m owners k) (getD c (m + k) 0)
+    ]
+
+-- a table of n used rows after k rows from m on
+abbrev pub closedRanges : ℕ → ℕ → ℕ → Ranges → ℕ → Ranges
+closedRanges n whose m t k =
+    let one : List ℕ → List ℕ = λ c. closed whose m (t .owner) c k in
+    ranges n (one (t .controller)) (one (t .its)) (one (t .device)) (one (t .start)) (one (t .end)) (one (t .owner))
+
+abbrev pub closedInputs : ℕ → ℕ → ℕ → Inputs → ℕ → Inputs
+closedInputs n whose m t k =
+    let one : List ℕ → List ℕ = λ c. closed whose m (t .owner) c k in
+    inputs n (one (t .controller)) (one (t .input)) (one (t .trigger)) (one (t .sharing)) (one (t .owner))
 
 -- a count, and at most the rows that there are
 unfoldable pub lesser : ℕ → ℕ
 lesser n = elim (leb n rowLimit) [ true ↦ n | false ↦ rowLimit ]
 
--- m used rows, and those that were used behind them are zero
-unfoldable pub cutRanges : ℕ → Ranges → Ranges
-cutRanges m t = zeroRanges m m t (lesser (t .n) - m)
+-- after all used rows from m on
+unfoldable pub closeRanges : ℕ → ℕ → Ranges → Ranges
+closeRanges whose m t = closedRanges (placed whose m (t .owner) (lesser (t .n) - m)) whose m t (lesser (t .n) - m)
 
-unfoldable pub cutInputs : ℕ → Inputs → Inputs
-cutInputs m t = zeroInputs m m t (lesser (t .n) - m)
+unfoldable pub closeInputs : ℕ → ℕ → Inputs → Inputs
+closeInputs whose m t = closedInputs (placed whose m (t .owner) (lesser (t .n) - m)) whose m t (lesser (t .n) - m)

@@ -1,13 +1,13 @@
-// A lent state: the counts and the numbers that are read of it, and its owner tables cut back, in place.
+// A lent state: the counts and the numbers that are read of it, and rows taken out of its owner tables, in place.
 use tables::Inputs;
 use tables::ROWS;
 use tables::Ranges;
 use tables::State;
 ghost use mathlib.Core.Path.{_≡_};
-ghost use Rattle.inplace.specs.Cut.{lesser, cutRanges, cutInputs};
-ghost use Rattle.inplace.specs.Marks.{marksOf, restored};
+ghost use Rattle.inplace.specs.Cut.{lesser, goes, closeRanges, closeInputs};
+ghost use Rattle.inplace.specs.Marks.{marksOf, reservedOf, takenOut};
 
-// The row counts of the owner tables, and the five numbers of the last answer.
+// The row counts of seven tables, and the five numbers of the last answer.
 pub struct Marks {
     pub mmio: usize,
     pub pio: usize,
@@ -23,7 +23,7 @@ pub struct Marks {
     pub detail: u64,
 }
 
-// ---- one table cut back to `m` rows: its used rows from `m` on are made zero
+// ---- one table: its rows from `m` on that go are taken out, the others close up, and the places that are left are zero
 
 // The last row that a count names, where the count may be any number.
 pub fn lesser(n: usize) -> usize
@@ -35,40 +35,77 @@ pub fn lesser(n: usize) -> usize
     ROWS
 }
 
-pub fn ranges_to(t: Ranges, m: usize) -> Ranges
-    ensures { λ r. ⌜ r ≡ cutRanges m t ⌝ }
+// Whether a row goes: with 0 everybody's do.
+pub fn goes(owner: u32, whose: u32) -> bool
+    ensures { λ r. ⌜ r ≡ goes owner whose ⌝ }
+{
+    whose == 0 || owner == whose
+}
+
+pub fn close_ranges(t: Ranges, m: usize, whose: u32) -> Ranges
+    ensures { λ r. ⌜ r ≡ closeRanges whose m t ⌝ }
 {
     let end = lesser(t.n);
     let mut next = t;
-    let mut k = m;
+    let mut at = m;
+    let mut k = m; // a row in front of it stays, as a reservation must
     while k < end {
+        let controller = next.controller[k];
+        let its = next.its[k];
+        let device = next.device[k];
+        let start = next.start[k];
+        let stop = next.end[k];
+        let owner = next.owner[k];
         next.controller[k] = 0;
         next.its[k] = 0;
         next.device[k] = 0;
         next.start[k] = 0;
         next.end[k] = 0;
         next.owner[k] = 0;
+        if !goes(owner, whose) {
+            next.controller[at] = controller;
+            next.its[at] = its;
+            next.device[at] = device;
+            next.start[at] = start;
+            next.end[at] = stop;
+            next.owner[at] = owner;
+            at += 1;
+        }
         k += 1;
     }
-    next.n = m;
+    next.n = at;
     next
 }
 
-pub fn inputs_to(t: Inputs, m: usize) -> Inputs
-    ensures { λ r. ⌜ r ≡ cutInputs m t ⌝ }
+pub fn close_inputs(t: Inputs, m: usize, whose: u32) -> Inputs
+    ensures { λ r. ⌜ r ≡ closeInputs whose m t ⌝ }
 {
     let end = lesser(t.n);
     let mut next = t;
+    let mut at = m;
     let mut k = m;
     while k < end {
+        let controller = next.controller[k];
+        let input = next.input[k];
+        let trigger = next.trigger[k];
+        let sharing = next.sharing[k];
+        let owner = next.owner[k];
         next.controller[k] = 0;
         next.input[k] = 0;
         next.trigger[k] = 0;
         next.sharing[k] = 0;
         next.owner[k] = 0;
+        if !goes(owner, whose) {
+            next.controller[at] = controller;
+            next.input[at] = input;
+            next.trigger[at] = trigger;
+            next.sharing[at] = sharing;
+            next.owner[at] = owner;
+            at += 1;
+        }
         k += 1;
     }
-    next.n = m;
+    next.n = at;
     next
 }
 
@@ -106,15 +143,47 @@ pub fn peek(s: &State) -> Marks
     }
 }
 
-// The owner tables as long as they were: each table goes out by value, is cut, and is stored back.
-pub fn restore(s: &mut State, marks: Marks)
-    ensures { λ _. ⌜ now (s .exit) ≡ restored marks (now (s .entry)) ⌝ }
+// What is read of a state whose counts are those of the reservation tables: from there on the owner tables have what was granted.
+pub fn reserved(s: &State) -> Marks
+    ensures { λ r. ⌜ r ≡ reservedOf (now (s .entry)) ⌝ }
 {
-    s.owners.mmio = ranges_to(s.owners.mmio, marks.mmio);
-    s.owners.pio = ranges_to(s.owners.pio, marks.pio);
-    s.owners.input = inputs_to(s.owners.input, marks.input);
-    s.owners.host = ranges_to(s.owners.host, marks.host);
-    s.owners.device = ranges_to(s.owners.device, marks.device);
-    s.owners.event = ranges_to(s.owners.event, marks.event);
-    s.owners.lpi = ranges_to(s.owners.lpi, marks.lpi);
+    let mmio = s.held.mmio.n;
+    let pio = s.held.pio.n;
+    let input = s.held.input.n;
+    let host = s.held.host.n;
+    let device = s.held.device.n;
+    let event = s.held.event.n;
+    let lpi = s.held.lpi.n;
+    let number = s.number;
+    let index = s.index;
+    let namespace = s.namespace;
+    let owner = s.owner;
+    let detail = s.detail;
+    Marks {
+        mmio,
+        pio,
+        input,
+        host,
+        device,
+        event,
+        lpi,
+        number,
+        index,
+        namespace,
+        owner,
+        detail,
+    }
+}
+
+// Of the rows behind the marks one owner's are taken out of the owner tables, or with 0 all: each table goes out by value, closes up, and is stored back.
+pub fn take_out(s: &mut State, marks: Marks, whose: u32)
+    ensures { λ _. ⌜ now (s .exit) ≡ takenOut marks whose (now (s .entry)) ⌝ }
+{
+    s.owners.mmio = close_ranges(s.owners.mmio, marks.mmio, whose);
+    s.owners.pio = close_ranges(s.owners.pio, marks.pio, whose);
+    s.owners.input = close_inputs(s.owners.input, marks.input, whose);
+    s.owners.host = close_ranges(s.owners.host, marks.host, whose);
+    s.owners.device = close_ranges(s.owners.device, marks.device, whose);
+    s.owners.event = close_ranges(s.owners.event, marks.event, whose);
+    s.owners.lpi = close_ranges(s.owners.lpi, marks.lpi, whose);
 }

@@ -17,14 +17,15 @@ past-end [] k d h = refl
 past-end (x ∷ l) zero d h = absurd (omega arith)
 past-end (x ∷ l) (suc k) d h = past-end l k d (omega arith)
 
-pub size-none : (first kind : ℕ) → (first ≡ 1 → ⊥) → (first ≡ 2 → ⊥) → (first ≡ 4 → ⊥) → 1 ≡ sizeIn first kind
+pub size-none : (first kind : ℕ) → (first ≡ 1 → ⊥) → (first ≡ 2 → ⊥) → (first ≡ 4 → ⊥) → (first ≡ 5 → ⊥) → 1 ≡ sizeIn first kind
 unfolding sizeIn
-size-none zero kind n₁ n₂ n₄ = refl
-size-none (suc zero) kind n₁ n₂ n₄ = absurd (n₁ refl)
-size-none (suc (suc zero)) kind n₁ n₂ n₄ = absurd (n₂ refl)
-size-none (suc (suc (suc zero))) kind n₁ n₂ n₄ = refl
-size-none (suc (suc (suc (suc zero)))) kind n₁ n₂ n₄ = absurd (n₄ refl)
-size-none (suc (suc (suc (suc (suc first))))) kind n₁ n₂ n₄ = refl
+size-none zero kind n₁ n₂ n₄ n₅ = refl
+size-none (suc zero) kind n₁ n₂ n₄ n₅ = absurd (n₁ refl)
+size-none (suc (suc zero)) kind n₁ n₂ n₄ n₅ = absurd (n₂ refl)
+size-none (suc (suc (suc zero))) kind n₁ n₂ n₄ n₅ = refl
+size-none (suc (suc (suc (suc zero)))) kind n₁ n₂ n₄ n₅ = absurd (n₄ refl)
+size-none (suc (suc (suc (suc (suc zero))))) kind n₁ n₂ n₄ n₅ = absurd (n₅ refl)
+size-none (suc (suc (suc (suc (suc (suc first)))))) kind n₁ n₂ n₄ n₅ = refl
 
 pub size-asks : (kind : ℕ) → sizeIn 4 kind ≡ 13
 unfolding sizeIn

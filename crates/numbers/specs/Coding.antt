@@ -77,4 +77,4 @@ unfoldable pub holdSize : ℕ → ℕ
 holdSize kind = getD (3 ∷ 5 ∷ 5 ∷ 7 ∷ 5 ∷ 7 ∷ 8 ∷ 6 ∷ 7 ∷ []) kind 3
 
 unfoldable pub sizeIn : (first kind : ℕ) → ℕ
-sizeIn first kind = getD (1 ∷ poolSize kind ∷ holdSize kind ∷ 1 ∷ 13 ∷ []) first 1
+sizeIn first kind = getD (1 ∷ poolSize kind ∷ holdSize kind ∷ 1 ∷ 13 ∷ 2 ∷ []) first 1

@@ -1,5 +1,5 @@
 -- The calls as plain numbers, for callers outside: what a list of numbers asks, and the state afterwards. Assumes nothing.
-use mathlib.Core.Bool.{Bool, true, false}
+use mathlib.Core.Bool.{Bool, true, false, _||_}
 use mathlib.Core.List.{List}
 use mathlib.Core.Option.{Option, some}
 use Prim.Native.Nat.{ℕ}
@@ -8,6 +8,7 @@ use lib.ListN.{length, getD, drop}
 use Rattle.definition.specs.Base.{malformed, short, refused, require}
 use Rattle.definition.specs.Tables.{kinds}
 use Rattle.definition.specs.Calls.{State, Call, want, given, sound, settle}
+use Rattle.definition.specs.Withdraw.{withdraw}
 use Rattle.flat.specs.Flat.{requestAt}
 use Rattle.numbers.specs.Coding.{addingIn, sizeIn}
 use Rattle.door.specs.Served.{serveOf}
@@ -26,6 +27,10 @@ addingAt xs =
 abbrev pub asks : List ℕ → Bool
 asks xs = eqb (number xs 0) 4
 
+-- 5 is a withdrawal, of the requester's number
+abbrev pub withdraws : List ℕ → Bool
+withdraws xs = eqb (number xs 0) 5
+
 unfoldable pub callAt : List ℕ → Option Call
 callAt xs = elim (asks xs) [ true ↦ some (want (requestAt (drop 1 xs) 0)) | false ↦ addingAt xs ]
 
@@ -36,13 +41,13 @@ callSize xs = sizeIn (number xs 0) (number xs 2)
 
 -- ---- the state afterwards: 1, 11, 2 and the rest
 
--- a request judges all tables, all other calls the pools and the reservations
+-- a request and a withdrawal judge all tables, all other calls the pools and the reservations
 unfoldable pub judged : List ℕ → State → Bool
-judged xs s = elim (asks xs) [ true ↦ sound kinds s | false ↦ given kinds s ]
+judged xs s = elim (asks xs || withdraws xs) [ true ↦ sound kinds s | false ↦ given kinds s ]
 
 unfoldable pub faceCall : List ℕ → State → State
 faceCall xs s =
     elim (leb (callSize xs) (length xs)) [
-      | true ↦ serveOf (callAt xs) s
+      | true ↦ elim (withdraws xs) [ true ↦ withdraw (number xs 1) s | false ↦ serveOf (callAt xs) s ]
       | false ↦ settle s (require (judged xs s) malformed (refused short))
     ]

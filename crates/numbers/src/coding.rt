@@ -21,6 +21,9 @@ pub fn call_size(first: u64, kind: u64) -> usize
     if first == 4 {
         return 13;
     }
+    if first == 5 {
+        return 2;
+    }
     1
 }
 

@@ -7,6 +7,7 @@ use request::Request;
 use request::call::Call;
 use tables::State;
 ghost use mathlib.Core.Path.{_≡_};
+ghost use mathlib.Core.Bool.{_||_};
 ghost use mathlib.Core.List.{[], _∷_};
 ghost use Prim.Native.Nat.{_≤_};
 ghost use lib.ListN.{length, getD, drop};
@@ -27,10 +28,12 @@ pub mod row;
 // The numbers of an answer: number, index, namespace, owner, detail.
 pub const ANSWER: usize = 5;
 
-// A list of numbers as it is read: whether it is as long as its call needs, whether it is a request, and the call.
+// A list of numbers as it is read: whether it is as long as its call needs, whether it is a request or a withdrawal, whose, and any other call.
 pub struct Reading {
     pub whole: bool,
     pub asks: bool,
+    pub withdraws: bool,
+    pub requester: u64,
     pub call: Call,
 }
 
@@ -69,6 +72,7 @@ pub fn read_call(numbers: &[u64]) -> Reading
     ensures { λ k. ⌜ Reads (now (numbers .entry)) k ⌝ }
 {
     let first = number(numbers, 0);
+    let requester = number(numbers, 1);
     let kind = number(numbers, 2);
     let size = call_size(first, kind);
     if size <= numbers.len() {
@@ -77,6 +81,8 @@ pub fn read_call(numbers: &[u64]) -> Reading
             return Reading {
                 whole: true,
                 asks: true,
+                withdraws: false,
+                requester,
                 call: Call::Want(request),
             };
         }
@@ -84,12 +90,16 @@ pub fn read_call(numbers: &[u64]) -> Reading
         return Reading {
             whole: true,
             asks: false,
+            withdraws: first == 5,
+            requester,
             call,
         };
     }
     Reading {
         whole: false,
         asks: first == 4,
+        withdraws: first == 5,
+        requester,
         call: Call::Bad,
     }
 }
@@ -100,10 +110,23 @@ pub fn is_whole(k: Reading) -> bool
     k.whole
 }
 
-pub fn is_asked(k: Reading) -> bool
-    ensures { λ b. ⌜ b ≡ k .asks ⌝ }
+pub fn is_withdrawal(k: Reading) -> bool
+    ensures { λ b. ⌜ b ≡ k .withdraws ⌝ }
 {
-    k.asks
+    k.withdraws
+}
+
+// Whether all tables are judged, and not the pools and the reservations alone.
+pub fn judges_all(k: Reading) -> bool
+    ensures { λ b. ⌜ b ≡ k .asks || k .withdraws ⌝ }
+{
+    k.asks || k.withdraws
+}
+
+pub fn requester_of(k: Reading) -> u64
+    ensures { λ r. ⌜ r ≡ k .requester ⌝ }
+{
+    k.requester
 }
 
 pub fn call_of(k: Reading) -> Call
@@ -129,11 +152,16 @@ pub fn serve_as(s: &mut State, k: Reading)
     ensures { λ _. ⌜ stateView (now (s .exit)) ≡ servedAs k (stateView (now (s .entry))) ⌝ }
 {
     if is_whole(k) {
+        if is_withdrawal(k) {
+            let requester = requester_of(k);
+            withdraw::withdraw(s, requester);
+            return;
+        }
         let call = call_of(k);
         door::serve(s, call);
         return;
     }
-    if is_asked(k) {
+    if judges_all(k) {
         let judged = sound::lent::sound(s);
         let r = too_short(judged);
         door::apply::say(s, r);
@@ -166,7 +194,7 @@ pub fn tell(m: Marks, out: &mut [u64]) -> u64
     tell_five(m.number, m.index, m.namespace, m.owner, m.detail, out)
 }
 
-// A call that adds or starts, or one request, from its numbers, where the state stands: 1, 11, 2 and the rest. Its answer's five numbers are told where the list has room for them.
+// A call that adds or starts, one request, or a withdrawal, from its numbers, where the state stands: 1, 11, 2 and the rest. Its answer's five numbers are told where the list has room for them.
 pub fn call_in(state: &mut State, numbers: &[u64], answer: &mut [u64])
     ensures { λ _. ⌜ lent (stateView (now (state .exit))) (now (answer .exit)) ≡ callTold (now (numbers .entry)) (stateView (now (state .entry))) (now (answer .entry)) ⌝ }
 {

@@ -81,7 +81,7 @@ pub fn quiet(m: Marks) -> bool
     m.number == 0
 }
 
-// After the last: a refusal puts the owner tables back, which were as long as `m` says.
+// After the last: a refusal takes everybody's rows out again of the owner tables, which were as long as `m` says.
 pub fn settle(s: &mut State, m: Marks)
     ensures { λ _. ⌜ stateView (now (s .exit)) ≡ backTo m (stateView (now (s .entry))) ⌝ }
 {
@@ -89,7 +89,7 @@ pub fn settle(s: &mut State, m: Marks)
     if quiet(p) {
         return;
     }
-    inplace::marks::restore(s, m);
+    inplace::marks::take_out(s, m, 0);
 }
 
 // What is judged before the first request, and how many have their turn: 1, 11, or five zeros beside the tables.

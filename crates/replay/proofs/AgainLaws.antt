@@ -38,7 +38,7 @@ accepted-whole rq s out e = go (wholeRequests rq) refl
     go true w = refl
     go false w = absurd (torn-number s (sound kinds s) (sym (ap (λ (v : Lent). v .state .said .number) (flat-torn rq s out w)) ∙ e))
 
-whole-length : (xs : List ℕ) (n : ℕ) → length xs ≡ requestSize * n → wholeRequests xs ≡ true
+pub whole-length : (xs : List ℕ) (n : ℕ) → length xs ≡ requestSize * n → wholeRequests xs ≡ true
 unfolding wholeRequests
 whole-length xs n e = T-true _ (eq→eqb (requestSize * (length xs / requestSize)) (length xs) (omega arith))
 

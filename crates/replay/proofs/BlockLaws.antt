@@ -1,6 +1,5 @@
 -- Some of a list's blocks: of requests they are those requests, of results those records; and a record tells its rows. Assumes nothing.
 use mathlib.Core.Path.{_≡_, refl, sym, subst, ap, _∙_}
-use mathlib.Core.Option.{Option, none, some}
 use mathlib.Core.List.{List, [], _∷_, _++_, map, append-assoc}
 use Prim.Native.Nat.{ℕ, zero, suc, _+_, _*_, _≤_, _<_}
 use native.Mathlib.Omega.{arith}
@@ -9,13 +8,14 @@ use lib.Seq.{getD-take, getD-drop, take-at, drop-append-add}
 use Rattle.definition.specs.Tables.{recordSize, mmio, pio, input, host, device, event, lpi, dom, Row}
 use Rattle.definition.specs.Base.{Answer, accepted, refused, badInput, full, require, _then_}
 use Rattle.definition.specs.Pools.{Holders, Claim, _⊕_, room, at-kind}
-use Rattle.definition.specs.Request.{Choice, auto, at, Want, mmioWant, pioWant, inputWant, hostWant, msiWant, Request, goodRequest, Need, need, inputNeed, one, rowAt, found, lowest, allowed, obstacle, unopposed, automatic, fixed, Pools, place, claims, resolve}
+use Rattle.definition.specs.Request.{Choice, Want, mmioWant, pioWant, inputWant, hostWant, msiWant, Request, goodRequest, Need, need, inputNeed, one, rowAt, Pools, place, claims, resolve}
 use Rattle.definition.specs.Plan.{Grant, grant, done, run, allRows, record-of, recordOf, records}
-use Rattle.definition.specs.RequestLaws.{not-accepted, then-accepted, require-accepted}
+use Rattle.definition.specs.RequestLaws.{then-accepted, require-accepted}
+use Rattle.definition.specs.GrantLaws.{place-row}
 use Rattle.definition.specs.RunLaws.{run-accepted, run-refused, not-done, after-done, record-length}
 use Rattle.definition.specs.ReplayLaws.{Take, now, later, Pick, stop, pick}
 use Rattle.definition.specs.PickLaws.{indices, nowhere, nth}
-use Rattle.flat.specs.Flat.{requestSize, bad, requestAt, requestsFrom, requestsOf}
+use Rattle.flat.specs.Flat.{requestSize, requestAt, requestsFrom, requestsOf}
 use Rattle.flat.proofs.FlatLaws.{request-reads}
 use Rattle.flat.proofs.StoreLaws.{requests-cons, first-number}
 use Rattle.replay.specs.Again.{block, blocks, rowsIn, rowsTold, rowsFor}
@@ -55,14 +55,17 @@ requests-length-blocks xs (i ∷ is) n l b =
     let e : length (block requestSize xs i) ≡ requestSize = block-length requestSize xs i (omega (arith, b .0)) in
     omega (arith, length-append (block requestSize xs i) (blocks requestSize xs is), requests-length-blocks xs is n l (b .1))
 
+-- a block is read as the request that it is
+pub block-request : (xs : List ℕ) (i : ℕ) → requestAt (block requestSize xs i) 0 ≡ requestAt xs i
+block-request xs i =
+    request-reads (block requestSize xs i) xs 0 i (λ j s. sym (first-number (block requestSize xs i) j) ∙ getD-take requestSize (drop (requestSize * i) xs) j 0 s ∙ getD-drop (requestSize * i) xs j 0)
+
 pub requests-blocks : (xs is : List ℕ) (n : ℕ) → requestSize * n ≤ length xs → AllBelow n is → requestsOf (blocks requestSize xs is) ≡ map (requestAt xs) is
 unfolding blocks requestsOf requestsFrom
 requests-blocks xs [] n l b = refl
 requests-blocks xs (i ∷ is) n l b =
     let e : length (block requestSize xs i) ≡ requestSize = block-length requestSize xs i (omega (arith, b .0)) in
-    let here : requestAt (block requestSize xs i) 0 ≡ requestAt xs i =
-    request-reads (block requestSize xs i) xs 0 i (λ j s. sym (first-number (block requestSize xs i) j) ∙ getD-take requestSize (drop (requestSize * i) xs) j 0 s ∙ getD-drop (requestSize * i) xs j 0) in
-    requests-cons (block requestSize xs i) (blocks requestSize xs is) e ∙ (λ t. here t ∷ requests-blocks xs is n l (b .1) t)
+    requests-cons (block requestSize xs i) (blocks requestSize xs is) e ∙ (λ t. block-request xs i t ∷ requests-blocks xs is n l (b .1) t)
 
 -- the blocks of results are the records
 pub block-record : (gs : List Grant) (rest : List ℕ) (i : ℕ) → i < length gs → block recordSize (records gs ++ rest) i ≡ recordOf (nth gs i)
@@ -83,24 +86,6 @@ blocks-records gs rest [] b = refl
 blocks-records gs rest (i ∷ is) b = λ t. block-record gs rest i (b .0) t ++ blocks-records gs rest is (b .1) t
 
 -- ---- a record tells its grant's rows
-
-found-row : (n : Need) (o : Option ℕ) (r : Row) → found n o ≡ accepted r → (b : ℕ) × (r ≡ rowAt n b)
-unfolding found
-found-row n none r e = absurd (not-accepted e)
-found-row n (some b) r e = (b, cc)
-
-unopposed-row : (n : Need) (w : Row) (o : Option Row) (r : Row) → unopposed n w o ≡ accepted r → r ≡ w
-unfolding unopposed
-unopposed-row n w none r e = cc
-unopposed-row n w (some x) r e = absurd (not-accepted e)
-
--- what is placed is the need's row at some base
-place-row : (P : Pools) (S : Holders) (n : Need) (c : Choice) (r : Row) → place P S n c ≡ accepted r → (b : ℕ) × (r ≡ rowAt n b)
-unfolding place
-place-row P S n auto r e = found-row n (lowest (P automatic (n .kind)) (S (n .kind)) n) r e
-place-row P S n (at b) r e =
-    let u = require-accepted (allowed (P fixed (n .kind)) n b) _ (unopposed n (rowAt n b) (obstacle (rowAt n b) (S (n .kind)))) e .1 in
-    (b, unopposed-row n (rowAt n b) (obstacle (rowAt n b) (S (n .kind))) r u)
 
 one-row : (P : Pools) (S : Holders) (n : Need) (c : Choice) (cs : List Claim) → one P S n c ≡ accepted cs → (b : ℕ) × (cs ≡ at-kind (n .kind) (rowAt n b) ∷ [])
 one-row P S n c cs e =
@@ -149,7 +134,7 @@ resolve-told P S r cs e =
     let z : ds ≡ cs = cc in
     claims-told P S (r .requester) (r .slot) (r .want) cs (e₂ ∙ ap accepted z)
 
-abbrev AllTold : List Grant → Type 0
+abbrev pub AllTold : List Grant → Type 0
 AllTold [] = Unit {0}
 AllTold (g ∷ gs) = (rowsTold (recordOf g) ≡ g .rows) × AllTold gs
 
@@ -164,7 +149,7 @@ run-told P (r ∷ rs) S gs e = go (run-told P rs) (resolve P S r) refl
         let (hs, e₁, z) = after-done (grant r cs) (run P (S ⊕ cs) rs) gs (sym (run-accepted P S r rs cs q) ∙ e) in
         rw z (resolve-told P S r cs q, below (S ⊕ cs) hs e₁)
 
-told-nth : (gs : List Grant) (i : ℕ) → i < length gs → AllTold gs → rowsTold (recordOf (nth gs i)) ≡ nth gs i .rows
+pub told-nth : (gs : List Grant) (i : ℕ) → i < length gs → AllTold gs → rowsTold (recordOf (nth gs i)) ≡ nth gs i .rows
 told-nth [] i l a = absurd (omega arith)
 told-nth (g ∷ gs) zero l a = a .0
 told-nth (g ∷ gs) (suc i) l a = told-nth gs i (omega arith) (a .1)

@@ -19,7 +19,7 @@ use Rattle.flat.specs.Pin.{pinChoiceAt, pinChoices, tellsOf, ownRecord, pinOne,
 use Rattle.replay.specs.Again.{blocks, rowsFor, firstResults, runAgain}
 use Rattle.replay.proofs.AgainLaws.{flat-replay}
 
-unfoldable made : List Call → State → State
+unfoldable pub made : List Call → State → State
 made [] s = s
 made (c ∷ cs) s = made cs (serve kinds c s)
 
@@ -27,7 +27,7 @@ made (c ∷ cs) s = made cs (serve kinds c s)
 abbrev both : Use → List Call → List Call
 both u cs = pool u (mmioPool 0x1000 0x3000) ∷ pool u (pioPool 0x60 0x70) ∷ pool u (hostPool 40 42) ∷ pool u (inputPool 1 32 34) ∷ pool u (msiPool 1 2 8 10 0 4 8192 8200) ∷ cs
 
-stand : State
+unfoldable pub stand : State
 unfolding made anyOf allOf pairsOf firstOf lower leastOf sameKind sameDom within sameSpan sameRow overlap meets joins clash require tidy fits fitsSpan floored goodRow goodSpan begins inOrder soundTable insert there entered hasPlace admit rowsOf _⊕_ room unreserved allUnreserved reserve onesIn goodChoice oneBit goodWant goodRequest rowAt aligned holds free alignUp candidates lowest allowed unjoined obstacle detail found unopposed place claims resolve givenAt soundAt given sound pushAll entering serve run roomy planRun
 stand = made (both automatic (both fixed (hold 7 (mmioHold 0x1000 0x1800) ∷ hold 7 (inputHold 1 32 0 1) ∷ []))) fresh
 
@@ -53,7 +53,7 @@ was-accepted : flatPlan numbers (serve kinds start stand) results .state .said .
 unfolding flatPlan wholeRequests requestsOf requestsFrom requestAt requestIn readable wantAt plan records recordOf stand made results numbers anyOf allOf pairsOf firstOf lower leastOf sameKind sameDom within sameSpan sameRow overlap meets joins clash require tidy fits fitsSpan floored goodRow goodSpan begins inOrder soundTable insert there entered hasPlace admit rowsOf _⊕_ room unreserved allUnreserved reserve onesIn goodChoice oneBit goodWant goodRequest rowAt aligned holds free alignUp candidates lowest allowed unjoined obstacle detail found unopposed place claims resolve givenAt soundAt given sound pushAll entering serve run roomy planRun
 was-accepted = refl
 
-inside : AutoInFixed (poolsOf stand)
+pub inside : AutoInFixed (poolsOf stand)
 unfolding autoInFixed insideOne stand made anyOf allOf pairsOf firstOf lower leastOf sameKind sameDom within sameSpan sameRow overlap meets joins clash require tidy fits fitsSpan floored goodRow goodSpan begins inOrder soundTable insert there entered hasPlace admit rowsOf _⊕_ room unreserved allUnreserved reserve onesIn goodChoice oneBit goodWant goodRequest rowAt aligned holds free alignUp candidates lowest allowed unjoined obstacle detail found unopposed place claims resolve givenAt soundAt given sound pushAll entering serve run roomy planRun
 inside = inside-says (poolsOf stand) tt
 

@@ -6,6 +6,7 @@ mod lpis;
 mod pinning;
 mod planning;
 mod texts;
+mod withdrawing;
 
 use crate::calls::{Add, Answer, Choice, Hold, Kind, Need, Place, PlanAnswer, Record, Request, Row, Tables};
 use crate::compare::face::{Answers, Behind, Face};
@@ -28,6 +29,7 @@ pub fn all() -> Vec<Broken> {
     all.extend(adding::ALL);
     all.extend(lpis::ALL);
     all.extend(planning::ALL);
+    all.extend(withdrawing::ALL);
     all.extend(texts::ALL);
     all.extend(pinning::ALL);
     all

@@ -11,7 +11,7 @@ pub const REQUEST: usize = 12;
 /// One call of the C face, with all numbers that it is handed.
 #[derive(Clone, Debug, PartialEq, Eq)]
 pub enum Step {
-    /// Adding, starting or one request.
+    /// Adding, starting, one request or a withdrawal.
     Call(Vec<u64>),
     /// One request that is lent so many numbers for its record.
     Allocate { request: Vec<u64>, lent: usize },
@@ -47,6 +47,7 @@ pub fn step_of(call: &Call) -> Step {
         Call::Plan { requests, results } => {
             Step::Plan { requests: requests.iter().flat_map(numbers_of_request).collect(), results: *results }
         }
+        Call::Withdraw { requester } => Step::Call(vec![5, u64::from(*requester)]),
     }
 }
 
@@ -157,11 +158,15 @@ pub fn meaning(step: &Step) -> Meaning {
 /// Numbers behind those that the call needs are not looked at.
 fn meaning_of_call(numbers: &[u64]) -> Meaning {
     let at = |place: usize| numbers.get(place).copied().unwrap_or(0);
-    let Some(numbers) = numbers.get(..numbers_needed(at(0), at(2))) else { return Meaning::Cut { asks: at(0) == 4 } };
+    let Some(numbers) = numbers.get(..numbers_needed(at(0), at(2))) else {
+        return Meaning::Cut { asks: matches!(at(0), 4 | 5) };
+    };
     match numbers[0] {
         1 | 2 => add_of(numbers).map_or(Meaning::NoAdd, |add| Meaning::Call(Call::Add(add))),
         3 => Meaning::Call(Call::Start),
         4 => Meaning::Call(Call::Request(request_of(&numbers[1..]))),
+        // too large for its field is nobody too, which is 2
+        5 => Meaning::Call(Call::Withdraw { requester: narrow(numbers[1]).unwrap_or(0) }),
         _ => Meaning::NoAdd,
     }
 }
@@ -178,6 +183,7 @@ fn numbers_needed(first: u64, kind: u64) -> usize {
         (2, 6) => 8,
         (1 | 2, _) => 3,
         (4, _) => 1 + REQUEST,
+        (5, _) => 2,
         _ => 1,
     }
 }

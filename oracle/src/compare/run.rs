@@ -56,7 +56,11 @@ pub fn families(number: u64, seed: u64) -> Vec<Family> {
             gen::text_fixed_too(!seed, index)
         }),
         Family::calls("random calls", number, move |index| {
-            let calls = if index % 3 == 2 { gen::tight_sequence(seed, index) } else { gen::sequence(seed, index) };
+            let calls = match index % 3 {
+                0 => gen::sequence(seed, index),
+                1 => gen::sequence_fixed_too(seed, index),
+                _ => gen::tight_sequence(seed, index),
+            };
             let mut steps: Vec<_> = calls.iter().map(step_of).collect();
             odd::some_odd(&mut gen::Rng::new(!seed, index), &mut steps);
             steps

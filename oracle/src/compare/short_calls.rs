@@ -1,9 +1,9 @@
-// Small spaces of calls, all of them: few numbers, every pool, every hold, every two or three requests.
+// Small spaces of calls, all of them: few numbers, every pool, every hold, every two or three requests, every four calls with withdrawals among them.
 
 use super::flat::{step_of, Step};
 use super::run::Family;
 use super::Digits;
-use crate::added::{FIRST_LPI, POOL_ROWS};
+use crate::added::{FIRST_LPI, POOL_ROWS, RECORD};
 use crate::calls::{Add, Answer, Call, Choice, Hold, Need, PoolRange, Request};
 use crate::judge::Judge;
 
@@ -33,6 +33,7 @@ pub fn families(large: bool) -> Vec<Family> {
     all.push(added("holds of LPIs", lpi_holds(), 3));
     all.push(domains());
     all.push(added("inputs and pairs", pairs(), 3));
+    all.extend(needed_thrice().map(|(name, needs)| withdrawn(name, needs, if large { 5 } else { 4 })));
     all
 }
 
@@ -345,6 +346,80 @@ fn domains() -> Family {
         }));
         steps
     })
+}
+
+/// For each kind of request an automatic one, and one for each of the two numbers that it may have.
+fn needed_thrice() -> [(&'static str, [Need; 3]); 5] {
+    let wide = |base| Need::Mmio { size: 1, alignment: 1, base };
+    let half = |base| Need::Pio { size: 1, alignment: 1, base };
+    let shared = |input| Need::Input { controller: 0, trigger: 0, sharing: 1, input };
+    let msi = |n: u32| {
+        let choice = |first: u32| if n == 0 { Choice::Auto } else { Choice::Fixed(first + n) };
+        Need::Msi { controller: 0, its: 0, count: 1, device: choice(0), event: choice(0), lpi: choice(FIRST_LPI) }
+    };
+    let host = |irq| Need::Host { irq };
+    [
+        ("mmio", [Choice::Auto, Choice::Fixed(1), Choice::Fixed(2)].map(wide)),
+        ("pio", [Choice::Auto, Choice::Fixed(1), Choice::Fixed(2)].map(half)),
+        ("input", [Choice::Auto, Choice::Fixed(1), Choice::Fixed(2)].map(shared)),
+        ("host", [Choice::Auto, Choice::Fixed(1), Choice::Fixed(2)].map(host)),
+        ("msi", [0, 1, 2].map(msi)),
+    ]
+}
+
+/// Every list of so many requests, plans, withdrawals and starts by and of two requesters, over numbers 0 to 2 of each kind; the
+/// first of them is reserved by one of the two. Behind them one more of each kind of request.
+fn withdrawn(name: &str, needs: [Need; 3], length: u32) -> Family {
+    let ask = |requester: u32, need: &Need| Request { requester, slot: 0, need: need.clone() };
+    let plan = |requests: Vec<Request>| Call::Plan { results: RECORD * requests.len(), requests };
+    let calls = vec![
+        Call::Request(ask(1, &needs[0])),
+        Call::Request(ask(2, &needs[0])),
+        Call::Request(ask(1, &needs[2])),
+        plan(vec![ask(2, &needs[0]), ask(1, &needs[1])]),
+        plan(vec![ask(1, &needs[0]), ask(1, &needs[0]), ask(1, &needs[0])]),
+        Call::Withdraw { requester: 1 },
+        Call::Withdraw { requester: 2 },
+        Call::Start,
+    ];
+    let behind = needs.map(|need| Call::Request(ask(3, &need)));
+    let count = (calls.len() as u64).pow(length);
+    Family::calls(&format!("all withdrawals of {name}"), count, move |index| {
+        let mut digits = Digits(index);
+        let mut all: Vec<Call> = three_of_each().into_iter().map(Call::Add).chain([Call::Start]).collect();
+        all.extend((0..length).map(|_| digits.pick(&calls)));
+        all.extend(behind.iter().cloned());
+        all.iter().map(step_of).collect()
+    })
+}
+
+/// Pools of both uses with numbers 0 to 2 of every kind; of each the first is held by 1.
+fn three_of_each() -> Vec<Add> {
+    let mut adds = Vec::new();
+    for fixed in [false, true] {
+        for range in [
+            PoolRange::Mmio(0..3),
+            PoolRange::Pio(0..3),
+            PoolRange::Host(0..3),
+            PoolRange::Input { controller: 0, inputs: 0..3 },
+        ] {
+            adds.push(Add::Pool { fixed, range });
+        }
+        let lpis = FIRST_LPI..FIRST_LPI + 3;
+        adds.push(Add::Domain { fixed, controller: 0, its: 0, devices: 0..3, events: 0..3, lpis });
+    }
+    for what in [
+        Hold::Mmio(0..1),
+        Hold::Pio(0..1),
+        Hold::Host(0..1),
+        Hold::Input { controller: 0, input: 0, trigger: 0, sharing: 1 },
+        Hold::Device { controller: 0, its: 0, devices: 0..1 },
+        Hold::Event { controller: 0, its: 0, device: 1, events: 0..1 },
+        Hold::Lpi { controller: 0, lpis: FIRST_LPI..FIRST_LPI + 1 },
+    ] {
+        adds.push(Add::Hold { owner: 1, what });
+    }
+    adds
 }
 
 /// Inputs, host IRQs and the two together.

@@ -16,6 +16,8 @@ pub use scene::{Ruler, Scene};
 pub use sequence::{calls, tight_calls};
 pub use texts::good_text;
 
+use crate::calls::{Add, Call};
+
 /// The text of a number under a seed, the same on every machine: three in four are good ones, the others damaged.
 pub fn text(seed: u64, index: u64) -> Vec<u8> {
     let mut rng = Rng::new(seed, index);
@@ -42,12 +44,26 @@ pub fn text_fixed_too(seed: u64, index: u64) -> Vec<u8> {
 }
 
 /// The call sequence of a number under a seed.
-pub fn sequence(seed: u64, index: u64) -> Vec<crate::calls::Call> {
+pub fn sequence(seed: u64, index: u64) -> Vec<Call> {
     calls(&mut Rng::new(seed, index))
 }
 
+/// The same kind of sequence with each automatic pool range made a fixed one too, so that what it grants can be asked for.
+pub fn sequence_fixed_too(seed: u64, index: u64) -> Vec<Call> {
+    let mut calls = Vec::new();
+    for call in sequence(seed, index) {
+        let mut too = call.clone();
+        if let Call::Add(Add::Pool { fixed: fixed @ false, .. } | Add::Domain { fixed: fixed @ false, .. }) = &mut too {
+            *fixed = true;
+            calls.push(too);
+        }
+        calls.push(call);
+    }
+    calls
+}
+
 /// The call sequence of a number under a seed, over few numbers.
-pub fn tight_sequence(seed: u64, index: u64) -> Vec<crate::calls::Call> {
+pub fn tight_sequence(seed: u64, index: u64) -> Vec<Call> {
     tight_calls(&mut Rng::new(seed, index))
 }
 

@@ -1,4 +1,4 @@
-// Random call sequences: adding, starting, asking and planning in any order, with refused calls in between.
+// Random call sequences: adding, starting, asking, planning and withdrawing in any order, with refused calls in between.
 
 use super::rng::Rng;
 use super::scene::{trigger, Scene};
@@ -30,7 +30,7 @@ fn calls_on(rng: &mut Rng, scene: &Scene, heavy: bool) -> Vec<Call> {
         calls.push(Call::Start);
     }
     for _ in 0..rng.between(1, if heavy { 40 } else { 16 }) {
-        let call = later(rng, scene);
+        let call = later(rng, scene, &calls);
         let restart = matches!(call, Call::Add(_)) && rng.chance(60);
         calls.push(call);
         if restart {
@@ -40,13 +40,14 @@ fn calls_on(rng: &mut Rng, scene: &Scene, heavy: bool) -> Vec<Call> {
     calls
 }
 
-/// A call once things have started: mostly requests, sometimes more pools and holds, then a new start.
-fn later(rng: &mut Rng, scene: &Scene) -> Call {
+/// A call once things have started: mostly requests, sometimes withdrawals, more pools and holds, then a new start.
+fn later(rng: &mut Rng, scene: &Scene, before: &[Call]) -> Call {
     match rng.below(100) {
         0..=2 => Call::Start,
         3..=6 => Call::Add(any_add(rng, scene)),
         7..=12 => plan(rng, scene),
         13..=30 => Call::OfKind(any_request(rng, scene)),
+        31..=38 => withdraw(rng, scene, before),
         _ => Call::Request(any_request(rng, scene)),
     }
 }
@@ -88,6 +89,22 @@ fn plan(rng: &mut Rng, scene: &Scene) -> Call {
         _ => need,
     };
     Call::Plan { requests, results }
+}
+
+/// Mostly of somebody who has asked; 7 never does.
+fn withdraw(rng: &mut Rng, scene: &Scene, before: &[Call]) -> Call {
+    let asked = |call: &Call| match call {
+        Call::Request(request) | Call::OfKind(request) => Some(request.requester),
+        Call::Plan { requests, .. } => requests.first().map(|request| request.requester),
+        _ => None,
+    };
+    let some: Vec<u32> = before.iter().filter_map(asked).collect();
+    let requester = match rng.below(25) {
+        0 => rng.pick(&[0, 7, u32::MAX - 1]),
+        1..=20 if !some.is_empty() => rng.pick(&some),
+        _ => scene.owner(rng),
+    };
+    Call::Withdraw { requester }
 }
 
 fn fill(rng: &mut Rng, scene: &Scene, calls: &mut Vec<Call>) {

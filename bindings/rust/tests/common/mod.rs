@@ -4,6 +4,7 @@
 #[path = "../../src/exported.rs"]
 mod exported;
 
+pub mod model;
 pub mod texts;
 
 pub use exported::*;

@@ -19,9 +19,13 @@ returns-3 c = rw (c .if3 .taken)
 
 returns-4 : tie.Need-returns-4
 unfolding sizeIn
-returns-4 c = size-none _ _ (c .before .before .if1 .left) (c .before .if2 .left) (c .if3 .left)
+returns-4 c = rw (c .if4 .taken)
+
+returns-5 : tie.Need-returns-5
+unfolding sizeIn
+returns-5 c = size-none _ _ (c .before .before .before .if1 .left) (c .before .before .if2 .left) (c .before .if3 .left) (c .if4 .left)
 
 pub call-size-spec : {M : Type 1} → statement M
 call-size-spec =
     tie.close
-    (tie.spec (λ c κs. search needs) returns (λ c κs. search needs) returns-2 returns-3 returns-4)
+    (tie.spec (λ c κs. search needs) returns (λ c κs. search needs) returns-2 returns-3 returns-4 returns-5)
