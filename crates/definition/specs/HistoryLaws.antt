@@ -23,7 +23,7 @@ use Rattle.definition.specs.TableLaws.{drop-front, table-length}
 use Rattle.definition.specs.StateLaws.{Sound, given-for, sound-for, admitted-given}
 use Rattle.definition.specs.RunLaws.{run-accepted}
 use Rattle.definition.specs.PlanLaws.{plan-says, run-done, start-is}
-use Rattle.definition.specs.WithdrawLaws.{Withdraws, unsound, nobody, not-found, gone, withdraw-says, held-length, withdrawing-owners}
+use Rattle.definition.specs.WithdrawLaws.{Withdraws, unsound, nobody, not-found, gone, withdraw-says, held-length, withdrawing-rows}
 use Rattle.definition.specs.GrantLaws.{bear-owner, Granted, run-granted, rows-asked}
 
 -- ---- what a step does
@@ -226,7 +226,7 @@ module _ {H : Holders} {gs : List Grant} {s : State} (stood : Stands H gs s) whe
     held = λ k. rw same (stood .held k);
     owners = λ k. left k;
     are = are-next [] p (λ g m. absurd (List·Memᴰ·not-nil m));
-    counted = λ k. (rw same ((stood .counted k) .0), rw e (sym (ap length (withdrawing-owners s k (sound-for kinds s t k (every-kind k)) q))));
+    counted = λ k. (rw same ((stood .counted k) .0), rw e (sym (ap length (withdrawing-rows q s k))));
   }
     where
       behind : (k : Kind) → grantedIn s k ≡ rowsOf k (allRows gs)
@@ -239,7 +239,7 @@ module _ {H : Holders} {gs : List Grant} {s : State} (stood : Stands H gs s) whe
 
       left : (k : Kind) → ownersOf s′ k ≡ H k ++ rowsOf k (allRows (next gs [] p))
       left k =
-          ap (λ (x : State). ownersOf x k) e ∙ withdrawing-owners s k (sound-for kinds s t k (every-kind k)) q
+          ap (λ (x : State). ownersOf x k) e ∙ withdrawing-rows q s k
           ∙ (λ i. stood .held k i ++ onlyOf (λ r. not (ownedBy q r)) (behind k i)) ∙ ap (λ rs. H k ++ rs) (rows-others k q gs (stood .are)) ∙ ap (λ xs. H k ++ rowsOf k (allRows xs)) kept
 
 held-counted : (s : State) → T (given kinds s) → (k : Kind) → s .held k .count ≡ length (heldOf s k)

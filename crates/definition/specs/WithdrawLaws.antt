@@ -19,6 +19,12 @@ use Rattle.definition.specs.RequestLaws.{required}
 use Rattle.definition.specs.TableLaws.{table-length, take-front, drop-front, filled-used, filled-sound, filled-same}
 use Rattle.definition.specs.StateLaws.{Sound, SoundFor, sound-for, for-sound, sound-saying, begins-refl, begins-append}
 
+-- ---- what is left
+
+-- IN 02'S WORDS: the reservations, whoever owns them, and behind them the other granted rows, in their order
+pub withdrawing-rows : (q : ℕ) (s : State) (k : Kind) → ownersOf (withdrawing q s) k ≡ heldOf s k ++ onlyOf (λ r. not (ownedBy q r)) (drop (s .held k .count) (ownersOf s k))
+withdrawing-rows q s k = filled-used rowLimit (blankRow k) (without q s k)
+
 -- ---- what is answered
 
 denied : {A : Type 0} (b : Bool) (x : Refusal) (a : Answer A) → (T b → ⊥) → require b x a ≡ refused x
@@ -115,11 +121,8 @@ module _ (s : State) (k : Kind) (h : Sound s k) where
       owners = filled-sound rowLimit (sameRow b) (goodRow k) (λ x y. not (clash x y)) b (row-refl b) (without q s k) without-few
           (only-goods-behind other (goodRow k) (heldOf s k) (grantedIn s k) (rw owners-parts at (h .owners .goods)))
           (only-pairs-behind other (λ x y. not (clash x y)) (heldOf s k) (grantedIn s k) (rw owners-parts at (h .owners .pairs)));
-      begin = rw (filled-used rowLimit b (without q s k)) (begins-append (heldOf s k) (heldOf s k) (onlyOf other (grantedIn s k)) (begins-refl (heldOf s k)));
+      begin = rw (withdrawing-rows q s k) (begins-append (heldOf s k) (heldOf s k) (onlyOf other (grantedIn s k)) (begins-refl (heldOf s k)));
     }
-
-    pub withdrawing-owners : ownersOf (withdrawing q s) k ≡ without q s k
-    withdrawing-owners = filled-used rowLimit b (without q s k)
 
     -- nothing granted to it: the table stays
     without-none : (T (holdsGrant q s k) → ⊥) → filled rowLimit b (without q s k) ≡ s .owners k
