@@ -13,7 +13,7 @@ PLAN = ROOT / "plan"
 
 def program(name):
     """The words that run a program: the kit's emulator before it where the machine is another."""
-    binary = ROOT / "target/bin" / name
+    binary = ROOT / "crates" / name / "out" / name
     if platform.machine() == "x86_64":
         return [binary]
     kit = os.environ.get("RATTLE_HOME") or pathlib.Path(shutil.which("rt")).resolve().parent.parent
@@ -42,5 +42,5 @@ def each(test, items):
 def as_new(*names):
     """The programs are those of the sources, as rt ci or ./plan leaves them."""
     for name in names:
-        newer = ["find", ROOT / "crates", ROOT / "crates.txt", "-newer", ROOT / "target/bin" / name]
-        expect(ran(newer) == (0, b""), f"target/bin/{name} is as new as its sources (rt check {name})")
+        newer = ["find", ROOT / "crates", ROOT / "crates.txt", "-type", "f", "-not", "-path", "*/out/*", "-newer", ROOT / "crates" / name / "out" / name]
+        expect(ran(newer) == (0, b""), f"crates/{name}/out/{name} is as new as its sources")

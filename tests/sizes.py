@@ -9,16 +9,16 @@ ROOT = pathlib.Path(__file__).resolve().parent.parent
 
 # where the definition and the proved code state a size
 STATED = {
-    "rows of a pool table": ("crates/definition/specs/Tables.antt poolLimit", "crates/tables/src/lib.rt POOL_ROWS"),
-    "rows of an owner table": ("crates/definition/specs/Tables.antt rowLimit", "crates/tables/src/lib.rt ROWS"),
-    "requests of a plan": ("crates/definition/specs/Tables.antt planLimit", "crates/tables/src/lib.rt PLAN"),
-    "numbers of a record": ("crates/definition/specs/Tables.antt recordSize", "crates/tables/src/lib.rt RECORD"),
-    "numbers of a request": ("crates/flat/specs/Flat.antt requestSize", "crates/flat/src/lib.rt REQUEST"),
-    "bytes of a text": ("crates/lines/specs/Base.antt textLimit", "crates/text/src/lib.rt TEXT"),
-    "bytes of a line": ("crates/lines/specs/Base.antt lineLimit", "crates/reader/src/read.rt LINE"),
-    "least LPI": ("crates/definition/specs/Tables.antt firstLpi", "crates/table_tests/src/limits.rt FIRST_LPI"),
-    "registers of a device": ("crates/definition/specs/Registers.antt registerCount", "crates/registers/src/lib.rt REGISTERS"),
-    "bytes of a device's line": ("crates/sizer/specs/Words.antt sizeTextLimit", "crates/sizer/src/line.rt TEXT"),
+    "rows of a pool table": ("crates/definition/specs/Tables.antt pool_limit", "crates/tables/src/lib.rt POOL_ROWS"),
+    "rows of an owner table": ("crates/definition/specs/Tables.antt row_limit", "crates/tables/src/lib.rt ROWS"),
+    "requests of a plan": ("crates/definition/specs/Tables.antt plan_limit", "crates/tables/src/lib.rt PLAN"),
+    "numbers of a record": ("crates/definition/specs/Tables.antt record_size", "crates/tables/src/lib.rt RECORD"),
+    "numbers of a request": ("crates/flat/specs/Flat.antt request_size", "crates/flat/src/lib.rt REQUEST"),
+    "bytes of a text": ("crates/lines/specs/Base.antt text_limit", "crates/text/src/lib.rt TEXT"),
+    "bytes of a line": ("crates/lines/specs/Base.antt line_limit", "crates/reader/src/read.rt LINE"),
+    "least LPI": ("crates/definition/specs/Tables.antt first_lpi", "crates/table_tests/src/limits.rt FIRST_LPI"),
+    "registers of a device": ("crates/definition/specs/Registers.antt register_count", "crates/registers/src/lib.rt REGISTERS"),
+    "bytes of a device's line": ("crates/sizer/specs/Words.antt size_text_limit", "crates/sizer/src/line.rt TEXT"),
 }
 # where it is stated again: for other languages, and for the judge, which reads no file of ours
 AGAIN = {
@@ -44,9 +44,9 @@ TABLE_AGAIN = (
 
 
 def refusals(path, row):
-    """The names of refusals by their numbers, as a file has them: without blanks, and however they are capitalised."""
+    """The names of refusals by their numbers, as a file has them: without blanks and dashes, and however they are capitalised."""
     rows = re.finditer(row, (ROOT / path).read_text(), re.MULTILINE)
-    return {int(r["number"]): r["name"].replace(" ", "").lower() for r in rows}
+    return {int(r["number"]): re.sub("[ _]", "", r["name"]).lower() for r in rows}
 
 
 def number(place):

@@ -88,6 +88,9 @@ def table(root):
     for word, olds in new.items():
         for n in olds:
             to[n] = word + "_is" if len(olds) > 1 and "-" in n else word
+    for n in declared(root):
+        if re.fullmatch(r"◌[a-z]+(?:[A-Z][a-z]*)+◌", n):
+            to[n], to[n.strip("◌")] = snake(n), snake(n.strip("◌"))
     return to
 
 

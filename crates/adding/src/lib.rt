@@ -1,4 +1,6 @@
 // A call that adds, over the tables of seven kinds: what those of each kind are asked, what comes of their answers, and the rows that are then stored. All over plain values, but for `answer`, which reads tables.
+#![tactic(auto)]
+
 ghost use Rattle.std.specs.Prelude.{◌≡◌, not, T};
 ghost use Rattle.definition.specs.Tables.{pool_limit, same_span, blank_span, tidy};
 ghost use Rattle.tables.specs.Views.{pool_view};
@@ -19,7 +21,7 @@ pub mod pools;
 pub mod put;
 
 // Where a call's rows go: to the automatic pools, to the fixed pools, to the reservations.
-#[derive(Drop)]
+#[derive(Clone, Copy)]
 pub enum To {
     Nowhere,
     Automatic,
@@ -28,7 +30,7 @@ pub enum To {
 }
 
 // What a call has rows for: nothing, the table of one kind, those of an MSI domain (devices, events, LPIs), those of a pair (an input and a host IRQ).
-#[derive(Drop)]
+#[derive(Clone, Copy)]
 pub enum What {
     Nothing,
     One(Kind),
@@ -37,7 +39,7 @@ pub enum What {
 }
 
 // What a call adds: the rows for its tables. Of `first`, `second` and `third` a call that is no MSI domain has the first alone.
-#[derive(Drop)]
+#[derive(Clone, Copy)]
 pub struct Adds {
     pub to: To,
     pub what: What,
@@ -49,7 +51,7 @@ pub struct Adds {
 }
 
 // What the tables of one kind are asked: whether the table that `to` names takes the row. No range of the kind starts below `floor`.
-#[derive(Drop)]
+#[derive(Clone, Copy)]
 pub struct Ask {
     pub to: To,
     pub floor: u64,
@@ -58,7 +60,7 @@ pub struct Ask {
 }
 
 // .. those of inputs.
-#[derive(Drop)]
+#[derive(Clone, Copy)]
 pub struct InputAsk {
     pub to: To,
     pub floor: u64,
@@ -67,14 +69,14 @@ pub struct InputAsk {
 }
 
 // What comes of the answers: what is said, and so whether all of the call's rows are stored, or none.
-#[derive(Drop)]
+#[derive(Clone, Copy)]
 pub struct Verdict {
     pub adds: Adds,
     pub reply: Reply,
 }
 
 // A range for a pool table, or none.
-#[derive(Drop)]
+#[derive(Clone, Copy)]
 pub struct PoolPut {
     pub go: bool,
     pub row: PoolRow,

@@ -1,4 +1,6 @@
 // One request over the whole state by value: the tables handed in are tested, then the request is answered as in place. Nothing is written before all of it stands.
+#![tactic(auto)]
+
 ghost use Rattle.std.specs.Prelude.{◌≡◌, ◌≤◌, T, length};
 ghost use Rattle.definition.specs.Tables.{record_size, kinds};
 ghost use Rattle.definition.specs.Base.{tell};
@@ -16,14 +18,14 @@ use request::{Request, Want};
 use tables::{Holders, Kind, RECORD, State};
 
 // The state afterwards, and the first numbers of the rows granted.
-#[derive(Drop)]
+#[derive(Clone, Copy)]
 pub struct Outcome {
     pub state: State,
     pub bases: Bases,
 }
 
 // The nine numbers of a result.
-#[derive(Drop)]
+#[derive(Clone, Copy)]
 pub struct Record {
     pub kind: u64,
     pub requester: u64,

@@ -1,4 +1,6 @@
 // Where a range may start, over plain numbers: no table and no loop. The order of pool rows after src/resources/pool/range.rs of axdevice 0.8.5, Apache-2.0, see NOTICE; changed.
+#![tactic(auto)]
+
 ghost use Rattle.std.specs.Prelude.{◌≡◌, ◌&&◌, ◌<◌, ltb};
 ghost use Rattle.definition.specs.Tables.{dom, same_dom};
 ghost use Rattle.bases.specs.Bases.{Up, Below};
@@ -34,6 +36,7 @@ pub fn bases_below(hi: u64, size: u64) -> u64
 }
 
 // Whether a range is of the domain of another and starts before it.
+#[tactic(auto, unfolding(definition::specs::Tables::same_dom))]
 pub fn starts_before(controller: u32, its: u32, start: u64, c: u32, i: u32, s: u64) -> bool
     ensures { result ≡ (same_dom (dom controller its 0) (dom c i 0) && ltb start s) }
 {

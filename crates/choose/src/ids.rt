@@ -5,19 +5,19 @@ ghost use Rattle.choose.specs.Ids.{plain_device, plain_event, plain_lpi};
 use super::Choice;
 use tables::{DeviceId, EventId, Lpi};
 
-#[derive(Drop)]
+#[derive(Clone, Copy)]
 pub enum DeviceChoice {
     Auto,
     Fixed(DeviceId),
 }
 
-#[derive(Drop)]
+#[derive(Clone, Copy)]
 pub enum EventChoice {
     Auto,
     Fixed(EventId),
 }
 
-#[derive(Drop)]
+#[derive(Clone, Copy)]
 pub enum LpiChoice {
     Auto,
     Fixed(Lpi),

@@ -1,4 +1,6 @@
 // For each kind, which rows a request is granted or why it is refused, read through references to the columns: nothing is changed here.
+#![tactic(auto)]
+
 ghost use Rattle.std.specs.Prelude.{◌≡◌};
 ghost use Rattle.definition.specs.Tables.{nature};
 ghost use Rattle.tables.specs.Views.{kind_of};
@@ -11,14 +13,14 @@ pub mod range;
 pub mod wired;
 
 // The number asked for, or any.
-#[derive(Drop)]
+#[derive(Clone, Copy)]
 pub enum Choice {
     Auto,
     Fixed(u64),
 }
 
 // Why a call is refused, and what the refusal names: a namespace; a namespace, an owner and a detail.
-#[derive(Drop)]
+#[derive(Clone, Copy)]
 pub enum Refusal {
     Malformed,
     BadInput,
@@ -30,7 +32,7 @@ pub enum Refusal {
 }
 
 // The range that is granted, from its first number up to its end, or why none is.
-#[derive(Drop)]
+#[derive(Clone, Copy)]
 pub enum Chosen {
     Stands(u64, u64),
     Refused(Refusal),

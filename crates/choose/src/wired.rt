@@ -11,7 +11,7 @@ use search::Found;
 use tables::{Hit, InputRow, POOL_ROWS, ROWS};
 
 // What a request asks of a controller's inputs.
-#[derive(Drop)]
+#[derive(Clone, Copy)]
 pub struct InputNeed {
     pub controller: u32,
     pub trigger: u32,
@@ -20,7 +20,7 @@ pub struct InputNeed {
 }
 
 // Whether a request may stand beside the row that holds its input, and the detail of the conflict if not.
-#[derive(Drop)]
+#[derive(Clone, Copy)]
 pub enum Sharing {
     Joins,
     Clashes(u32),

@@ -7,7 +7,7 @@ use lib.Dec.{T}
 use Rattle.definition.specs.Tables.{row_limit, Kind, kinds, mmio, pio, input, host, device, event, lpi}
 use Rattle.definition.specs.Request.{automatic, fixed, good_want, good_request}
 use Rattle.definition.specs.Calls.{sound}
-use Rattle.definition.specs.StateLaws.{Sound, sound_says}
+use Rattle.definition.proofs.StateLaws.{Sound, sound_says}
 use Rattle.tables.specs.Views.{pool_of, holders_view, state_view}
 use Rattle.tables.specs.declared.State.{State}
 use Rattle.choose.specs.Told.{choice_of}

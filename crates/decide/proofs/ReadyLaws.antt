@@ -1,10 +1,10 @@
 -- What soundness gives the choices: automatic pools in order, and a kind's tables among all. Assumes nothing.
 use lib.Dec.{T}
 use Rattle.definition.specs.Tables.{Kind, kinds}
-use Rattle.definition.specs.RowLaws.{every_kind}
-use Rattle.definition.specs.BaseLaws.{all_in}
+use Rattle.definition.proofs.RowLaws.{every_kind}
+use Rattle.definition.proofs.BaseLaws.{all_in}
 use Rattle.definition.specs.Calls.{State, sound_at, sound}
-use Rattle.definition.specs.StateLaws.{SoundPool}
+use Rattle.definition.proofs.StateLaws.{SoundPool}
 use Rattle.tables.specs.Views.{pool_view}
 use Rattle.tables.specs.declared.Pool.{Pool}
 use Rattle.search.specs.Finds.{InOrder}

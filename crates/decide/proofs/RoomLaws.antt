@@ -12,7 +12,7 @@ use Rattle.definition.specs.Base.{full, Answer, accepted, require}
 use Rattle.definition.specs.Tables.{row_limit, Span, Row}
 use Rattle.definition.specs.Request.{Need, auto, at, row_at, lowest, allowed, obstacle, found, unopposed, place}
 use Rattle.definition.specs.Request as R
-use Rattle.definition.specs.RequestLaws.{not_accepted, then_accepted, require_accepted}
+use Rattle.definition.proofs.RequestLaws.{not_accepted, then_accepted, require_accepted}
 use Rattle.choose.specs.Told.{told, place_in, roomed, chosen_in}
 use Rattle.choose.specs.declared.Chosen.{Chosen}
 use Rattle.choose.specs.declared.Chosen.TheVariants.{Stands, Refused}

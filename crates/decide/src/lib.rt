@@ -1,4 +1,6 @@
 // One request over seven tables: what it asks, and what comes of the tables' answers. Nothing is read or stored here, but for `value`.
+#![tactic(auto)]
+
 ghost use Rattle.std.specs.Prelude.{◌≡◌};
 ghost use Rattle.decide.specs.Query.{needing, query_of};
 ghost use Rattle.decide.specs.Granted.{verdict_of};
@@ -17,7 +19,7 @@ pub mod put;
 pub mod value;
 
 // What a request asks of its own tables. What makes no sense asks nothing.
-#[derive(Drop)]
+#[derive(Clone, Copy)]
 pub enum Query {
     Nothing,
     Mmio(Need, Choice),
@@ -28,7 +30,7 @@ pub enum Query {
 }
 
 // The rows that are to be stored, each in the table of its kind.
-#[derive(Drop)]
+#[derive(Clone, Copy)]
 pub enum Rows {
     Nothing,
     Mmio(RangeRow),
@@ -39,7 +41,7 @@ pub enum Rows {
 }
 
 // The first numbers of the rows that an accepted request was granted: a record is made of them. An MSI request has the three, any other the base.
-#[derive(Drop)]
+#[derive(Clone, Copy)]
 pub struct Bases {
     pub accepted: bool,
     pub base: u64,
@@ -49,7 +51,7 @@ pub struct Bases {
 }
 
 // What is stored, and what is said.
-#[derive(Drop)]
+#[derive(Clone, Copy)]
 pub struct Granted {
     pub rows: Rows,
     pub bases: Bases,

@@ -8,16 +8,16 @@ use mathlib.Core.List.Memᴰ
 use mathlib.Core.List.{List, map, Memᴰ}
 use lib.Dec.{T}
 use Rattle.definition.specs.Base.{any_of, pairs_of, Said, Answer, accepted, refused, ◌then◌}
-use Rattle.definition.specs.BaseLaws.{T_true, true_T, false_T, either, any_in, in_any}
+use Rattle.definition.proofs.BaseLaws.{T_true, true_T, false_T, either, any_in, in_any}
 use Rattle.definition.specs.Tables.{Kind, same_kind, Span, Row, Table}
 use Rattle.definition.specs.Pools.{In, at_kind, there, entered, has_place, admit, Claim, rows_of, reserve}
 use Rattle.definition.specs.Request.{Use, automatic, fixed}
 use Rattle.definition.specs.Calls.{State as Given, state, pools_of, held_of, saying, push_all, stored, same_use, holding, entering, settle}
-use Rattle.definition.specs.RowLaws.{same_kind_equal, kind_same}
-use Rattle.definition.specs.ClaimLaws.{other_kind}
-use Rattle.definition.specs.PlanLaws.{tell_number}
-use Rattle.definition.specs.PoolLaws.{entered_there, entered_new, admit_says, reserve_says}
-use Rattle.definition.specs.WholeLaws.{Whole, entering_whole}
+use Rattle.definition.proofs.RowLaws.{same_kind_equal, kind_same}
+use Rattle.definition.proofs.ClaimLaws.{other_kind}
+use Rattle.definition.proofs.PlanLaws.{tell_number}
+use Rattle.definition.proofs.PoolLaws.{entered_there, entered_new, admit_says, reserve_says}
+use Rattle.definition.proofs.WholeLaws.{Whole, entering_whole}
 use Rattle.insert.specs.Answers.{pick, telling, entered_or}
 
 abbrev pub pool_after : Use → List (In Span) → Given → Given

@@ -4,7 +4,7 @@ use Prim.Native.Nat.{ℕ}
 use lib.Dec.{T}
 use Rattle.definition.specs.Tables.{kinds}
 use Rattle.definition.specs.Base.{require}
-use Rattle.definition.specs.BaseLaws.{T_true}
+use Rattle.definition.proofs.BaseLaws.{T_true}
 use Rattle.definition.specs.Pools.{Pool, spans, Hold, held_rows}
 use Rattle.definition.specs.Request.{Use}
 use Rattle.definition.specs.Calls.{State, given, starting, pool, hold, start, serve}

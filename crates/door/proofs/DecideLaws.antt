@@ -5,10 +5,10 @@ use mathlib.Core.List.{List, [], ◌∷◌}
 use Prim.Native.Nat.{◌<◌}
 use lib.Dec.{T as Holds, eqb}
 use Rattle.definition.specs.Base.{any_of, all_of, pairs_of}
-use Rattle.definition.specs.BaseLaws.{true_T}
-use Rattle.definition.specs.RowLaws.{same_kind_equal}
-use Rattle.definition.specs.ClaimLaws.{other_kind}
-use Rattle.definition.specs.PoolLaws.{spans_apart}
+use Rattle.definition.proofs.BaseLaws.{true_T}
+use Rattle.definition.proofs.RowLaws.{same_kind_equal}
+use Rattle.definition.proofs.ClaimLaws.{other_kind}
+use Rattle.definition.proofs.PoolLaws.{spans_apart}
 use Rattle.definition.specs.Tables.{row_limit, Kind, kinds, mmio, pio, input, host, device, event, lpi, same_kind, Span, Table, used}
 use Rattle.definition.specs.Pools.{at_kind, admit, Claim, rows_of, room, all_unreserved, reserve, mmio_pool, pio_pool, host_pool, input_pool, msi_pool}
 use Rattle.definition.specs.Request.{Use, automatic, fixed}

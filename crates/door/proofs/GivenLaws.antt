@@ -4,9 +4,9 @@ use Prim.Native.Nat.{◌≤◌}
 use Rattle.definition.specs.Tables.{row_limit, Kind, kinds, pool_limit, same_span, blank_span, tidy}
 use Rattle.definition.specs.Request.{Use, automatic, fixed}
 use Rattle.definition.specs.Calls.{given}
-use Rattle.definition.specs.RowLaws.{every_kind}
-use Rattle.definition.specs.TableLaws.{says_tidy}
-use Rattle.definition.specs.StateLaws.{given_for}
+use Rattle.definition.proofs.RowLaws.{every_kind}
+use Rattle.definition.proofs.TableLaws.{says_tidy}
+use Rattle.definition.proofs.StateLaws.{given_for}
 use Rattle.tables.specs.Views.{pool_of, pool_view, holders_view, state_view}
 use Rattle.tables.specs.declared.Pools.{Pools}
 use Rattle.tables.specs.declared.State.{State}

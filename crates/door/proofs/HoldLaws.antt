@@ -4,13 +4,13 @@ use mathlib.Core.Logic.{◌⊎◌, inl, inr}
 use mathlib.Core.Bool.{Bool, true, false, true≢false}
 use mathlib.Core.List.{[], ◌∷◌}
 use lib.Dec.{T as Holds}
-use Rattle.definition.specs.BaseLaws.{T_true, T_false, either}
+use Rattle.definition.proofs.BaseLaws.{T_true, T_false, either}
 use Rattle.definition.specs.Tables.{Kind, mmio, pio, input, host, device, event, lpi, same_kind, Row}
 use Rattle.definition.specs.Pools.{at_kind, rows_of}
 use Rattle.definition.specs.Calls.{push_all}
-use Rattle.definition.specs.RowLaws.{same_kind_equal, kind_same}
-use Rattle.definition.specs.ClaimLaws.{rows_same, rows_other}
-use Rattle.definition.specs.TableLaws.{push_nil}
+use Rattle.definition.proofs.RowLaws.{same_kind_equal, kind_same}
+use Rattle.definition.proofs.ClaimLaws.{rows_same, rows_other}
+use Rattle.definition.proofs.TableLaws.{push_nil}
 use Rattle.tables.specs.Views.{range_of, input_of, ranges_view, inputs_view, holders_view}
 use Rattle.tables.specs.Sized.{SizedRanges, SizedInputs}
 use Rattle.tables.specs.declared.Ranges.{Ranges}

@@ -3,7 +3,7 @@ use mathlib.Core.Path.{◌≡◌, refl, sym, ◌∙◌}
 use mathlib.Core.Bool.{Bool, true, false, not}
 use lib.Dec.{T, eqb}
 use Rattle.definition.specs.Base.{require}
-use Rattle.definition.specs.BaseLaws.{true_T}
+use Rattle.definition.proofs.BaseLaws.{true_T}
 use Rattle.definition.specs.Tables.{kinds}
 use Rattle.definition.specs.Calls.{State, given, saying, want, serve}
 use Rattle.insert.specs.Answers.{heard}

@@ -1,4 +1,6 @@
 // THE door: the whole state is lent to be changed in place, by any call. And 01's form of it for one request: a thin door over the by-value core.
+#![tactic(auto)]
+
 ghost use Rattle.std.specs.Prelude.{◌≡◌, eqb};
 ghost use Rattle.definition.specs.Tables.{kinds};
 ghost use Rattle.definition.specs.Calls.{want, serve};

@@ -7,15 +7,15 @@ use native.Mathlib.Omega.{arith}
 use lib.Dec.{leb, leb→le}
 use lib.ListN.{length, take}
 use borrow.Author.Tests.{le-leb, ne_eqb}
-use Rattle.definition.specs.BaseLaws.{and_l, true_T}
+use Rattle.definition.proofs.BaseLaws.{and_l, true_T}
 use Rattle.definition.specs.Tables.{plan_limit, record_size, kinds}
 use Rattle.definition.specs.Base.{Refusal, malformed, short, tell, accepted, require}
 use Rattle.definition.specs.Pools.{Holders}
 use Rattle.definition.specs.Request.{Request, Pools}
 use Rattle.definition.specs.Calls.{State, pools_of, owners_of, sound}
 use Rattle.definition.specs.Plan.{Grant, Run, done, stopped, run, records, roomy, at_once, plan_run, grants_of, ended, plan}
-use Rattle.definition.specs.PlanLaws.{tell_number, tell_index, plan_says}
-use Rattle.definition.specs.RunLaws.{run_requests, run_stopped, records_length}
+use Rattle.definition.proofs.PlanLaws.{tell_number, tell_index, plan_says}
+use Rattle.definition.proofs.RunLaws.{run_requests, run_stopped, records_length}
 use Rattle.flat.specs.Flat.{request_size, requests_of, whole_requests, flat_plan}
 use Rattle.flat.proofs.FlatLaws.{requests_length, flat_whole}
 use Rattle.numbers.specs.Lent.{filled_by, filled_in}

@@ -5,7 +5,7 @@ use mathlib.Core.List.{List}
 use Prim.Native.Nat.{ℕ}
 use lib.Dec.{T, eqb}
 use prog.Memory.{size as size_of}
-use Rattle.definition.specs.BaseLaws.{T_true}
+use Rattle.definition.proofs.BaseLaws.{T_true}
 use Rattle.definition.specs.Calls.{State as Given}
 use Rattle.definition.specs.Plan.{Lent, lent}
 use Rattle.tables.specs.Whole.{fresh_state}

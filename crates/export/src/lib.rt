@@ -1,5 +1,7 @@
 // The planner for callers in C and Rust. The state is the caller's memory, lent with its size: with another number for its size a state is left as it was, and the answer is 1.
 // Numbers come and go in lists. Nothing is required of them: whatever cannot be read gets its refusal.
+#![tactic(auto)]
+
 ghost use Rattle.std.specs.Prelude.{◌≡◌, length};
 ghost use Rattle.definition.specs.Plan.{lent};
 ghost use Rattle.tables.specs.Views.{state_view};

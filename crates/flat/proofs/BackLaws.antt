@@ -8,17 +8,17 @@ use lib.Dec.{T, eqb, ltb, ltb→lt}
 use borrow.Author.Tests.{eq-eqb, ne_eqb}
 use lib.ListN.{length, get_or, drop, length-append, length-map, get_or-append}
 use lib.Seq.{get_or-append-add}
-use Rattle.definition.specs.BaseLaws.{and_l, and_r, T_true}
+use Rattle.definition.proofs.BaseLaws.{and_l, and_r, T_true}
 use Rattle.definition.specs.Tables.{top, record_size, Kind, kinds}
 use Rattle.definition.specs.Pools.{Claim}
 use Rattle.definition.specs.Request.{Choice, Want, mmio_want, pio_want, input_want, host_want, msi_want, Request, good_request}
 use Rattle.definition.specs.Calls.{State, pools_of, owners_of}
 use Rattle.definition.specs.Plan.{Grant, grant, done, plan_run, base_at, record_of, record_of_grant, records, written, pin_choice, pin_want, pinned}
-use Rattle.definition.specs.RunLaws.{record_length, records_length}
-use Rattle.definition.specs.ResolveLaws.{Ground}
-use Rattle.definition.specs.RowLaws.{every_kind}
-use Rattle.definition.specs.StateLaws.{sound_ground, sound_for}
-use Rattle.definition.specs.PlanLaws.{plan_says, plan_requests}
+use Rattle.definition.proofs.RunLaws.{record_length, records_length}
+use Rattle.definition.proofs.ResolveLaws.{Ground}
+use Rattle.definition.proofs.RowLaws.{every_kind}
+use Rattle.definition.proofs.StateLaws.{sound_ground, sound_for}
+use Rattle.definition.proofs.PlanLaws.{plan_says, plan_requests}
 use Rattle.flat.specs.Flat.{request_size, choice_at, fits, Form, unknown, mmio, pio, input, host, msi, form_at, readable, want_at, or_bad, request_in, number_at, request_at, requests_from, requests_of}
 use Rattle.flat.proofs.FlatLaws.{request_reads, requests_read, requests_length}
 use Rattle.flat.specs.Pin.{pin_choice_at, pin_form, granted_at, pin_choices, tells_of, own_record, pin_one, pin_from, pinned_numbers}

@@ -4,7 +4,7 @@ use mathlib.Core.Bool.{false, ◌&&◌}
 use Prim.Native.Nat.{ℕ, zero, suc, ◌≤◌, ◌<◌}
 use native.Mathlib.Omega.{arith}
 use lib.Dec.{T, leb, leb→le}
-use Rattle.definition.specs.BaseLaws.{and_l, and_r}
+use Rattle.definition.proofs.BaseLaws.{and_l, and_r}
 use Rattle.definition.specs.Request.{at}
 use Rattle.flat.specs.Flat.{choice_at, named, all_fit, unknown, input, msi, form_at, readable}
 

@@ -3,15 +3,15 @@ use mathlib.Core.Path.{◌≡◌, refl, sym, ◌∙◌}
 use mathlib.Core.List.{List, [], ◌∷◌, Memᴰ}
 use Prim.Native.Nat.{ℕ, ◌≤◌}
 use lib.Dec.{T, leb, leb→le}
-use Rattle.definition.specs.BaseLaws.{and_l, and_r}
+use Rattle.definition.proofs.BaseLaws.{and_l, and_r}
 use Rattle.definition.specs.Base.{Answer, accepted, refused, bad_input, full, require, ◌then◌}
 use Rattle.definition.specs.Tables.{top, dom, Kind, device, event, lpi, nature, Row, fits, good_row}
 use Rattle.definition.specs.Pools.{at_kind, Holders, Claim, ◌⊕◌, room}
 use Rattle.definition.specs.Request.{Want, mmio_want, pio_want, input_want, host_want, msi_want, Request, good_request, Pools, need, place, claims, resolve}
 use Rattle.definition.specs.Plan.{Grant, grant, done, run, base_at}
-use Rattle.definition.specs.RequestLaws.{then_accepted, require_accepted, Bounded}
-use Rattle.definition.specs.ResolveLaws.{Resolved, resolved, rows_kept}
-use Rattle.definition.specs.RunLaws.{run_accepted, run_refused, not_done, after_done, Sounds}
+use Rattle.definition.proofs.RequestLaws.{then_accepted, require_accepted, Bounded}
+use Rattle.definition.proofs.ResolveLaws.{Resolved, resolved, rows_kept}
+use Rattle.definition.proofs.RunLaws.{run_accepted, run_refused, not_done, after_done, Sounds}
 
 abbrev pub Narrow : Want → List Claim → Type 0
 Narrow (mmio_want s a c) cs = Unit {0}

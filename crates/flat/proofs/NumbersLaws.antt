@@ -6,7 +6,7 @@ use Prim.Native.Nat.{ℕ, ◌*◌, ◌/◌, ◌≤◌}
 use native.Mathlib.Omega.{arith}
 use lib.Dec.{T, leb, ltb, leb→le, le→leb}
 use lib.ListN.{length, length-append}
-use Rattle.definition.specs.BaseLaws.{and_l, and_r, and_i, T_true, eq→eqb}
+use Rattle.definition.proofs.BaseLaws.{and_l, and_r, and_i, T_true, eq→eqb}
 use Rattle.definition.specs.Tables.{top, last_trigger, shared, nature, input, device, event, lpi}
 use Rattle.definition.specs.Request.{Choice, auto, at, Want, mmio_want, pio_want, input_want, host_want, msi_want, Request, good_choice, good_want, good_request}
 use Rattle.definition.specs.Calls.{State}

@@ -1,4 +1,6 @@
 // Requests as plain numbers, twelve a request: how one of them is read.
+#![tactic(auto)]
+
 ghost use Rattle.std.specs.Prelude.{◌≡◌, ◌+◌, ◌*◌, ◌≤◌, T, length};
 ghost use Rattle.definition.specs.Request.{input_want, msi_want};
 ghost use Rattle.choose.specs.Told.{choice_of};
@@ -43,6 +45,7 @@ pub fn all_fit(a: u64, b: u64, c: u64) -> bool
 }
 
 // Whether the numbers of an input can be read.
+#[tactic(auto, unfolding(crate::specs::Flat::readable))]
 pub fn wired_reads(a: u64, b: u64, c: u64, x: u64) -> bool
     ensures { result ≡ readable input a b c x 0 0 0 0 0 }
 {
@@ -66,6 +69,7 @@ pub fn number_reads(code: u64, n: u64) -> bool
 }
 
 // .. the numbers of an MSI request.
+#[tactic(auto, unfolding(crate::specs::Flat::readable))]
 pub fn msi_read(a: u64, b: u64, c: u64, x: u64, n: u64, y: u64, m: u64, z: u64, l: u64) -> bool
     ensures { result ≡ readable msi a b c x n y m z l }
 {
@@ -82,6 +86,7 @@ pub fn msi_read(a: u64, b: u64, c: u64, x: u64, n: u64, y: u64, m: u64, z: u64, 
 }
 
 // The kind is one of five, and what it uses of the numbers can be read.
+#[tactic(auto, using(crate::proofs::FormLaws::readable_past, crate::proofs::FormLaws::readable_plain), unfolding(crate::specs::Flat::readable))]
 pub fn readable(
     kind: u64,
     a: u64,
@@ -176,6 +181,7 @@ pub fn msi(a: u64, b: u64, c: u64, x: u64, n: u64, y: u64, m: u64, z: u64, l: u6
 }
 
 // What is wanted, by the kind. The numbers can be read.
+#[tactic(auto, using(crate::proofs::FormLaws::reads_input), unfolding(crate::specs::Flat::want_at))]
 pub fn want_of(
     kind: u64,
     a: u64,
@@ -229,6 +235,7 @@ pub fn bad() -> Request
 }
 
 // One request from its twelve numbers.
+#[tactic(auto, unfolding(crate::specs::Flat::request_in))]
 pub fn request_of(
     kind: u64,
     requester: u64,
@@ -263,6 +270,7 @@ pub fn request_of(
 }
 
 // The i-th request of a list.
+#[tactic(auto, using(crate::proofs::FlatLaws::request_at_is))]
 pub fn request_at(requests: &[u64], i: usize) -> Request
     requires { request_size * i + request_size ≤ length requests.now }
     ensures { request_of result ≡ request_at requests.now i }

@@ -17,6 +17,7 @@ pub fn lesser(a: usize, b: usize) -> usize
 }
 
 // One choice, whose code stands at `to`: an automatic one is fixed at the number granted.
+#[tactic(auto, using(crate::proofs::PinLaws::pin_auto, crate::proofs::PinLaws::pin_stays))]
 pub fn pin_choice(requests: &mut [u64], to: usize, granted: u64)
     requires { to + 2 ≤ length requests.old }
     ensures { requests.new ≡ pin_choice_at to granted requests.old }
@@ -30,6 +31,7 @@ pub fn pin_choice(requests: &mut [u64], to: usize, granted: u64)
 }
 
 // The choices that the kind uses.
+#[tactic(auto, using(crate::proofs::PinLaws::choices_zero, crate::proofs::PinLaws::choices_past, crate::proofs::PinLaws::choices_input, crate::proofs::PinLaws::choices_msi, crate::proofs::PinLaws::choices_plain))]
 pub fn pin_choices(requests: &mut [u64], results: &[u64], i: usize)
     requires request_size_in_bounds { request_size * i + request_size ≤ length requests.old }
     requires record_size_in_bounds { record_size * i + record_size ≤ length results.now }
@@ -58,6 +60,7 @@ pub fn pin_choices(requests: &mut [u64], results: &[u64], i: usize)
 }
 
 // Whether a request's record is its own: of its kind, its requester and its slot. To requester 0 nothing is granted, and what cannot be read is read as one.
+#[tactic(auto, using(crate::proofs::PinLaws::asked_by_nobody, crate::proofs::PinLaws::other_kind_is, crate::proofs::PinLaws::other_requester, crate::proofs::PinLaws::by_slot))]
 pub fn own_record(requests: &[u64], results: &[u64], i: usize) -> bool
     requires request_size_in_bounds { request_size * i + request_size ≤ length requests.now }
     requires record_size_in_bounds { record_size * i + record_size ≤ length results.now }
@@ -78,6 +81,7 @@ pub fn own_record(requests: &[u64], results: &[u64], i: usize) -> bool
 }
 
 // A request whose record is its own: behind a refused plan's records the list holds what no plan wrote.
+#[tactic(auto, using(crate::proofs::PinLaws::one_own, crate::proofs::PinLaws::one_stays))]
 pub fn pin_one(requests: &mut [u64], results: &[u64], i: usize)
     requires request_size_in_bounds { request_size * i + request_size ≤ length requests.old }
     requires record_size_in_bounds { record_size * i + record_size ≤ length results.now }
@@ -90,6 +94,7 @@ pub fn pin_one(requests: &mut [u64], results: &[u64], i: usize)
 }
 
 // Every whole request that has a whole record of its own.
+#[tactic(auto, using(crate::proofs::PinLaws::one_length, crate::proofs::PinLaws::from_left, crate::proofs::PinLaws::from_end, crate::proofs::PinLaws::from_start), unfolding(crate::specs::Pin::pinned_numbers))]
 pub fn pin(requests: &mut [u64], results: &[u64])
     ensures { requests.new ≡ pinned_numbers requests.old results.now }
 {

@@ -8,7 +8,7 @@ use native.Mathlib.Omega.{arith}
 use lib.ListN.{length, length-append, length-drop, length-replicate, get_or, set, take, drop, replicate, take-append-drop, drop_of_length-le}
 use lib.Seq.{take-suc, drop-cons, get_or-drop, set_at, length-take-le, take-nil, take_all}
 use Rattle.definition.specs.Base.{only_of}
-use Rattle.definition.specs.OnlyLaws.{only_append, only_few}
+use Rattle.definition.proofs.OnlyLaws.{only_append, only_few}
 use Rattle.definition.specs.Cut.{close_to}
 use Rattle.definition.specs.Tables.{row_limit, Table, used}
 use Rattle.inplace.specs.Cut.{lesser}

@@ -11,7 +11,7 @@ use borrow.Author.Tests.{ltb-true, ltb-false}
 use Rattle.definition.specs.Tables.{row_limit, Kind, mmio, pio, input, host, device, event, lpi, Row, Table, blank_row, range_row, wired_row, dom}
 use Rattle.definition.specs.Calls as C
 use Rattle.definition.specs.Cut.{close_to, cutting, closing}
-use Rattle.definition.specs.CutLaws.{close_all}
+use Rattle.definition.proofs.CutLaws.{close_all}
 use Rattle.definition.specs.Withdraw.{owned_by}
 use Rattle.tables.specs.Below.{listed}
 use Rattle.tables.specs.Views.{ranges_view, inputs_view, holders_view, state_view}

@@ -6,7 +6,7 @@ ghost use Rattle.inplace.specs.Marks.{marks_of, reserved_of, taken_out};
 use tables::{Inputs, ROWS, Ranges, State};
 
 // The row counts of seven tables, and the five numbers of the last answer.
-#[derive(Drop)]
+#[derive(Clone, Copy)]
 pub struct Marks {
     pub mmio: usize,
     pub pio: usize,

@@ -4,7 +4,7 @@ use mathlib.Core.Bool.{Bool, true, false, ◌&&◌}
 use mathlib.Core.List.{List, [], ◌∷◌}
 use lib.Dec.{T, leb, ltb}
 use Rattle.definition.specs.Base.{all_of, Answer, accepted, bad_input, empty_range, full, bad_lpi, require}
-use Rattle.definition.specs.BaseLaws.{T_true, and_true}
+use Rattle.definition.proofs.BaseLaws.{T_true, and_true}
 use Rattle.definition.specs.Tables.{Kind, nature, Span, fits_span, floored}
 use Rattle.definition.specs.Pools.{In, has_place, admit}
 use Rattle.insert.specs.Answers.{telling, heard, admit_any, comes_before, earlier_of}

@@ -5,7 +5,7 @@ use mathlib.Core.Option.{some, none}
 use Prim.Native.Nat.{ℕ, ◌<◌, ◌≤◌}
 use Rattle.definition.specs.Base.{any_of, first_of}
 use Rattle.definition.specs.Tables.{used}
-use Rattle.definition.specs.BaseLaws.{T_true, T_false, true_T, false_T}
+use Rattle.definition.proofs.BaseLaws.{T_true, T_false, true_T, false_T}
 use Rattle.tables.specs.Below.{listed, first}
 use Rattle.tables.specs.declared.Hit.TheVariants.{At, Clear}
 use Rattle.tables.proofs.IndexLaws.{any_in, any_out, first_tells, first_listed}

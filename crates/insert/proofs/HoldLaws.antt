@@ -10,8 +10,8 @@ use borrow.Author.Tests.{lt-ltb, le-ltb, le-leb, lt-leb, eq-eqb}
 use Rattle.definition.specs.Base.{all_of, first_of, bad_owner, empty_range, full, bad_lpi, Answer, accepted, require}
 use Rattle.definition.specs.Tables.{row_limit, top, last_trigger, shared, dom, Kind, input, nature, Row, wired_row, same_dom, within, overlap, meets, Table, used, fits, floored}
 use Rattle.definition.specs.Pools.{room, unreserved, all_unreserved, reserve}
-use Rattle.definition.specs.BaseLaws.{and_l, and_r, and_true, and_false, T_true, T_false, true_T}
-use Rattle.definition.specs.TableLaws.{used_length}
+use Rattle.definition.proofs.BaseLaws.{and_l, and_r, and_true, and_false, T_true, T_false, true_T}
+use Rattle.definition.proofs.TableLaws.{used_length}
 use Rattle.tables.specs.Below.{first}
 use Rattle.tables.specs.declared.Hit.TheVariants.{At, Clear}
 use Rattle.tables.proofs.ListedLaws.{listed_length}

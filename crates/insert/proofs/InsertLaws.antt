@@ -12,9 +12,9 @@ use Rattle.definition.specs.Tables.{pool_limit, Span, same_span, used, blank_spa
 use Rattle.definition.specs.Base.{any_of, full, Answer, accepted, require}
 use Rattle.definition.specs.Pools.{insert, there, has_place}
 use Rattle.definition.specs.Calls.{stored}
-use Rattle.definition.specs.BaseLaws.{T_true, true_T, false_T}
-use Rattle.definition.specs.PoolLaws.{entered_there, entered_new}
-use Rattle.definition.specs.TableLaws.{Tidy, tidy_says, stored_same, used_length}
+use Rattle.definition.proofs.BaseLaws.{T_true, true_T, false_T}
+use Rattle.definition.proofs.PoolLaws.{entered_there, entered_new}
+use Rattle.definition.proofs.TableLaws.{Tidy, tidy_says, stored_same, used_length}
 use Rattle.tables.specs.Below.{listed, first}
 use Rattle.tables.specs.Views.{span_of, pool_at, pool_view}
 use Rattle.tables.specs.declared.Hit.{Hit}

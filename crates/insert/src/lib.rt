@@ -1,4 +1,6 @@
 // Pool ranges and reservations of one table, once for every kind of range. After src/resources/pool/range.rs of axdevice 0.8.5, Apache-2.0, see NOTICE; changed.
+#![tactic(auto)]
+
 ghost use Rattle.std.specs.Prelude.{◌≡◌, true, false, suc, min, ◌+◌, ◌≤◌, ◌<◌, T};
 ghost use Rattle.definition.specs.Tables.{pool_limit, row_limit, top, same_span, blank_span, used, tidy};
 ghost use Rattle.tables.specs.Below.{first};
@@ -18,7 +20,7 @@ const BAD_LPI: u64 = 12;
 const EMPTY_RANGE: u64 = 4;
 
 // The answer of a call on one table: 01's number, and the owner that a 5 names. Both are 0 where it is accepted.
-#[derive(Drop)]
+#[derive(Clone, Copy)]
 pub struct Reply {
     pub number: u64,
     pub owner: u64,
@@ -48,6 +50,7 @@ pub fn past(x: u64) -> u64
 }
 
 // What a range answers by itself: 4 where it is empty, 12 where it starts below its kind's `floor`, else 0.
+#[tactic(auto, unfolding(crate::specs::Answers::fault_of))]
 fn range_fault(start: u64, end: u64, floor: u64) -> u64
     ensures { result ≡ fault_of start end floor }
 {
@@ -61,6 +64,7 @@ fn range_fault(start: u64, end: u64, floor: u64) -> u64
 }
 
 // Whether refusal `a` comes before refusal `b`: in the order of their numbers, but 12 comes directly after 4.
+#[tactic(auto, unfolding(crate::specs::Answers::comes_before))]
 fn comes_before(a: u64, b: u64) -> bool
     ensures { result ≡ comes_before a b }
 {
@@ -74,6 +78,7 @@ fn comes_before(a: u64, b: u64) -> bool
 }
 
 // Of two answers the one whose turn comes first, and `a` where both have one number.
+#[tactic(auto, unfolding(crate::specs::Answers::earlier_of))]
 pub fn earlier(a: Reply, b: Reply) -> Reply
     ensures { result ≡ earlier_of a b }
 {
@@ -92,6 +97,7 @@ pub fn earlier(a: Reply, b: Reply) -> Reply
 // ---- pool ranges
 
 // Whether a new row `r` stops at row `other`: it is its exact duplicate, or (not `exact`) it goes before it, one of its domain that starts later.
+#[tactic(auto, unfolding(crate::specs::Places::before))]
 fn row_stops(exact: bool, r: PoolRow, other: PoolRow) -> bool
     ensures { result ≡ stops exact (span_of r) (span_of other) }
 {
@@ -109,6 +115,7 @@ fn row_stops(exact: bool, r: PoolRow, other: PoolRow) -> bool
 }
 
 // The first of `n` rows at which `r` stops.
+#[tactic(auto, using(tables::proofs::BelowLaws::first_start, tables::proofs::BelowLaws::first_more))]
 fn first_stop<'a>(
     n: usize,
     controller: &'a [u32; POOL_ROWS],
@@ -150,6 +157,7 @@ fn place<'a>(
 }
 
 // The table with `r` at row `at`, and each used row from there on one row up.
+#[tactic(auto, using(crate::proofs::OpenLaws::shift_start, crate::proofs::OpenLaws::shift_step, crate::proofs::OpenLaws::shift_done))]
 fn open_row(t: Pool, at: usize, r: PoolRow) -> Pool
     requires { (at ≤ t.n) × (t.n < pool_limit) }
     ensures { Opened t result at r }
@@ -178,6 +186,7 @@ fn open_row(t: Pool, at: usize, r: PoolRow) -> Pool
 }
 
 // The table with one pool range more. An exact duplicate adds no row, and a full table takes none.
+#[tactic(auto, using(crate::proofs::InsertLaws::rows_within, crate::proofs::InsertLaws::place_le))]
 pub fn insert_range(t: Pool, r: PoolRow) -> Pool
     requires { T (tidy pool_limit (same_span blank_span) (pool_view t)) }
     ensures { pool_view result ≡ entered_or (span_of r) (pool_view t) }
@@ -195,6 +204,7 @@ pub fn insert_range(t: Pool, r: PoolRow) -> Pool
 }
 
 // What adding `r`, of a kind whose ranges start at `floor` or above, to a table of `n` rows answers: 4, 12, 9, or 0 where it goes in or is there already.
+#[tactic(auto, using(crate::proofs::InsertLaws::rows_within))]
 pub fn refuse_pool<'a>(
     n: usize,
     controller: &'a [u32; POOL_ROWS],
@@ -236,6 +246,7 @@ pub fn refuse_pool<'a>(
 // ---- reservations
 
 // What a reservation of `r`, of a kind whose ranges start at `floor` or above, beside the first `n` rows answers: 3, 4, 12, 5 with the owner of the first row that it overlaps, 9.
+#[tactic(auto, using(crate::proofs::FirstLaws::hit_below))]
 pub fn refuse_range<'a>(
     n: usize,
     controller: &'a [u32; ROWS],

@@ -13,6 +13,7 @@ const LAST_TRIGGER: u32 = 3;
 const SHARED: u32 = 1;
 
 // Whether two rows are of one input.
+#[tactic(auto, using(crate::proofs::HoldLaws::inputs_apart, crate::proofs::HoldLaws::inputs_level))]
 pub fn same_input(a: InputRow, b: InputRow) -> bool
     ensures { result ≡ meets (input_of a) (input_of b) }
 {
@@ -23,6 +24,7 @@ pub fn same_input(a: InputRow, b: InputRow) -> bool
 }
 
 // The first of `n` rows, in table order, on the input of `r`.
+#[tactic(auto, using(tables::proofs::BelowLaws::first_start, tables::proofs::BelowLaws::first_more))]
 pub fn first_input<'a>(
     n: usize,
     controller: &'a [u32; ROWS],
@@ -49,6 +51,7 @@ pub fn first_input<'a>(
 }
 
 // What a reservation of `r` beside the first `n` rows answers: 2 for an unknown code, 3, 5 with the owner of the input's row, 9.
+#[tactic(auto, using(crate::proofs::FirstLaws::hit_below))]
 pub fn refuse_input<'a>(
     n: usize,
     controller: &'a [u32; ROWS],

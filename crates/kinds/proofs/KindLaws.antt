@@ -7,7 +7,7 @@ use lib.Dec.{eqb}
 use lib.ListN.{replicate}
 use borrow.Author.Tests.{eq-eqb}
 use Rattle.definition.specs.Base.{all_of, Refusal, malformed, bad_input, Said, silence, tell, Answer, accepted, refused, require, ◌then◌}
-use Rattle.definition.specs.BaseLaws.{and_true}
+use Rattle.definition.proofs.BaseLaws.{and_true}
 use Rattle.definition.specs.Tables.{row_limit, Kind, nature, same_kind, Span, Row, Table, blank_row}
 use Rattle.definition.specs.Pools.{Claim, rows_of}
 use Rattle.definition.specs.Request.{automatic, fixed, one, claims, good_request, resolve}

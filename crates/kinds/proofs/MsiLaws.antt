@@ -5,13 +5,13 @@ use mathlib.Core.List.{List}
 use Prim.Native.Nat.{ℕ}
 use lib.Dec.{T}
 use Rattle.definition.specs.Base.{all_of, malformed, bad_input, Said, silence, tell, Answer, require}
-use Rattle.definition.specs.BaseLaws.{and_l, and_r, T_true, true_T, and_true}
+use Rattle.definition.proofs.BaseLaws.{and_l, and_r, T_true, true_T, and_true}
 use Rattle.definition.specs.Tables.{Kind, mmio, pio, input, host, device, event, lpi, same_kind, Row, Table}
 use Rattle.definition.specs.Pools.{Claim, rows_of}
 use Rattle.definition.specs.Request.{automatic, fixed, row_at, good_request, resolve}
 use Rattle.definition.specs.Request as R
 use Rattle.definition.specs.Calls.{State, state, push_all, pools_of, owners_of, sound, sound_at}
-use Rattle.definition.specs.StateLaws.{Sound, sound_says}
+use Rattle.definition.proofs.StateLaws.{Sound, sound_says}
 use Rattle.tables.specs.Views.{ranges_view}
 use Rattle.tables.specs.declared.Ranges.{Ranges}
 use Rattle.sound.proofs.KindLaws.{set-ranges}

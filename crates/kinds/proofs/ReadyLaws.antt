@@ -2,7 +2,7 @@
 use Prim.Native.Nat.{ℕ}
 use Rattle.definition.specs.Tables.{Kind}
 use Rattle.definition.specs.Calls.{State}
-use Rattle.definition.specs.StateLaws.{Sound, SoundPool}
+use Rattle.definition.proofs.StateLaws.{Sound, SoundPool}
 use Rattle.tables.specs.Views.{pool_view}
 use Rattle.tables.specs.declared.Pool.{Pool}
 use Rattle.lent_table.specs.Look.{Fit}

@@ -3,13 +3,13 @@ use mathlib.Core.Path.{◌≡◌, refl, sym, ◌∙◌, ap}
 use mathlib.Core.Bool.{Bool, true}
 use mathlib.Core.List.{[], ◌∷◌}
 use Prim.Native.Nat.{ℕ, ◌≤◌}
-use Rattle.definition.specs.BaseLaws.{true_T}
+use Rattle.definition.proofs.BaseLaws.{true_T}
 use Rattle.definition.specs.Tables.{pool_limit, row_limit, Kind, input, Span, Row, Table, used}
 use Rattle.definition.specs.Base.{malformed, bad_input, Said, silence, Answer, require}
 use Rattle.definition.specs.Request.{automatic, fixed, one, claims, good_request}
 use Rattle.definition.specs.Request as R
 use Rattle.definition.specs.Calls.{State, state, pools_of, owners_of, sound, sound_at, want, serve}
-use Rattle.definition.specs.StateLaws.{Sound, sound_says}
+use Rattle.definition.proofs.StateLaws.{Sound, sound_says}
 use Rattle.tables.specs.Views.{kind_of, pool_view, ranges_view, inputs_view}
 use Rattle.tables.specs.declared.Pool.{Pool}
 use Rattle.tables.specs.declared.Ranges.{Ranges}

@@ -1,4 +1,6 @@
 // The calls of one kind: its tables go in and come back by value. They are tested first; a refused call hands them back as they came.
+#![tactic(auto)]
+
 ghost use Rattle.std.specs.Prelude.{◌≡◌, false};
 ghost use Rattle.definition.specs.Tables.{mmio, pio, host, nature};
 ghost use Rattle.definition.specs.Request.{mmio_want, pio_want, input_want, host_want};
@@ -20,7 +22,7 @@ use tables::{Inputs, Kind, Pool, Ranges};
 pub mod rows;
 
 #[repr(C)]
-#[derive(Drop)]
+#[derive(Clone, Copy)]
 pub struct RangeTables {
     pub auto: Pool,
     pub fixed: Pool,
@@ -28,14 +30,14 @@ pub struct RangeTables {
     pub owners: Ranges,
 }
 
-#[derive(Drop)]
+#[derive(Clone, Copy)]
 pub struct RangeAnswer {
     pub tables: RangeTables,
     pub chosen: Chosen,
 }
 
 #[repr(C)]
-#[derive(Drop)]
+#[derive(Clone, Copy)]
 pub struct InputTables {
     pub auto: Pool,
     pub fixed: Pool,
@@ -43,7 +45,7 @@ pub struct InputTables {
     pub owners: Inputs,
 }
 
-#[derive(Drop)]
+#[derive(Clone, Copy)]
 pub struct InputAnswer {
     pub tables: InputTables,
     pub chosen: Chosen,
@@ -233,14 +235,14 @@ pub fn allocate_wired(
 }
 
 #[repr(C)]
-#[derive(Drop)]
+#[derive(Clone, Copy)]
 pub struct MsiTables {
     pub device: RangeTables,
     pub event: RangeTables,
     pub lpi: RangeTables,
 }
 
-#[derive(Drop)]
+#[derive(Clone, Copy)]
 pub struct MsiAnswer {
     pub tables: MsiTables,
     pub chosen: MsiChosen,

@@ -15,19 +15,19 @@ use search::Need;
 use tables::{InputRow, Inputs, Pool, RangeRow, Ranges};
 
 // The owner table afterwards, and what was chosen.
-#[derive(Drop)]
+#[derive(Clone, Copy)]
 pub struct RangeGrant {
     pub owners: Ranges,
     pub chosen: Chosen,
 }
 
-#[derive(Drop)]
+#[derive(Clone, Copy)]
 pub struct InputGrant {
     pub owners: Inputs,
     pub chosen: Chosen,
 }
 
-#[derive(Drop)]
+#[derive(Clone, Copy)]
 pub struct MsiGrant {
     pub devices: Ranges,
     pub events: Ranges,

@@ -6,8 +6,8 @@ use Prim.Native.Nat.{ℕ, zero, suc, ◌+◌, ◌<◌}
 use native.Mathlib.Omega.{arith}
 use lib.ListN.{length}
 use Rattle.definition.specs.Base.{only_of}
-use Rattle.definition.specs.ReplayLaws.{Take, now, later, Pick, stop, pick}
-use Rattle.definition.specs.PickLaws.{indices}
+use Rattle.definition.proofs.ReplayLaws.{Take, now, later, Pick, stop, pick}
+use Rattle.definition.proofs.PickLaws.{indices}
 
 pub data Along {A B : Type 0} (R : A → B → Type 0) : List A → List B → Type 0 where
   none : Along R [] []

@@ -8,7 +8,7 @@ use native.Mathlib.Omega.{arith}
 use lib.Dec.{leb, eqb, le→leb, eqb→eq}
 use lib.ListN.{length, take, drop, length-take}
 use lib.Seq.{get_or-take}
-use Rattle.definition.specs.BaseLaws.{T_true, T_false}
+use Rattle.definition.proofs.BaseLaws.{T_true, T_false}
 use Rattle.definition.specs.Base.{Refusal, tell}
 use Rattle.definition.specs.Tables.{record_size}
 use Rattle.definition.specs.Request.{Request}
@@ -16,9 +16,9 @@ use Rattle.definition.specs.Calls.{State, pools_of, owners_of, saying}
 use Rattle.definition.specs.Calls as C
 use Rattle.definition.specs.Plan.{Grant, Run, done, stopped, record_of_grant, records, written, Lent, lent, plan_run, grants_of, ended, plan, pinned}
 use Rattle.definition.specs.History.{planned, all_or_none, granted, was_accepted}
-use Rattle.definition.specs.PickLaws.{indices, nth, nth_all}
-use Rattle.definition.specs.PlanLaws.{tell_number, plan_says}
-use Rattle.definition.specs.IntoPlanLaws.{into_plan}
+use Rattle.definition.proofs.PickLaws.{indices, nth, nth_all}
+use Rattle.definition.proofs.PlanLaws.{tell_number, plan_says}
+use Rattle.definition.proofs.IntoPlanLaws.{into_plan}
 use Rattle.flat.specs.Flat.{request_size, request_at, requests_from, requests_of, flat_allocate}
 use Rattle.flat.proofs.FlatLaws.{request_reads, flat_one}
 use Rattle.flat.specs.Pin.{pinned_numbers}

@@ -11,8 +11,8 @@ use Rattle.definition.specs.Pools.{insert, there, entered, has_place, admit, row
 use Rattle.definition.specs.Request.{good_choice, one_bit, good_want, good_request, row_at, aligned, holds, free, align_up, candidates, lowest, allowed, unjoined, obstacle, detail, found, unopposed, place, claims, resolve}
 use Rattle.definition.specs.Calls.{given_at, sound_at, given, sound, push_all, granting, starting, start, entering, serve}
 use Rattle.definition.specs.Plan.{run, record_of_grant, records, written, lent, roomy, plan_run, plan}
-use Rattle.definition.specs.ReplayLaws.{now, later, Pick, stop, pick}
-use Rattle.definition.specs.PickLaws.{indices}
+use Rattle.definition.proofs.ReplayLaws.{now, later, Pick, stop, pick}
+use Rattle.definition.proofs.PickLaws.{indices}
 use Rattle.flat.specs.Flat.{readable, want_at, request_in, request_at, requests_from, requests_of, whole_requests, flat_plan}
 use Rattle.flat.specs.Pin.{pin_choice_at, pin_choices, tells_of, own_record, pin_one, pin_from, pinned_numbers}
 use Rattle.definition.specs.Base.{only_of}

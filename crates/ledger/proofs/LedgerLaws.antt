@@ -13,8 +13,8 @@ use Rattle.definition.specs.Calls.{State, held_of, owners_of, start, serve, gran
 use Rattle.definition.specs.Calls as C
 use Rattle.definition.specs.Plan.{Grant, records, written, Lent, lent, all_rows, plan, pinned}
 use Rattle.definition.specs.History.{Step, PoolsStay, HeldStay, granted, takes, outlives, live}
-use Rattle.definition.specs.ReplayLaws.{Pick}
-use Rattle.definition.specs.LiveLaws.{LiveAgain, live_replay, live_replay_rows}
+use Rattle.definition.proofs.ReplayLaws.{Pick}
+use Rattle.definition.proofs.LiveLaws.{LiveAgain, live_replay, live_replay_rows}
 use Rattle.flat.specs.Flat.{request_size, requests_from, requests_of, flat_plan}
 use Rattle.flat.proofs.FlatLaws.{flat_whole}
 use Rattle.flat.proofs.StoreLaws.{requests_cons}

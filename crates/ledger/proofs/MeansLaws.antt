@@ -7,8 +7,8 @@ use Prim.Native.Nat.{ℕ, zero, suc, ◌≤◌, ◌<◌}
 use native.Mathlib.Omega.{arith}
 use lib.Dec.{T, leb, eqb, leb→le, nleb→lt, eqb→eq}
 use lib.ListN.{length, take, drop, replicate, length-drop, length-replicate}
-use Rattle.definition.specs.StayLaws.{asking, step_stays}
-use Rattle.definition.specs.BaseLaws.{and_l, and_r, not_T→, or_l, or_r, and_true, and_false, eq→eqb, true_T, T_false, false_T, →not_T}
+use Rattle.definition.proofs.StayLaws.{asking, step_stays}
+use Rattle.definition.proofs.BaseLaws.{and_l, and_r, not_T→, or_l, or_r, and_true, and_false, eq→eqb, true_T, T_false, false_T, →not_T}
 use Rattle.definition.specs.Base.{all_of, Refusal, malformed, bad_input, short, tell, refused, require}
 use Rattle.definition.specs.Tables.{record_size, kinds}
 use Rattle.definition.specs.Pools.{pio_pool, input_pool, msi_pool, pio_hold, input_hold, device_hold, event_hold, lpi_hold, pair_hold}
@@ -18,7 +18,7 @@ use Rattle.definition.specs.Calls as C
 use Rattle.definition.specs.Plan.{Grant, Lent, lent, plan, pinned}
 use Rattle.definition.specs.Withdraw.{withdraw}
 use Rattle.definition.specs.History.{Step, called, allocated, planned, withdrawn, unread, step, granted, was_accepted, takes}
-use Rattle.definition.specs.IntoPlanLaws.{into_granted, want_granted}
+use Rattle.definition.proofs.IntoPlanLaws.{into_granted, want_granted}
 use Rattle.flat.specs.Flat.{request_size, request_at, requests_of, whole_requests, flat_plan, flat_allocate}
 use Rattle.flat.proofs.FlatLaws.{flat_whole, flat_torn, flat_one, flat_too_short}
 use Rattle.numbers.specs.Face.{number, asks, withdraws, call_at, adding_at, call_size, judged, face_call}

@@ -7,9 +7,9 @@ use Rattle.definition.specs.Pools.{Claim}
 use Rattle.definition.specs.Calls.{State, pools_of, given, start, serve}
 use Rattle.definition.specs.Plan.{Lent}
 use Rattle.definition.specs.History.{was_accepted}
-use Rattle.definition.specs.RequestLaws.{AutoInFixed}
-use Rattle.definition.specs.ReplayLaws.{Pick}
-use Rattle.definition.specs.PickLaws.{indices}
+use Rattle.definition.proofs.RequestLaws.{AutoInFixed}
+use Rattle.definition.proofs.ReplayLaws.{Pick}
+use Rattle.definition.proofs.PickLaws.{indices}
 use Rattle.flat.specs.Flat.{request_size, request_at, flat_plan, flat_allocate}
 use Rattle.flat.specs.Pin.{pinned_numbers}
 use Rattle.numbers.specs.Face.{number, asks, withdraws, face_call}

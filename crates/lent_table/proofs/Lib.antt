@@ -1,3 +1,0 @@
-pub mod SizedLaws
-pub mod Item
-pub mod Walk

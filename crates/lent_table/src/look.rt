@@ -9,7 +9,7 @@ use search::Need;
 use tables::{Inputs, POOL_ROWS, Pool, ROWS, Ranges};
 
 // What a table of ranges is asked: nothing, or a range.
-#[derive(Drop)]
+#[derive(Clone, Copy)]
 pub struct Ask {
     pub go: bool,
     pub need: Need,
@@ -17,7 +17,7 @@ pub struct Ask {
 }
 
 // What the table of inputs is asked.
-#[derive(Drop)]
+#[derive(Clone, Copy)]
 pub struct InputAsk {
     pub go: bool,
     pub need: InputNeed,
@@ -25,7 +25,7 @@ pub struct InputAsk {
 }
 
 // What it can give, whether or not a row is free for it, and the row behind its last used one.
-#[derive(Drop)]
+#[derive(Clone, Copy)]
 pub struct Seen {
     pub chosen: Chosen,
     pub at: usize,

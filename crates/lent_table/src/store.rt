@@ -5,14 +5,14 @@ ghost use Rattle.lent_table.specs.Store.{Free, put_range, put_input};
 use tables::{InputRow, Inputs, RangeRow, Ranges};
 
 // A row for a table of ranges, or none.
-#[derive(Drop)]
+#[derive(Clone, Copy)]
 pub struct Put {
     pub go: bool,
     pub row: RangeRow,
 }
 
 // A row for the table of inputs, or none.
-#[derive(Drop)]
+#[derive(Clone, Copy)]
 pub struct InputPut {
     pub go: bool,
     pub row: InputRow,

@@ -5,24 +5,24 @@
 use mathlib.Core.Path.{◌≡◌, refl, sym, ◌∙◌, ap, subst}
 use mathlib.Core.Bool.{Bool, true, false, ◌&&◌}
 use mathlib.Core.List.{List, [], ◌∷◌, ◌++◌, map, Memᴰ}
-use mathlib.Core.Option.{Option, none, some}
-use Prim.Native.Nat.{ℕ, ◌+◌, ◌≤◌}
+use mathlib.Core.Option.{some}
+use Prim.Native.Nat.{ℕ, ◌+◌}
 use native.Mathlib.Omega.{arith}
-use lib.Dec.{T, leb}
+use lib.Dec.{T}
 use lib.ListN.{length, length-map, length-append}
 use Rattle.definition.specs.Base.{silence}
-use Rattle.definition.specs.BaseLaws.{and_l, and_r, and_i, true_T}
+use Rattle.definition.proofs.BaseLaws.{and_l, and_r, and_i, true_T}
 use Rattle.definition.specs.Tables.{kinds}
 use Rattle.definition.specs.Pools.{Claim}
 use Rattle.definition.specs.Request.{Choice, auto, at, Want, mmio_want, pio_want, input_want, host_want, msi_want, Request, good_choice, good_want, good_request}
 use Rattle.definition.specs.Calls.{State, pools_of, held_of, starting, Call, pool, hold, start, want}
 use Rattle.definition.specs.Plan.{Grant, done, run, records, base_at, pin_choice, pin_want, pinned}
-use Rattle.definition.specs.StateLaws.{SoundFor, given_for, start_sound}
-use Rattle.definition.specs.RunLaws.{run_requests, run_good}
-use Rattle.definition.specs.PlanLaws.{all_bounded, all_sounds}
+use Rattle.definition.proofs.StateLaws.{SoundFor, given_for, start_sound}
+use Rattle.definition.proofs.RunLaws.{run_requests, run_good}
+use Rattle.definition.proofs.PlanLaws.{all_bounded, all_sounds}
 use Rattle.lines.specs.Base.{newline, split}
 use Rattle.lines.specs.Forms.{want_spelling}
-use Rattle.lines.specs.Line.{read_line, line_of, numbers_fit, spellable, sayable}
+use Rattle.lines.specs.Line.{read_line, numbers_fit, spellable, sayable}
 use Rattle.lines.specs.Text.{sofar, accepts, ended}
 use Rattle.lines.specs.Back.{calls, heads, wants, set_up_by, grants, pinned_calls, lines_of, back}
 use Rattle.lines.proofs.PartLaws.{split_some}

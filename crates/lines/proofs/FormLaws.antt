@@ -12,7 +12,7 @@ use lib.Seq.{sets, drop-cons, sets-eq, get_or-drop}
 use borrow.Author.Tests.{leb-true}
 use Rattle.definition.specs.Base.{all_of}
 use Rattle.lines.specs.declared.form.Row.{Row}
-use Rattle.lines.specs.Base.{bytes, tab, same, split, pick, when, ◌andThen◌, ◌orElse◌}
+use Rattle.lines.specs.Base.{bytes, tab, same, split, pick, when, ◌and_then◌, ◌or_else◌}
 use Rattle.lines.specs.Numbers.{digit, value_from, plain, number}
 use Rattle.lines.specs.Forms.{entry, numbers, form, ◌gives◌}
 use Rattle.lines.specs.Code.{first, row_size, row_from, row_of}
@@ -22,12 +22,12 @@ use Rattle.lines.proofs.PartLaws.{part_last, part_next, part_first, split_some}
 
 module _ (n : List ℕ) (i m : ℕ) (ms f : List ℕ) (fs : List (List ℕ)) where
   row_stop : entry m f ≡ none → row_from n i (numbers (m ∷ ms) (f ∷ fs)) ≡ row_of none
-  unfolding numbers ◌andThen◌ row_from row_of
-  row_stop e = rw (e, ◌andThen◌)
+  unfolding numbers ◌and_then◌ row_from row_of
+  row_stop e = rw (e, ◌and_then◌)
 
   row_more : (v : ℕ) → entry m f ≡ some v → row_from n i (numbers (m ∷ ms) (f ∷ fs)) ≡ row_from (set n i v) (suc i) (numbers ms fs)
-  unfolding numbers ◌andThen◌ row_from
-  row_more v e = rw (e, ◌andThen◌) (go (numbers ms fs))
+  unfolding numbers ◌and_then◌ row_from
+  row_more v e = rw (e, ◌and_then◌) (go (numbers ms fs))
     where
       go : (o : Option (List ℕ)) → row_from n i (o and_then λ ns. some (v ∷ ns)) ≡ row_from (set n i v) (suc i) o
       go none = refl
@@ -120,7 +120,7 @@ kept_more m v ms ns l k = record { count = ap suc k.count; within = go }
     go (suc i) = k.within i
 
 numbers_kept : (ms : List ℕ) (fs : List (List ℕ)) (ns : List ℕ) → numbers ms fs ≡ some ns → Kept ms ns
-unfolding numbers ◌andThen◌
+unfolding numbers ◌and_then◌
 numbers_kept [] [] ns e = let q : [] ≡ ns = cc in rw (sym q) (record { count = refl; within = λ i. omega arith })
 numbers_kept [] (f ∷ fs) ns e = absurd (let z : ◌≡◌ {A = ℕ} 0 1 = cc in omega arith)
 numbers_kept (m ∷ ms) [] ns e = absurd (let z : ◌≡◌ {A = ℕ} 0 1 = cc in omega arith)
@@ -183,9 +183,9 @@ module _ (w ms k : List ℕ) (fs : List (List ℕ)) (r : Row) (fits : length ms 
   row_within g = (told g).within
 
   pub row_here : {A : Type 0} (f : (ℕ → ℕ) → A) (o : Option A) → r.good ≡ true → ((form w ms k fs gives f) or_else o) ≡ some (f (λ i. get_or r.n i 0))
-  unfolding ◌gives◌ ◌orElse◌
-  row_here {A} f o g = let t = told g in rw (t.is, ◌gives◌, ◌orElse◌) (ap (λ (n : ℕ → ℕ). some (f n)) (fun_ext t.as_read))
+  unfolding ◌gives◌ ◌or_else◌
+  row_here {A} f o g = let t = told g in rw (t.is, ◌gives◌, ◌or_else◌) (ap (λ (n : ℕ → ℕ). some (f n)) (fun_ext t.as_read))
 
   pub row_past : {A : Type 0} (f : (ℕ → ℕ) → A) (o : Option A) → r.good ≡ false → ((form w ms k fs gives f) or_else o) ≡ o
-  unfolding ◌gives◌ ◌orElse◌
-  row_past {A} f o g = rw (none_by (form w ms k fs) r is g, ◌gives◌, ◌orElse◌)
+  unfolding ◌gives◌ ◌or_else◌
+  row_past {A} f o g = rw (none_by (form w ms k fs) r is g, ◌gives◌, ◌or_else◌)

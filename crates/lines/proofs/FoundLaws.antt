@@ -9,11 +9,11 @@ use lib.Dec.{eqb}
 use lib.ListN.{take, drop, get_or}
 use borrow.Author.Tests.{eqb-true}
 use Rattle.definition.specs.Base.{all_of}
-use Rattle.definition.specs.BaseLaws.{true_T}
+use Rattle.definition.proofs.BaseLaws.{true_T}
 use Rattle.definition.specs.Pools.{Pool, mmio_pool, pio_pool, host_pool, input_pool, msi_pool, Hold, mmio_hold, pio_hold, host_hold, input_hold, device_hold, event_hold, lpi_hold, pair_hold}
 use Rattle.definition.specs.Request.{auto, at, Want, mmio_want, pio_want, input_want, host_want, msi_want, Use}
 use Rattle.definition.specs.Calls.{Call, pool, hold, want}
-use Rattle.lines.specs.Base.{bytes, same, when, pick, ◌andThen◌, ◌orElse◌}
+use Rattle.lines.specs.Base.{bytes, same, when, pick, ◌and_then◌, ◌or_else◌}
 use Rattle.lines.specs.Numbers.{digits}
 use Rattle.lines.specs.Forms.{the_auto, Form, pool_forms, hold_forms, want_forms, entry, numbers, form, ◌gives◌, tries, field_of, fields_of, Spelling, pool_spelling, hold_spelling, want_spelling}
 use Rattle.lines.specs.Line.{numbers_fit}
@@ -29,7 +29,7 @@ unlike (l ∷ ls) [] = false
 unlike (l ∷ ls) (m ∷ ms) = (eqb l the_auto && not (eqb m the_auto)) || unlike ls ms
 
 unlike_numbers : (ls ms : List ℕ) (n : ℕ → ℕ) → unlike ls ms ≡ true → numbers ls (fields_of ms n) ≡ none
-unfolding unlike numbers fields_of field_of ◌andThen◌
+unfolding unlike numbers fields_of field_of ◌and_then◌
 unlike_numbers [] ms n e = absurd (true_T false e)
 unlike_numbers (l ∷ ls) [] n e = absurd (true_T false e)
 unlike_numbers (l ∷ ls) (m ∷ ms) n e = go (eqb l the_auto) (eqb m the_auto) refl e (unlike_numbers ls ms (λ i. n (suc i)))
@@ -43,7 +43,7 @@ unlike_numbers (l ∷ ls) (m ∷ ms) n e = go (eqb l the_auto) (eqb m the_auto) 
 
     go : (s t : Bool) → eqb l the_auto ≡ s → ((s && not t) || unlike ls ms) ≡ true → (unlike ls ms ≡ true → rest ≡ none)
         → (entry l (pick t (bytes "auto") (digits (n 0))) and_then λ v. rest and_then λ vs. some (v ∷ vs)) ≡ none
-    go true false p q below = rw (eqb-true l the_auto p, auto_no_digits (n 0), ◌andThen◌)
+    go true false p q below = rw (eqb-true l the_auto p, auto_no_digits (n 0), ◌and_then◌)
     go true true p q below = past_first (entry l (bytes "auto")) (below q)
     go false t p q below = past_first (entry l (pick t (bytes "auto") (digits (n 0)))) (below q)
 
@@ -66,9 +66,9 @@ pub data Among (f : Form) : List Form → Type 0 where
 
 pub tries_among : {f : Form} {forms : List Form} → Among f forms → (vs : List ℕ) → narrow f.fields ≡ true → numbers_fit f.fields vs ≡ true
     → tries forms (bytes f.word) (fields_of f.fields (λ i. get_or vs i 0)) ≡ some (f.says (λ i. get_or vs i 0))
-unfolding tries form when ◌gives◌ ◌orElse◌
-tries_among {f} here vs small inside = rw (same_refl (bytes f.word), numbers_of f.fields vs small inside, ◌gives◌, ◌orElse◌)
-tries_among {f} (past {g} {forms} e a) vs small inside = rw (apart_none g f (λ i. get_or vs i 0) e, ◌gives◌, ◌orElse◌) (tries_among a vs small inside)
+unfolding tries form when ◌gives◌ ◌or_else◌
+tries_among {f} here vs small inside = rw (same_refl (bytes f.word), numbers_of f.fields vs small inside, ◌gives◌, ◌or_else◌)
+tries_among {f} (past {g} {forms} e a) vs small inside = rw (apart_none g f (λ i. get_or vs i 0) e, ◌gives◌, ◌or_else◌) (tries_among a vs small inside)
 
 pub among_all : {f : Form} {forms : List Form} (p : Form → Bool) → Among f forms → all_of p forms ≡ true → p f ≡ true
 unfolding all_of

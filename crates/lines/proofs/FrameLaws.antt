@@ -10,7 +10,7 @@ use lib.Dec.{eqb, leb, ltb}
 use lib.ListN.{length, get_or, length-append}
 use borrow.Author.Tests.{leb-true, ltb-true, lt-ltb, le-leb, ne_eqb}
 use Rattle.definition.specs.Base.{all_of}
-use Rattle.definition.specs.BaseLaws.{true_T}
+use Rattle.definition.proofs.BaseLaws.{true_T}
 use Rattle.definition.specs.Request.{Use, automatic, fixed}
 use Rattle.definition.specs.Calls.{Call}
 use Rattle.lines.specs.Base.{line_limit, bytes, tab, newline, split, when, pick}

@@ -10,10 +10,10 @@ use lib.Dec.{eqb, leb}
 use lib.ListN.{length, get_or}
 use borrow.Author.Tests.{leb-true, le-leb}
 use Rattle.definition.specs.Base.{all_of}
-use Rattle.definition.specs.BaseLaws.{true_T}
+use Rattle.definition.proofs.BaseLaws.{true_T}
 use Rattle.definition.specs.Request.{Use, automatic, fixed}
 use Rattle.definition.specs.Calls.{Call, pool, hold, start, want}
-use Rattle.lines.specs.Base.{line_limit, bytes, tab, newline, same, split, when, pick, ◌andThen◌, ◌orElse◌}
+use Rattle.lines.specs.Base.{line_limit, bytes, tab, newline, same, split, when, pick, ◌and_then◌, ◌or_else◌}
 use Rattle.lines.specs.Numbers.{number, digits}
 use Rattle.lines.specs.Forms.{n32, Form, pool_forms, hold_forms, want_forms, numbers, form, ◌gives◌, tries, fields_of, Spelling, pool_spelling, hold_spelling, want_spelling}
 use Rattle.lines.specs.Line.{behind, use_word, use_of, behind_pool, behind_hold, behind_want, by_word, by_fields, read_line, line_from, line_of, numbers_fit, spellable, sayable}
@@ -82,7 +82,7 @@ module _ (word : String) (heads : List (List ℕ)) (ok : Bool → Bool) where
 
   tries_said : (forms : List Form) → Told word heads ok forms → all_of narrow_form forms ≡ true → (k : List ℕ) (fs : List (List ℕ)) (c : Call) → tries forms k fs ≡ some c
       → Said c (bytes word ++ behind (heads ++ (k ∷ fs))) (ok true)
-  unfolding tries ◌gives◌ ◌orElse◌ all_of
+  unfolding tries ◌gives◌ ◌or_else◌ all_of
   tries_said [] told small k fs c e = absurd (let z : ◌≡◌ {A = ℕ} 0 1 = cc in omega arith)
   tries_said (f ∷ forms) told small k fs c e =
       let (p, q) = and_both (narrow_form f) (all_of narrow_form forms) small in
@@ -96,7 +96,7 @@ module _ (word : String) (heads : List (List ℕ)) (ok : Bool → Bool) where
           rw (← there) (form_said f k fs vs (let h = told (λ i. get_or vs i 0) in cc) p q)
 
 use_said : (x : List ℕ) (u : Use) → use_of x ≡ some u → x ≡ use_word u
-unfolding use_of when ◌orElse◌
+unfolding use_of when ◌or_else◌
 use_said x u e = go (same x (bytes "auto")) (same x (bytes "fixed")) refl refl e
   where
     go : (a b : Bool) → same x (bytes "auto") ≡ a → same x (bytes "fixed") ≡ b → (when a (some automatic) or_else when b (some fixed)) ≡ some u → x ≡ use_word u
@@ -163,22 +163,22 @@ read_sayable l c e = (read_said l c e).fits
 -- ---- a line that is written is read
 
 pool_opens : (u : Use) → Opens "pool" (use_word u ∷ []) (pool_forms u)
-unfolding by_fields by_word behind_pool use_of same when ◌orElse◌ ◌andThen◌
+unfolding by_fields by_word behind_pool use_of same when ◌or_else◌ ◌and_then◌
 pool_opens automatic k f fs = refl
 pool_opens fixed k f fs = refl
 
 hold_opens : (o : ℕ) → leb o n32 ≡ true → Opens "hold" (digits o ∷ []) (hold_forms o)
-unfolding by_fields by_word behind_hold same ◌andThen◌
+unfolding by_fields by_word behind_hold same ◌and_then◌
 hold_opens o e k f fs =
     let l : o ≤ n32 = leb-true o n32 e in
     rw (number_digits n32 o (omega arith) l)
 
 want_opens : (q s : ℕ) → leb q n32 ≡ true → leb s n32 ≡ true → Opens "want" (digits q ∷ digits s ∷ []) (want_forms q s)
-unfolding by_fields by_word behind_want same ◌andThen◌
+unfolding by_fields by_word behind_want same ◌and_then◌
 want_opens q s d e k f fs =
     let l : q ≤ n32 = leb-true q n32 d in
     let m : s ≤ n32 = leb-true s n32 e in
-    rw (number_digits n32 q (omega arith) l, ◌andThen◌, number_digits n32 s (omega arith) m)
+    rw (number_digits n32 q (omega arith) l, ◌and_then◌, number_digits n32 s (omega arith) m)
 
 -- THE LINE OF A CALL: where a line says the call, it is read as that call
 pub said_line : (c : Call) → sayable c ≡ true → read_line (line_of c) ≡ some c

@@ -9,7 +9,7 @@ use lib.Dec.{eqb, leb, ltb}
 use lib.ListN.{length, take, drop, get_or, replicate, length-append, length-take}
 use borrow.Author.Tests.{ltb-true}
 use Rattle.definition.specs.Tables.{plan_limit, record_size, kinds}
-use Rattle.definition.specs.Base.{bad_line, short, Said, tell}
+use Rattle.definition.specs.Base.{short, Said}
 use Rattle.definition.specs.Request.{Request}
 use Rattle.definition.specs.Calls.{Call, pool, hold, start, want}
 use Rattle.definition.specs.Plan.{Lent, allocate_into}

@@ -11,7 +11,7 @@ use lib.ListN.{length, drop, get_or, drop_of_length-le}
 use lib.Seq.{drop-cons}
 use borrow.Author.Tests.{eq-eqb, ne_eqb, le-leb, lt-leb}
 use Rattle.definition.specs.Base.{all_of}
-use Rattle.definition.specs.BaseLaws.{and_false}
+use Rattle.definition.proofs.BaseLaws.{and_false}
 use Rattle.lines.specs.Base.{when}
 use Rattle.lines.specs.Numbers.{digit, value_from, plain, number}
 

@@ -3,27 +3,27 @@ use mathlib.Core.Path.{◌≡◌, refl, sym, ◌∙◌, ap, subst}
 use mathlib.Core.Bool.{true}
 use mathlib.Core.List.Memᴰ
 use mathlib.Core.List.{List, [], ◌∷◌, ◌++◌, map, Memᴰ}
-use mathlib.Core.Logic.{◌⊎◌, inl, inr}
+use mathlib.Core.Logic.{inl, inr}
 use Prim.Native.Nat.{ℕ, ◌+◌, ◌≤◌, ◌<◌}
 use native.Mathlib.Omega.{arith}
 use lib.ListN.{length, length-map, length-append}
 use Rattle.definition.specs.Tables.{plan_limit, Kind}
 use Rattle.definition.specs.Base.{silence}
 use Rattle.definition.specs.Pools.{rows_of, ◌⊕◌}
-use Rattle.definition.specs.Calls.{State, pools_of, held_of, owners_of, starting, granting, Call, want}
-use Rattle.definition.specs.Plan.{Grant, done, run, all_rows, records, pinned}
-use Rattle.definition.specs.RequestLaws.{AutoInFixed}
-use Rattle.definition.specs.RunLaws.{run_requests}
-use Rattle.definition.specs.PlanLaws.{all_bounded, all_sounds, all_fits, run_done}
-use Rattle.definition.specs.ReplayLaws.{Take, now, later, Pick, stop, pick, take_mem, take_sub, pick_length, Ready, run_ready, kept, replay_run, kept_rows_is, kept_records}
-use Rattle.definition.specs.PickLaws.{indices, nth, pick_nth}
+use Rattle.definition.specs.Calls.{State, pools_of, held_of, owners_of, starting, granting, Call}
+use Rattle.definition.specs.Plan.{Grant, all_rows, records, pinned}
+use Rattle.definition.proofs.RequestLaws.{AutoInFixed}
+use Rattle.definition.proofs.RunLaws.{run_requests}
+use Rattle.definition.proofs.PlanLaws.{all_bounded, all_sounds, all_fits, run_done}
+use Rattle.definition.proofs.ReplayLaws.{Take, now, later, Pick, stop, pick, take_mem, take_sub, pick_length, Ready, run_ready, kept, replay_run, kept_rows_is, kept_records}
+use Rattle.definition.proofs.PickLaws.{indices, nth, pick_nth}
 use Rattle.lines.specs.Base.{text_limit, newline}
 use Rattle.lines.specs.Line.{line_of}
 use Rattle.lines.specs.Output.{got_lines, end_line}
 use Rattle.lines.specs.Text.{Sofar, sofar, beginning, accepts, answer, ended, output}
-use Rattle.lines.specs.Back.{calls, heads, wants, served, set_up_by, grants, lines_of, back}
+use Rattle.lines.specs.Back.{calls, heads, wants, set_up_by, grants, lines_of, back}
 use Rattle.lines.proofs.TakesLaws.{takes, sayable_append, ended_lines}
-use Rattle.lines.proofs.RunTextLaws.{standing, heads_again, takes_runs, Accepted}
+use Rattle.lines.proofs.RunTextLaws.{standing, heads_again, takes_runs}
 use Rattle.lines.proofs.BackLaws.{pinned_wants, ok, ran, set_up_sound, heads_sayable, wants_sayable, back_is, ends as first_ends}
 
 -- ---- how long the lines of a selection are

@@ -2,7 +2,6 @@
 --     takes_accepted    of calls that are accepted, one after the other: their order, the run of their wants, and where they end
 --     takes_runs        pools and holds that are accepted, and wants that run on the tables which they leave, are accepted and end there
 use mathlib.Core.Path.{◌≡◌, refl, sym, ◌∙◌, ap, subst}
-use mathlib.Core.Logic.{◌⊎◌, inl, inr}
 use mathlib.Core.Bool.{Bool, true, false}
 use mathlib.Core.List.{List, [], ◌∷◌, ◌++◌, map, append-nil, append_assoc}
 use mathlib.Core.Option.{some}
@@ -13,20 +12,20 @@ use lib.Dec.{T, eqb, ltb, eqb-suc-zero}
 use lib.ListN.{length, replicate, length-append, length-map}
 use borrow.Author.Tests.{eqb-true, lt-ltb, ltb-true}
 use Rattle.definition.specs.Base.{Refusal, bad_line, silence, tell, Answer, accepted, refused}
-use Rattle.definition.specs.BaseLaws.{T_true}
+use Rattle.definition.proofs.BaseLaws.{T_true}
 use Rattle.definition.specs.Tables.{plan_limit, record_size, Kind, kinds}
-use Rattle.definition.specs.Pools.{Holders, ◌⊕◌, Claim, Pool, Hold, spans}
+use Rattle.definition.specs.Pools.{Holders, ◌⊕◌, Claim, Pool, Hold}
 use Rattle.definition.specs.Request.{Request, Use, Pools, resolve}
 use Rattle.definition.specs.Calls.{State, fresh, pools_of, held_of, owners_of, given, sound, granting, starting, Call, pool, hold, start, want, serve}
 use Rattle.definition.specs.Plan.{Grant, grant, Run, done, after, run, grants_of, all_rows, record_of_grant, records, Lent, allocate_into}
-use Rattle.definition.specs.RowLaws.{every_kind}
-use Rattle.definition.specs.ClaimLaws.{fits_one}
-use Rattle.definition.specs.ResolveLaws.{Resolved, resolved, rows_kept}
-use Rattle.definition.specs.StateLaws.{Sound, GivenFor, SoundFor, for_given, for_sound, sound_for, fresh_sound, serve_given, start_sound, sound_ground, sound_fits, granting_sound}
-use Rattle.definition.specs.RunLaws.{run_accepted, run_refused, not_done, after_done}
-use Rattle.definition.specs.PlanLaws.{tell_number, granting_append, start_is}
-use Rattle.definition.specs.RefusedLaws.{Leaves, went, left, call_leaves}
-use Rattle.definition.specs.ServeLaws.{Served, granted, turned_down, serve_says}
+use Rattle.definition.proofs.RowLaws.{every_kind}
+use Rattle.definition.proofs.ClaimLaws.{fits_one}
+use Rattle.definition.proofs.ResolveLaws.{Resolved, resolved, rows_kept}
+use Rattle.definition.proofs.StateLaws.{Sound, GivenFor, SoundFor, for_given, for_sound, sound_for, fresh_sound, serve_given, start_sound, sound_ground, sound_fits, granting_sound}
+use Rattle.definition.proofs.RunLaws.{run_accepted, run_refused, not_done, after_done}
+use Rattle.definition.proofs.PlanLaws.{tell_number, granting_append, start_is}
+use Rattle.definition.proofs.RefusedLaws.{Leaves, went, left, call_leaves}
+use Rattle.definition.proofs.ServeLaws.{Served, granted, turned_down, serve_says}
 use Rattle.lines.specs.Text.{Sofar, sofar, beginning, accepts, next, refuse, set_up, opened, answered, ask, take_line}
 use Rattle.lines.specs.Back.{heads, wants, served}
 use Rattle.lines.proofs.WantLaws.{want_serves, want_record}

@@ -11,8 +11,8 @@ use lib.Seq.{append_snoc}
 use borrow.Author.Tests.{leb-true, eqb-true, eqb-false, not-true, eq-eqb, ne_eqb, le-leb}
 use Rattle.definition.specs.Tables.{top}
 use Rattle.definition.specs.Base.{all_of}
-use Rattle.definition.specs.BaseLaws.{true_T}
-use Rattle.lines.specs.Base.{bytes, tab, same, grow, split, pick, when, ◌andThen◌}
+use Rattle.definition.proofs.BaseLaws.{true_T}
+use Rattle.lines.specs.Base.{bytes, tab, same, grow, split, pick, when, ◌and_then◌}
 use Rattle.lines.specs.Numbers.{digit, value_from, plain, number, digits}
 use Rattle.lines.specs.Forms.{the_auto, entry, numbers, field_of, fields_of}
 use Rattle.lines.specs.Line.{behind, numbers_fit}
@@ -43,7 +43,7 @@ same_refl (x ∷ xs) = rw (eq-eqb x x refl) (same_refl xs)
 -- ---- what was made of an option was made of a value
 
 pub and_then_some : {A B : Type 0} (o : Option A) (f : A → Option B) (b : B) → (o and_then f) ≡ some b → (a : A) × (o ≡ some a) × (f a ≡ some b)
-unfolding ◌andThen◌
+unfolding ◌and_then◌
 and_then_some none f b e = absurd (let z : ◌≡◌ {A = ℕ} 0 1 = cc in omega arith)
 and_then_some (some a) f b e = (a, refl, e)
 
@@ -172,14 +172,14 @@ numbers_within (m ∷ ms) (f ∷ fs) vs e =
 
 -- numbers within a form's are read from the fields that are written of them
 pub numbers_of : (ms vs : List ℕ) → narrow ms ≡ true → numbers_fit ms vs ≡ true → numbers ms (fields_of ms (λ i. get_or vs i 0)) ≡ some vs
-unfolding numbers fields_of numbers_fit ◌andThen◌
+unfolding numbers fields_of numbers_fit ◌and_then◌
 numbers_of [] [] n e = refl
 numbers_of [] (v ∷ vs) n e = absurd (true_T false e)
 numbers_of (m ∷ ms) [] n e = absurd (true_T false e)
 numbers_of (m ∷ ms) (v ∷ vs) n e =
     let (h, t) = narrow_head m ms n in
     let (p, q) = and_both (leb v m) (numbers_fit ms vs) e in
-    rw (entry_of m v h (leb-true v m p), ◌andThen◌, numbers_of ms vs t q)
+    rw (entry_of m v h (leb-true v m p), ◌and_then◌, numbers_of ms vs t q)
 
 -- the numbers that a form's fields are written of: none at an `auto`
 unfoldable pub values_of : List ℕ → (ℕ → ℕ) → List ℕ

@@ -13,7 +13,7 @@ use native.Mathlib.Omega.{arith}
 use lib.Dec.{T, leb}
 use lib.ListN.{length}
 use borrow.Author.Tests.{leb-true, le-leb}
-use Rattle.definition.specs.BaseLaws.{T_true}
+use Rattle.definition.proofs.BaseLaws.{T_true}
 use Rattle.definition.specs.Request.{Request}
 use Rattle.definition.specs.Calls.{Call, want}
 use Rattle.lines.specs.Base.{text_limit, newline, split}

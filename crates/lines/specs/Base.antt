@@ -53,13 +53,13 @@ unfoldable pub when : {A : Type 0} → Bool → Option A → Option A
 when true o = o
 when false o = none
 
-unfoldable pub ◌andThen◌ : {A B : Type 0} → Option A → (A → Option B) → Option B
-◌andThen◌ none f = none
-◌andThen◌ (some a) f = f a
+unfoldable pub ◌and_then◌ : {A B : Type 0} → Option A → (A → Option B) → Option B
+◌and_then◌ none f = none
+◌and_then◌ (some a) f = f a
 
-unfoldable pub ◌orElse◌ : {A : Type 0} → Option A → Option A → Option A
-◌orElse◌ none o = o
-◌orElse◌ (some a) o = some a
+unfoldable pub ◌or_else◌ : {A : Type 0} → Option A → Option A → Option A
+◌or_else◌ none o = o
+◌or_else◌ (some a) o = some a
 
-infixl 30 ◌andThen◌
-infixr 20 ◌orElse◌
+infixl 30 ◌and_then◌
+infixr 20 ◌or_else◌

@@ -8,7 +8,7 @@ use Rattle.definition.specs.Pools.{insert, there, entered, has_place, admit, row
 use Rattle.definition.specs.Request.{good_choice, one_bit, good_want, good_request, row_at, aligned, holds, free, align_up, candidates, lowest, allowed, unjoined, obstacle, detail, found, unopposed, place, claims, resolve}
 use Rattle.definition.specs.Calls.{Call, given_at, sound_at, given, sound, push_all, entering, serve}
 use Rattle.definition.specs.Plan.{record_of_grant, allocate_into}
-use Rattle.lines.specs.Base.{text_limit, bytes, same, grow, split, when, ◌andThen◌, ◌orElse◌}
+use Rattle.lines.specs.Base.{text_limit, bytes, same, grow, split, when, ◌and_then◌, ◌or_else◌}
 use Rattle.lines.specs.Numbers.{value_from, plain, number, digits_up_to, digits}
 use Rattle.lines.specs.Forms.{entry, numbers, form, tries, ◌gives◌}
 use Rattle.lines.specs.Line.{behind, line_with, use_of, behind_pool, behind_hold, behind_want, by_word, by_fields, read_line}
@@ -68,7 +68,7 @@ cases =
     ∷ []
 
 outputs : map (λ c. output c.text) cases ≡ map (λ c. c.written) cases
-unfolding lib.Count.ones_in any_of all_of pairs_of first_of lower least_of same_dom within same_kind same_span same_row overlap meets joins clash require tidy fits fits_span floored good_row good_span begins in_order sound_table insert there entered has_place admit rows_of room unreserved all_unreserved reserve good_choice one_bit good_want good_request row_at aligned holds free align_up candidates lowest allowed unjoined obstacle detail found unopposed place claims resolve given_at sound_at given sound push_all entering serve record_of_grant allocate_into same grow split when ◌andThen◌ ◌orElse◌ value_from plain number digits_up_to digits behind line_with entry numbers form ◌gives◌ tries use_of behind_pool behind_hold behind_want by_word by_fields read_line carried_by got_line got_lines end_line no_line set_up opened answered ask step feed_parts feed unfinished close answer ended output
+unfolding lib.Count.ones_in any_of all_of pairs_of first_of lower least_of same_dom within same_kind same_span same_row overlap meets joins clash require tidy fits fits_span floored good_row good_span begins in_order sound_table insert there entered has_place admit rows_of room unreserved all_unreserved reserve good_choice one_bit good_want good_request row_at aligned holds free align_up candidates lowest allowed unjoined obstacle detail found unopposed place claims resolve given_at sound_at given sound push_all entering serve record_of_grant allocate_into same grow split when ◌and_then◌ ◌or_else◌ value_from plain number digits_up_to digits behind line_with entry numbers form ◌gives◌ tries use_of behind_pool behind_hold behind_want by_word by_fields read_line carried_by got_line got_lines end_line no_line set_up opened answered ask step feed_parts feed unfinished close answer ended output
 outputs = refl
 
 -- lines that are 10, each for one fault
@@ -99,5 +99,5 @@ missing none = true
 missing (some call) = false
 
 none_says_a_call : map (λ l. missing (read_line (bytes l))) bad_lines ≡ map (λ l. true) bad_lines
-unfolding all_of same grow split when ◌andThen◌ ◌orElse◌ value_from plain number entry numbers form ◌gives◌ tries use_of behind_pool behind_hold behind_want by_word by_fields read_line
+unfolding all_of same grow split when ◌and_then◌ ◌or_else◌ value_from plain number entry numbers form ◌gives◌ tries use_of behind_pool behind_hold behind_want by_word by_fields read_line
 none_says_a_call = refl

@@ -4,9 +4,9 @@ use Rattle.std.proofs.Math.Option.{Option, none, some}
 use Prim.Native.String.{String}
 use Rattle.definition.specs.Tables.{top}
 use Rattle.definition.specs.Pools.{Pool, mmio_pool, pio_pool, host_pool, input_pool, msi_pool, Hold, mmio_hold, pio_hold, host_hold, input_hold, device_hold, event_hold, lpi_hold, pair_hold}
-use Rattle.definition.specs.Request.{Choice, auto, at, Want, mmio_want, pio_want, input_want, host_want, msi_want, Use}
+use Rattle.definition.specs.Request.{auto, at, Want, mmio_want, pio_want, input_want, host_want, msi_want, Use}
 use Rattle.definition.specs.Calls.{Call, pool, hold, want}
-use Rattle.lines.specs.Base.{bytes, same, when, pick, ◌andThen◌, ◌orElse◌}
+use Rattle.lines.specs.Base.{bytes, same, when, pick, ◌and_then◌, ◌or_else◌}
 use Rattle.lines.specs.Numbers.{number, digits}
 
 -- what a field may be: a number of 16, 32 or 64 bits, given by the largest one; or the word `auto`

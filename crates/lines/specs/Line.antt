@@ -4,7 +4,7 @@ use Rattle.std.proofs.Math.Option.{Option, none, some}
 use Prim.Native.String.{String}
 use Rattle.definition.specs.Request.{Use, automatic, fixed}
 use Rattle.definition.specs.Calls.{Call, pool, hold, start, want}
-use Rattle.lines.specs.Base.{line_limit, bytes, tab, newline, same, split, when, pick, ◌andThen◌, ◌orElse◌}
+use Rattle.lines.specs.Base.{line_limit, bytes, tab, newline, same, split, when, pick, ◌and_then◌, ◌or_else◌}
 use Rattle.lines.specs.Numbers.{number, digits}
 use Rattle.lines.specs.Forms.{n32, pool_forms, hold_forms, want_forms, tries, fields_of, Spelling, pool_spelling, hold_spelling, want_spelling}
 

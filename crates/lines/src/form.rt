@@ -17,13 +17,14 @@ pub const N64: u64 = 18446744073709551615;
 pub const AUTO: u64 = 0;
 
 // The numbers of a line's fields, zeros behind them; all zeros where the fields are not good. The numbers stand first: a copy of the row is then a copy of whole words.
-#[derive(Drop)]
+#[derive(Clone, Copy)]
 pub struct Row {
     pub n: [u64; 8],
     pub good: bool,
 }
 
 // Fields that are not good.
+#[tactic(auto, unfolding(crate::specs::Code::row_from, crate::specs::Code::row_of))]
 pub fn bad_row() -> Row
     ensures { result ≡ row_of none }
 {
@@ -34,6 +35,7 @@ pub fn bad_row() -> Row
 }
 
 // A field that is to be a number of at most m, or `auto`.
+#[tactic(auto, unfolding(crate::specs::Forms::entry, crate::specs::Base::when))]
 pub fn read_entry(f: &[u8], m: u64) -> Number
     ensures { number_says result ≡ entry m f.now }
 {
@@ -75,6 +77,7 @@ pub fn read_numbers(rest: &[u8], most: &[u64]) -> Row
 }
 
 // The fields behind a kind's word, if the kind is the word that the form is for.
+#[tactic(auto, unfolding(crate::specs::Forms::form, crate::specs::Base::when))]
 pub fn read_form(kind: &[u8], word: &[u8], rest: &[u8], most: &[u64]) -> Row
     requires { length most.now ≤ row_size }
     ensures { result ≡ row_of (form word.now most.now kind.now (split tab rest.now)) }

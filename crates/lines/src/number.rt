@@ -3,13 +3,14 @@ ghost use Rattle.std.specs.Prelude.{◌≡◌};
 ghost use Rattle.lines.specs.Numbers.{number};
 ghost use Rattle.lines.specs.Code.{number_says};
 
-#[derive(Drop)]
+#[derive(Clone, Copy)]
 pub enum Number {
     Value(u64),
     Not,
 }
 
 // The number that a field is, if it is one and at most `most`.
+#[tactic(auto, using(crate::proofs::NumberLaws::number_empty, crate::proofs::NumberLaws::number_zeros, crate::proofs::NumberLaws::number_starts, crate::proofs::NumberLaws::from_more, crate::proofs::NumberLaws::from_low, crate::proofs::NumberLaws::from_high, crate::proofs::NumberLaws::from_large, crate::proofs::NumberLaws::from_end, crate::proofs::NumberLaws::from_over))]
 pub fn read_number(f: &[u8], most: u64) -> Number
     ensures { number_says result ≡ number most f.now }
 {

@@ -4,6 +4,7 @@ ghost use Rattle.lines.specs.Base.{same};
 ghost use Rattle.lines.specs.Code.{first};
 
 // The place of the first byte c from `from` on, or the length.
+#[tactic(auto, using(crate::proofs::PartLaws::first_here, crate::proofs::PartLaws::first_skips))]
 pub fn find(s: &[u8], from: usize, c: u8) -> usize
     requires { from ≤ length s.now }
     ensures { result ≡ from + first c (drop from s.now) }
@@ -30,6 +31,7 @@ pub fn find(s: &[u8], from: usize, c: u8) -> usize
 }
 
 // .. one at a time.
+#[tactic(auto, using(crate::proofs::PartLaws::first_here, crate::proofs::PartLaws::first_past, crate::proofs::PartLaws::first_end))]
 fn find_near(s: &[u8], from: usize, c: u8) -> usize
     requires { from ≤ length s.now }
     ensures { result ≡ from + first c (drop from s.now) }
@@ -45,6 +47,7 @@ fn find_near(s: &[u8], from: usize, c: u8) -> usize
 }
 
 // Whether two slices are the same bytes.
+#[tactic(auto, using(crate::proofs::PartLaws::same_length, crate::proofs::PartLaws::same_more, crate::proofs::PartLaws::same_stop, crate::proofs::PartLaws::same_end))]
 pub fn equal(a: &[u8], b: &[u8]) -> bool
     ensures { result ≡ same a.now b.now }
 {

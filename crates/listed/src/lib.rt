@@ -1,4 +1,6 @@
 // 01's form of a plan over request structs: a thin function reads a request from the lent list and hands it by value to the covered single-request allocation, the state by value too. Nothing leans on it; `plan::list` answers each request where the state stands.
+#![tactic(auto)]
+
 ghost use Rattle.std.specs.Prelude.{◌≡◌, ◌<◌, length, get_or};
 ghost use Rattle.definition.specs.Plan.{lent};
 ghost use Rattle.tables.specs.Views.{state_view};

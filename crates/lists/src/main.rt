@@ -1,4 +1,6 @@
 // Runs the doors of the plan over a lent list of requests: plan::list::plan_in and plan::list::plan. One line for each case: `passed` where the answer, the records, every number behind them and the owner tables are as expected.
+#![tactic(auto)]
+
 mod expected;
 mod input;
 pub mod lending;
@@ -12,7 +14,7 @@ const ALL: usize = RECORD * PLAN;
 const MORE: usize = RECORD * MOST;
 
 // A plan and its answer: n requests, of which one may be in conflict, room for so many numbers, the owner tables damaged or not.
-#[derive(Drop)]
+#[derive(Clone, Copy)]
 pub struct Case {
     pub n: usize,
     pub room: usize,

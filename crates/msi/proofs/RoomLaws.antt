@@ -4,11 +4,11 @@ use Prim.Native.Nat.{◌<◌}
 use lib.Dec.{T, ltb, ltb→lt}
 use lib.ListN.{length}
 use Rattle.definition.specs.Base.{all_of, full, accepted, require}
-use Rattle.definition.specs.BaseLaws.{and_l, and_r}
+use Rattle.definition.proofs.BaseLaws.{and_l, and_r}
 use Rattle.definition.specs.Tables.{row_limit}
 use Rattle.definition.specs.Pools.{room}
 use Rattle.definition.specs.Request.{claims}
-use Rattle.definition.specs.RequestLaws.{then_accepted, require_accepted}
+use Rattle.definition.proofs.RequestLaws.{then_accepted, require_accepted}
 use Rattle.tables.specs.declared.DeviceId.{DeviceId}
 use Rattle.tables.specs.declared.EventId.{EventId}
 use Rattle.tables.specs.declared.Lpi.{Lpi}

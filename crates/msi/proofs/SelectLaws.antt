@@ -6,12 +6,12 @@ use Prim.Native.Nat.{ℕ, ◌+◌, ◌<◌, ◌≤◌}
 use native.Mathlib.Omega.{arith}
 use lib.Dec.{T, leb, leb→le}
 use Rattle.definition.specs.Base.{all_of, accepted}
-use Rattle.definition.specs.BaseLaws.{and_l, and_r, all_in, LeastAll, none_at_all, least_of_all}
+use Rattle.definition.proofs.BaseLaws.{and_l, and_r, all_in, LeastAll, none_at_all, least_of_all}
 use Rattle.definition.specs.Tables.{nature, Span, Row, fits_span, good_span}
 use Rattle.definition.specs.Request.{Need, auto, at, row_at, allowed, obstacle, found, unopposed, free, place}
 use Rattle.definition.specs.Request as R
-use Rattle.definition.specs.SearchLaws.{IsFree, free_says, lowest_says}
-use Rattle.definition.specs.RequestLaws.{not_accepted, require_accepted}
+use Rattle.definition.proofs.SearchLaws.{IsFree, free_says, lowest_says}
+use Rattle.definition.proofs.RequestLaws.{not_accepted, require_accepted}
 use Rattle.choose.specs.Told.{place_in}
 
 pub record Granted (n : Need) (r : Row) : Type 0 where

@@ -1,4 +1,6 @@
 // An MSI request: a device, then a run of its events, then a run of LPIs. What each of the three tables is asked, what its answer means, and what comes of all three. No table is read or changed here.
+#![tactic(auto)]
+
 ghost use Rattle.std.specs.Prelude.{◌≡◌, ◌≤◌};
 ghost use Rattle.msi.specs.Msi.{device_need, event_need, lpi_need, narrowed, device_in, event_in, lpi_in, with_room, chained, row_from, rows_of};
 
@@ -10,7 +12,7 @@ use tables::{DeviceId, EventId, Kind, Lpi, ROWS, RangeRow};
 const TOP_32: u64 = 4294967295;
 
 // What an MSI request asks: `count` events of one device of an ITS, and as many LPIs of its controller.
-#[derive(Drop)]
+#[derive(Clone, Copy)]
 pub struct Msi {
     pub controller: u32,
     pub its: u32,
@@ -21,33 +23,33 @@ pub struct Msi {
     pub lpi: LpiChoice,
 }
 
-#[derive(Drop)]
+#[derive(Clone, Copy)]
 pub enum DeviceChosen {
     Stands(DeviceId),
     Refused(Refusal),
 }
 
-#[derive(Drop)]
+#[derive(Clone, Copy)]
 pub enum EventChosen {
     Stands(EventId),
     Refused(Refusal),
 }
 
-#[derive(Drop)]
+#[derive(Clone, Copy)]
 pub enum LpiChosen {
     Stands(Lpi),
     Refused(Refusal),
 }
 
 // The three first numbers that are granted, or why they are not.
-#[derive(Drop)]
+#[derive(Clone, Copy)]
 pub enum MsiChosen {
     Stands(DeviceId, EventId, Lpi),
     Refused(Refusal),
 }
 
 // The row of each of the three tables.
-#[derive(Drop)]
+#[derive(Clone, Copy)]
 pub struct MsiRows {
     pub device: RangeRow,
     pub event: RangeRow,

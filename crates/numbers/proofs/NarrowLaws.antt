@@ -7,7 +7,7 @@ use Prim.Native.Nat.{ℕ, zero, suc, ◌≤◌, ◌<◌}
 use lib.Dec.{T, leb, leb→le}
 use borrow.Author.Tests.{le-leb, lt-leb}
 use Rattle.definition.specs.Base.{all_of}
-use Rattle.definition.specs.BaseLaws.{and_l, and_r, true_T}
+use Rattle.definition.proofs.BaseLaws.{and_l, and_r, true_T}
 use Rattle.definition.specs.Request.{Use}
 use Rattle.definition.specs.Calls.{Call}
 use Rattle.numbers.specs.Coding.{bad, below, narrow, pool_in, held_in, hold_in, used_in, adding_in}

@@ -3,7 +3,7 @@ use mathlib.Core.Path.{◌≡◌, refl, sym, ◌∙◌, ap}
 use mathlib.Core.Bool.{Bool, true, false, not, ◌||◌}
 use lib.Dec.{T}
 use Rattle.definition.specs.Base.{malformed, short, refused, require}
-use Rattle.definition.specs.BaseLaws.{T_true}
+use Rattle.definition.proofs.BaseLaws.{T_true}
 use Rattle.definition.specs.Tables.{kinds}
 use Rattle.definition.specs.Calls.{State, given, sound, saying, settle}
 use Rattle.definition.specs.Withdraw.{withdraw}

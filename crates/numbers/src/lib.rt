@@ -1,4 +1,6 @@
 // The calls as plain numbers, for callers outside: a list of numbers is read as a call, and the call is served where the state stands.
+#![tactic(auto)]
+
 ghost use Rattle.std.specs.Prelude.{◌≡◌, ◌||◌, [], ◌∷◌, ◌≤◌, length, get_or, drop};
 ghost use Rattle.definition.specs.Plan.{lent};
 ghost use Rattle.tables.specs.Views.{state_view};
@@ -25,7 +27,7 @@ pub mod row;
 pub const ANSWER: usize = 5;
 
 // A list of numbers as it is read: whether it is as long as its call needs, whether it is a request or a withdrawal, whose, and any other call.
-#[derive(Drop)]
+#[derive(Clone, Copy)]
 pub struct Reading {
     pub whole: bool,
     pub asks: bool,

@@ -10,7 +10,7 @@ use allocation::{Record, line};
 use tables::{Inputs, POOL_ROWS, Pool, ROWS, Ranges, State};
 
 // What is to be read: whether the numbers say it whole; the part (0 is the last answer), the kind and the row.
-#[derive(Drop)]
+#[derive(Clone, Copy)]
 pub struct Which {
     pub whole: bool,
     pub part: u64,
@@ -19,7 +19,7 @@ pub struct Which {
 }
 
 // The nine numbers of a row, where a table has told them.
-#[derive(Drop)]
+#[derive(Clone, Copy)]
 pub struct Found {
     pub there: bool,
     pub numbers: Record,

@@ -10,7 +10,7 @@ use lib.ListN.{length, take, drop, get_or, length-append}
 use lib.Seq.{sets-eq, take_at}
 use borrow.Author.Tests.{eqb-false, le-leb, leb-true}
 use Rattle.definition.specs.Base.{says}
-use Rattle.definition.specs.BaseLaws.{and_false}
+use Rattle.definition.proofs.BaseLaws.{and_false}
 use Rattle.definition.specs.Plan.{written}
 use Rattle.lines.specs.Base.{text_limit, bytes}
 use Rattle.lines.specs.Numbers.{digits}

@@ -1,4 +1,6 @@
 // The program that pins a plan: its text from standard input, the text with every answer written back to standard output, or the line `no`. A read that fails prints nothing.
+#![tactic(auto)]
+
 ghost use Rattle.std.specs.Prelude.{◌≤◌, ◌<◌, length, take};
 ghost use Rattle.lines.specs.Base.{text_limit};
 ghost use Rattle.lines.specs.Back.{pin_output};

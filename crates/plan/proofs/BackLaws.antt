@@ -6,7 +6,7 @@ use Rattle.definition.specs.Calls as C
 use Rattle.tables.specs.Views.{state_view}
 use Rattle.tables.specs.declared.State.{State}
 use Rattle.definition.specs.Cut.{cutting}
-use Rattle.definition.specs.CutLaws.{counts_of}
+use Rattle.definition.proofs.CutLaws.{counts_of}
 use Rattle.inplace.specs.Marks.{marks_of, counts_in, taken_out}
 use Rattle.inplace.specs.declared.marks.Marks.{Marks}
 use Rattle.inplace.proofs.CutViews.{counts_view, cut_back_view}

@@ -6,14 +6,14 @@ use Prim.Native.Nat.{ℕ, ◌*◌}
 use lib.Dec.{eqb, eqb→eq}
 use lib.ListN.{length, length-map, take, drop}
 use lib.Seq.{take_at}
-use Rattle.definition.specs.BaseLaws.{T_false}
+use Rattle.definition.proofs.BaseLaws.{T_false}
 use Rattle.definition.specs.Tables.{record_size}
 use Rattle.definition.specs.Base.{Refusal, tell}
 use Rattle.definition.specs.Request.{Request}
 use Rattle.definition.specs.Calls.{State}
 use Rattle.definition.specs.Plan.{lent, Grant, Run, done, stopped, plan_run, grants_of, records, written, ended, plan}
-use Rattle.definition.specs.PlanLaws.{tell_number, tell_index, plan_requests}
-use Rattle.definition.specs.RunLaws.{records_length}
+use Rattle.definition.proofs.PlanLaws.{tell_number, tell_index, plan_requests}
+use Rattle.definition.proofs.RunLaws.{records_length}
 use Rattle.plan.specs.Front.{accepted_of, front_of, filled}
 
 pub accepted_all : (number index n : ℕ) → number ≡ 0 → n ≡ accepted_of number index n

@@ -11,19 +11,19 @@ use lib.Dec.{T, leb}
 use lib.ListN.{length, get_or, drop, drop_of_length-le}
 use lib.Seq.{drop-cons}
 use borrow.Author.Tests.{leb-true}
-use Rattle.definition.specs.BaseLaws.{T_true, true_T, and_l, and_r}
+use Rattle.definition.proofs.BaseLaws.{T_true, true_T, and_l, and_r}
 use Rattle.definition.specs.Base.{Refusal, malformed, short, Said, silence, tell}
 use Rattle.definition.specs.Tables.{plan_limit, record_size, Kind, kinds}
 use Rattle.definition.specs.Request.{Request}
 use Rattle.definition.specs.Calls.{State, state, pools_of, owners_of, sound, saying, granting}
-use Rattle.definition.specs.StateLaws.{sound_for, sound_saying}
+use Rattle.definition.proofs.StateLaws.{sound_for, sound_saying}
 use Rattle.definition.specs.Plan.{Run, done, stopped, run, Lent, lent, all_rows, plan}
-use Rattle.definition.specs.PlanLaws.{tell_number}
+use Rattle.definition.proofs.PlanLaws.{tell_number}
 use Rattle.plan.specs.Steps.{clear, Steady, opened, turned, turns, settled, steps}
 use Rattle.plan.proofs.StepLaws.{is_clear_is, not_clear, opened_unsound, opened_short, opened_clear, settled_clear, settled_refused}
 use Rattle.plan.proofs.PlanLaws.{turns_skip, turns_run, finished, turned_steady, opened_steady, steps_plan}
 use Rattle.definition.specs.Cut.{cutting}
-use Rattle.definition.specs.CutLaws.{counts_of, cut_none, cut_granted}
+use Rattle.definition.proofs.CutLaws.{counts_of, cut_none, cut_granted}
 use Rattle.plan.specs.Turns.{turns_after}
 
 -- cut back after a refusal

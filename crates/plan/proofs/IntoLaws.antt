@@ -7,15 +7,15 @@ use native.Mathlib.Omega.{arith}
 use lib.Dec.{T, leb, ltb, eqb, eqb→eq}
 use lib.ListN.{length}
 use borrow.Author.Tests.{leb-true, lt-ltb, leb-false}
-use Rattle.definition.specs.BaseLaws.{true_T}
+use Rattle.definition.proofs.BaseLaws.{true_T}
 use Rattle.definition.specs.Base.{Refusal, malformed, short, Said, silence, tell, Answer, accepted, refused}
 use Rattle.definition.specs.Tables.{record_size, kinds}
 use Rattle.definition.specs.Pools.{Claim}
 use Rattle.definition.specs.Request.{Request, resolve}
 use Rattle.definition.specs.Calls.{State, pools_of, owners_of, sound, saying, want, serve}
-use Rattle.definition.specs.StateLaws.{sound_for, for_sound, sound_saying}
+use Rattle.definition.proofs.StateLaws.{sound_for, for_sound, sound_saying}
 use Rattle.definition.specs.Plan.{Lent, lent, allocate_into}
-use Rattle.definition.specs.PlanLaws.{tell_number, told_at}
+use Rattle.definition.proofs.PlanLaws.{tell_number, told_at}
 use Rattle.allocation.proofs.ServeLaws.{serve_unsound, serve_sound, into_unsound, into_short, into_refused, into_granted}
 use Rattle.decide.specs.Outcome.{bases_in, after}
 use Rattle.plan.specs.Steps.{clear, opened, indexed, index_for, recorded, turned}

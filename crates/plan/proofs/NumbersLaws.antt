@@ -13,8 +13,8 @@ use Rattle.definition.specs.Tables.{plan_limit, record_size, kinds}
 use Rattle.definition.specs.Request.{Request}
 use Rattle.definition.specs.Calls.{State, sound, saying, settle}
 use Rattle.definition.specs.Plan.{Lent, lent, plan}
-use Rattle.definition.specs.PlanLaws.{tell_number}
-use Rattle.definition.specs.IntoPlanLaws.{into_plan}
+use Rattle.definition.proofs.PlanLaws.{tell_number}
+use Rattle.definition.proofs.IntoPlanLaws.{into_plan}
 use Rattle.flat.specs.Flat.{request_size, request_at, requests_from, requests_of, whole_requests, flat_plan, flat_allocate}
 use Rattle.flat.proofs.FlatLaws.{requests_from_length, flat_whole, flat_torn, flat_one, flat_too_short}
 use Rattle.plan.specs.Steps.{opened, turns, settled}

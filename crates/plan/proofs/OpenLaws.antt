@@ -2,12 +2,12 @@
 use mathlib.Core.Path.{◌≡◌, refl, sym, ap, subst, ◌∙◌}
 use mathlib.Core.Bool.{Bool, true, false}
 use Prim.Native.Nat.{ℕ}
-use Rattle.definition.specs.BaseLaws.{true_T}
+use Rattle.definition.proofs.BaseLaws.{true_T}
 use Rattle.definition.specs.Base.{malformed, short, silence, Said, tell}
 use Rattle.definition.specs.Tables.{kinds}
 use Rattle.definition.specs.Calls.{sound, saying}
 use Rattle.definition.specs.Calls as C
-use Rattle.definition.specs.PlanLaws.{tell_number}
+use Rattle.definition.proofs.PlanLaws.{tell_number}
 use Rattle.tables.specs.Views.{state_view}
 use Rattle.tables.specs.declared.Holders.{Holders}
 use Rattle.tables.specs.declared.State.{State}

@@ -8,20 +8,20 @@ use native.Mathlib.Nat.{add-zero, zero-add}
 use lib.Dec.{T, leb, ltb, eqb→eq}
 use lib.ListN.{length, take, drop, length-append, length-take, length-drop, take-append-drop}
 use borrow.Author.Tests.{leb-true, ltb-true}
-use Rattle.definition.specs.BaseLaws.{T_true, true_T, and_l, and_r}
+use Rattle.definition.proofs.BaseLaws.{T_true, true_T, and_l, and_r}
 use Rattle.definition.specs.Tables.{plan_limit, record_size, Kind, kinds}
-use Rattle.definition.specs.RowLaws.{every_kind}
+use Rattle.definition.proofs.RowLaws.{every_kind}
 use Rattle.definition.specs.Base.{Refusal, malformed, short, Said, silence, tell, Answer, accepted, refused, require}
-use Rattle.definition.specs.TableLaws.{push_nil}
+use Rattle.definition.proofs.TableLaws.{push_nil}
 use Rattle.definition.specs.Pools.{Holders, Claim, rows_of, ◌⊕◌}
-use Rattle.definition.specs.ClaimLaws.{fits_one}
+use Rattle.definition.proofs.ClaimLaws.{fits_one}
 use Rattle.definition.specs.Request.{Request, resolve}
-use Rattle.definition.specs.ResolveLaws.{Resolved, resolved, rows_kept}
+use Rattle.definition.proofs.ResolveLaws.{Resolved, resolved, rows_kept}
 use Rattle.definition.specs.Calls.{State, state, pools_of, owners_of, sound, saying, granting}
-use Rattle.definition.specs.StateLaws.{Sound, SoundFor, sound_for, for_sound, sound_saying, sound_ground, sound_fits, granting_sound}
+use Rattle.definition.proofs.StateLaws.{Sound, SoundFor, sound_for, for_sound, sound_saying, sound_ground, sound_fits, granting_sound}
 use Rattle.definition.specs.Plan.{Grant, grant, Run, done, stopped, after as and_then, run, record_of_grant, records, written, Lent, lent, all_rows, roomy, plan_run, ended, grants_of, plan}
-use Rattle.definition.specs.PlanLaws.{tell_number, told_at, granting_append}
-use Rattle.definition.specs.RunLaws.{run_accepted, run_refused, record_length}
+use Rattle.definition.proofs.PlanLaws.{tell_number, told_at, granting_append}
+use Rattle.definition.proofs.RunLaws.{run_accepted, run_refused, record_length}
 use Rattle.plan.specs.Steps.{put_from, clear, Steady, opened, indexed, numbered, answered, turned, turns, recorded, index_for, settled, steps}
 use Rattle.plan.proofs.PutLaws.{put_append, put_nil}
 use Rattle.allocation.proofs.ServeLaws.{into_refused, into_granted}

@@ -6,7 +6,7 @@ use Prim.Native.Nat.{ℕ, ◌*◌, ◌/◌, ◌<◌}
 use lib.Dec.{leb, ltb, eqb, eqb→eq}
 use lib.ListN.{length}
 use borrow.Author.Tests.{lt-ltb}
-use Rattle.definition.specs.BaseLaws.{T_false}
+use Rattle.definition.proofs.BaseLaws.{T_false}
 use Rattle.definition.specs.Tables.{plan_limit, record_size, kinds}
 use Rattle.definition.specs.Base.{malformed, short, silence, tell, Answer, accepted, refused, require}
 use Rattle.definition.specs.Request.{Request}

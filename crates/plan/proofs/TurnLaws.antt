@@ -5,7 +5,7 @@ use mathlib.Core.List.{List}
 use Prim.Native.Nat.{ℕ, ◌/◌}
 use lib.Dec.{T, ltb, eqb}
 use lib.ListN.{length}
-use Rattle.definition.specs.BaseLaws.{T_true, true_T, and_l, and_r}
+use Rattle.definition.proofs.BaseLaws.{T_true, true_T, and_l, and_r}
 use Rattle.definition.specs.Tables.{record_size}
 use Rattle.definition.specs.Base.{Answer}
 use Rattle.definition.specs.Pools.{Claim}

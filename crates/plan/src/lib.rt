@@ -1,4 +1,6 @@
 // A plan where the state stands: its requests in order, each answered in place, up to the first refusal, which cuts the owner tables back to the counts that they had. No request copies a table, and no state is kept to go back to.
+#![tactic(auto)]
+
 ghost use Rattle.std.specs.Prelude.{◌≡◌, eqb};
 ghost use Rattle.definition.specs.Tables.{kinds};
 ghost use Rattle.definition.specs.Calls.{want, serve};

@@ -1,4 +1,6 @@
 // The plan-reading program: a plan's text from standard input, its answer to standard output. A read that fails prints nothing.
+#![tactic(auto)]
+
 ghost use Rattle.std.specs.Prelude.{◌≤◌, ◌<◌, length, take};
 ghost use Rattle.lines.specs.Base.{text_limit};
 ghost use Rattle.lines.specs.Output.{output_limit};

@@ -1,4 +1,6 @@
 // The calls that add pools and reservations, and start, by the names of axdevice's pool modules: a state by value is lent to the door. For test programs. After src/resources/pool/mod.rs of axdevice 0.8.5, Apache-2.0, see NOTICE; changed.
+#![tactic(auto)]
+
 ghost use Rattle.std.specs.Prelude.{◌≡◌};
 ghost use Rattle.definition.specs.Tables.{kinds};
 ghost use Rattle.definition.specs.Pools.{pair_hold};

@@ -7,7 +7,7 @@ use native.Mathlib.Omega.{arith}
 use lib.ListN.{length, take, drop, length-drop}
 use lib.Seq.{take_all}
 use borrow.Author.Tests.{le-leb, lt-leb}
-use Rattle.lines.specs.Base.{line_limit, tab, split, when, ◌andThen◌}
+use Rattle.lines.specs.Base.{line_limit, tab, split, when, ◌and_then◌}
 use Rattle.lines.specs.Numbers.{number}
 use Rattle.lines.specs.Forms.{n32, want_forms, tries}
 use Rattle.lines.specs.Line.{behind_want, by_word, by_fields, read_line}
@@ -73,13 +73,13 @@ module _ (x y rest : List ℕ) (e : ℕ) (end : e ≡ 0 + first tab (drop 0 rest
         rw (head_next tab rest e end more, q)
 
     pub want_no_requester : number n32 x ≡ none → behind_want x y (split tab rest) ≡ none
-    unfolding ◌andThen◌
-    want_no_requester h = want_more ∙ rw (h, ◌andThen◌)
+    unfolding ◌and_then◌
+    want_no_requester h = want_more ∙ rw (h, ◌and_then◌)
 
     pub want_no_slot : (q : ℕ) → number n32 x ≡ some q → number n32 y ≡ none → behind_want x y (split tab rest) ≡ none
-    unfolding ◌andThen◌
-    want_no_slot q h k = want_more ∙ rw (h, k, ◌andThen◌)
+    unfolding ◌and_then◌
+    want_no_slot q h k = want_more ∙ rw (h, k, ◌and_then◌)
 
     pub want_said : (q s : ℕ) → number n32 x ≡ some q → number n32 y ≡ some s → behind_want x y (split tab rest) ≡ tries (want_forms q s) (take e rest) (split tab (open_end rest (e + 1)))
-    unfolding ◌andThen◌
-    want_said q s h k = want_more ∙ rw (h, k, ◌andThen◌, open_is rest (e + 1))
+    unfolding ◌and_then◌
+    want_said q s h k = want_more ∙ rw (h, k, ◌and_then◌, open_is rest (e + 1))

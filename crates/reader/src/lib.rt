@@ -1,4 +1,6 @@
 // The line's reader: what a line of a plan's text says.
+#![tactic(auto)]
+
 pub mod pool; // pool.rt: `pool` lines
 pub mod hold; // hold.rt: `hold` lines
 pub mod want; // want.rt: `want` lines

@@ -6,9 +6,9 @@ use borrow.Author.Tests.{lt-leb}
 use Rattle.definition.specs.Base.{Refusal, tell, Answer, accepted, refused, ◌then◌}
 use Rattle.definition.specs.Request.{auto, mmio_want, pio_want, Request}
 use Rattle.definition.specs.Registers.{register_count, register_of, takes_next, asked, ◌also◌, requests_at, asked_at, asked_from}
-use Rattle.definition.specs.PlanLaws.{tell_number}
-use Rattle.definition.specs.AskedLaws.{also_assoc, behind, past, asked_step}
-use Rattle.definition.specs.RegisterLaws.{Words, asked_few}
+use Rattle.definition.proofs.PlanLaws.{tell_number}
+use Rattle.definition.proofs.AskedLaws.{also_assoc, behind, past, asked_step}
+use Rattle.definition.proofs.RegisterLaws.{Words, asked_few}
 use Rattle.flat.specs.Flat.{request_size, numbers_of, numbers_of_all}
 use Rattle.flat.proofs.NumbersLaws.{length_numbers}
 use Rattle.registers.specs.declared.register.Register.{Register}

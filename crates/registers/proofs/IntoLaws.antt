@@ -4,7 +4,7 @@ use lib.Seq.{sets, sets-eq}
 use borrow.Author.Tests.{eqb-false, lt-leb}
 use Rattle.definition.specs.Tables.{top}
 use Rattle.definition.specs.Base.{all_of, bad_input, short, Answer, accepted, refused, require, ◌then◌}
-use Rattle.definition.specs.PlanLaws.{tell_number}
+use Rattle.definition.proofs.PlanLaws.{tell_number}
 use Rattle.definition.specs.Request.{Request}
 use Rattle.definition.specs.Plan.{written}
 use Rattle.definition.specs.Registers.{register_count, asked_from, registers}

@@ -5,7 +5,7 @@ use Rattle.definition.specs.Request.{Request}
 use Rattle.definition.specs.Calls.{State}
 use Rattle.definition.specs.Plan.{plan}
 use Rattle.definition.specs.Registers.{register_count, registers}
-use Rattle.definition.specs.RegisterLaws.{registers_good}
+use Rattle.definition.proofs.RegisterLaws.{registers_good}
 use Rattle.flat.specs.Flat.{numbers_of_all, requests_of, flat_plan}
 use Rattle.flat.proofs.NumbersLaws.{requests_back, numbers_plan}
 

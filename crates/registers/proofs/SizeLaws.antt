@@ -3,7 +3,7 @@ use Rattle.std.proofs.Common.{◌≡◌, ℕ, ◌-◌, ◌^◌, ◌<◌, ◌≤�
 use borrow.Author.Tests.{lt-leb}
 use Rattle.definition.specs.Tables.{top}
 use Rattle.definition.specs.Base.{bad_mask, ports_too_large, Answer, accepted, refused, require, ◌then◌}
-use Rattle.definition.specs.BaseLaws.{and_l}
+use Rattle.definition.proofs.BaseLaws.{and_l}
 use Rattle.definition.specs.Request.{auto, pio_want}
 use Rattle.definition.specs.Registers.{topped, good_mask, size_of, ports_want}
 

@@ -1,7 +1,7 @@
 -- What a word says, by the tests that the code makes of it. Assumes nothing.
 use Rattle.std.proofs.Common.{◌≡◌, ℕ, ◌+◌, ◌/◌, ◌%◌, true, false, ap, ◌∙◌, ap₂, add-zero, arith, eq-eqb, ne_eqb}
 use Rattle.definition.specs.Registers.{bit, cleared, nothing, ports, memory, pair, unknown, memory_of, register_of, port_mask}
-use Rattle.definition.specs.RegisterWordLaws.{register_by, upper_all, upper_none}
+use Rattle.definition.proofs.RegisterWordLaws.{register_by, upper_all, upper_none}
 
 module _ (w : ℕ) where
   pub says_nothing : w ≡ 0 → register_of w ≡ nothing

@@ -3,7 +3,7 @@ use Rattle.std.proofs.Common.{◌≡◌, ℕ, zero, suc, ◌+◌, ◌<◌, ◌�
 use borrow.Author.Tests.{lt-leb}
 use Rattle.definition.specs.Tables.{top}
 use Rattle.definition.specs.Base.{all_of}
-use Rattle.definition.specs.BaseLaws.{and_l, and_r}
+use Rattle.definition.proofs.BaseLaws.{and_l, and_r}
 
 abbrev pub fits : ℕ → Bool
 fits w = leb w (top 32)

@@ -1,4 +1,6 @@
 // The requests of a PCI device, sized from the words of its base address registers, as the plain numbers that a plan takes.
+#![tactic(auto)]
+
 ghost use Rattle.std.specs.Prelude.{◌≡◌, ◌+◌, ◌*◌, ◌≤◌, T, length, nat_le, slice_index};
 ghost use Rattle.std.proofs.lemmas.List.Edits.{sets};
 ghost use Rattle.definition.specs.Tables.{top};
@@ -25,7 +27,7 @@ pub const MOST: usize = REGISTERS * REQUEST;
 const TOP_32: u64 = 4294967295;
 
 // The number of a refusal, with no requests; or 0, and how many there are.
-#[derive(Drop)]
+#[derive(Clone, Copy)]
 pub struct Sized {
     pub number: u64,
     pub count: usize,

@@ -7,7 +7,7 @@ ghost use Rattle.registers.specs.Told.{register_said, fault_of, asked_of, next_o
 use crate::mask::{good_mask_32, good_mask_64, size_32, size_64};
 
 // What a word says.
-#[derive(Drop)]
+#[derive(Clone, Copy)]
 pub enum Register {
     Nothing,
     Ports,
@@ -17,7 +17,7 @@ pub enum Register {
 }
 
 // Why a register is refused.
-#[derive(Drop)]
+#[derive(Clone, Copy)]
 pub enum Fault {
     BadType,
     BadPair,
@@ -26,7 +26,7 @@ pub enum Fault {
 }
 
 // What a register asks for: nothing, or memory or ports of a size.
-#[derive(Drop)]
+#[derive(Clone, Copy)]
 pub enum Asked {
     Nothing,
     Memory(u64),

@@ -7,16 +7,16 @@ use native.Mathlib.Omega.{arith}
 use lib.Dec.{T, leb, leb→le}
 use lib.ListN.{length, drop, length-map}
 use lib.Seq.{take_all}
-use Rattle.definition.specs.BaseLaws.{and_l, eq→eqb, T_true}
+use Rattle.definition.proofs.BaseLaws.{and_l, eq→eqb, T_true}
 use Rattle.definition.specs.Tables.{plan_limit, record_size, Kind, kinds}
 use Rattle.definition.specs.Base.{malformed, short, refused, require}
 use Rattle.definition.specs.Pools.{rows_of}
 use Rattle.definition.specs.Request.{Request}
 use Rattle.definition.specs.Calls.{State, pools_of, held_of, owners_of, start, serve, sound, settle, granting, starting}
 use Rattle.definition.specs.Plan.{Grant, done, records, written, Lent, lent, all_rows, roomy, plan_run, grants_of, plan, pinned}
-use Rattle.definition.specs.ReplayLaws.{Pick, pick_length}
-use Rattle.definition.specs.PickLaws.{indices, nth, pick_nth}
-use Rattle.definition.specs.PlanLaws.{tell_number, plan_accepted, plan_says, Again, replay, replay_rows}
+use Rattle.definition.proofs.ReplayLaws.{Pick, pick_length}
+use Rattle.definition.proofs.PickLaws.{indices, nth, pick_nth}
+use Rattle.definition.proofs.PlanLaws.{tell_number, plan_accepted, plan_says, Again, replay, replay_rows}
 use Rattle.flat.specs.Flat.{request_size, requests_from, requests_of, whole_requests, flat_plan}
 use Rattle.flat.proofs.FlatLaws.{requests_length, flat_whole, flat_torn}
 use Rattle.flat.specs.Pin.{pinned_numbers}

@@ -10,11 +10,11 @@ use Rattle.definition.specs.Base.{Answer, accepted, refused, bad_input, full, re
 use Rattle.definition.specs.Pools.{Holders, Claim, ◌⊕◌, room, at_kind}
 use Rattle.definition.specs.Request.{Choice, Want, mmio_want, pio_want, input_want, host_want, msi_want, Request, good_request, Need, need, input_need, one, row_at, Pools, place, claims, resolve}
 use Rattle.definition.specs.Plan.{Grant, grant, done, run, all_rows, record_of, record_of_grant, records}
-use Rattle.definition.specs.RequestLaws.{then_accepted, require_accepted}
-use Rattle.definition.specs.GrantLaws.{place_row}
-use Rattle.definition.specs.RunLaws.{run_accepted, run_refused, not_done, after_done, record_length}
-use Rattle.definition.specs.ReplayLaws.{Take, now, later, Pick, stop, pick}
-use Rattle.definition.specs.PickLaws.{indices, nowhere, nth}
+use Rattle.definition.proofs.RequestLaws.{then_accepted, require_accepted}
+use Rattle.definition.proofs.GrantLaws.{place_row}
+use Rattle.definition.proofs.RunLaws.{run_accepted, run_refused, not_done, after_done, record_length}
+use Rattle.definition.proofs.ReplayLaws.{Take, now, later, Pick, stop, pick}
+use Rattle.definition.proofs.PickLaws.{indices, nowhere, nth}
 use Rattle.flat.specs.Flat.{request_size, request_at, requests_from, requests_of}
 use Rattle.flat.proofs.FlatLaws.{request_reads}
 use Rattle.flat.proofs.StoreLaws.{requests_cons, first_number}

@@ -4,9 +4,9 @@ use Rattle.definition.specs.Tables.{record_size, dom, mmio, pio, input, host, de
 use Rattle.definition.specs.Pools.{at_kind, Claim}
 use Rattle.definition.specs.Calls.{State, pools_of, start, serve}
 use Rattle.definition.specs.Plan.{Lent}
-use Rattle.definition.specs.RequestLaws.{AutoInFixed}
-use Rattle.definition.specs.ReplayLaws.{Pick}
-use Rattle.definition.specs.PickLaws.{indices}
+use Rattle.definition.proofs.RequestLaws.{AutoInFixed}
+use Rattle.definition.proofs.ReplayLaws.{Pick}
+use Rattle.definition.proofs.PickLaws.{indices}
 use Rattle.flat.specs.Flat.{request_size, Form, unknown, msi, form_at, flat_plan}
 use Rattle.flat.specs.Flat as F
 use Rattle.flat.specs.Pin.{pinned_numbers}

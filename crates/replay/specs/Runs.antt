@@ -5,9 +5,9 @@ use Rattle.definition.specs.Base.{silence}
 use Rattle.definition.specs.Pools.{rows_of}
 use Rattle.definition.specs.Calls.{State, pools_of, held_of, owners_of, start, serve}
 use Rattle.definition.specs.Plan.{Lent, written}
-use Rattle.definition.specs.RequestLaws.{AutoInFixed}
-use Rattle.definition.specs.ReplayLaws.{Pick}
-use Rattle.definition.specs.PickLaws.{indices}
+use Rattle.definition.proofs.RequestLaws.{AutoInFixed}
+use Rattle.definition.proofs.ReplayLaws.{Pick}
+use Rattle.definition.proofs.PickLaws.{indices}
 use Rattle.flat.specs.Flat.{request_size, flat_plan}
 use Rattle.flat.specs.Pin.{pinned_numbers}
 use Rattle.replay.specs.Again.{blocks, taken, rows_for}

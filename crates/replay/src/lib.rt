@@ -1,4 +1,6 @@
 // Demand 3 as a program: a plan, its answers written back into its lines, and some of these lines run again in any order. What is asked and promised of two runs stands in specs/, the law in proofs/.
+#![tactic(auto)]
+
 ghost use Rattle.std.specs.Prelude.{◌≡◌};
 ghost use Rattle.tables.specs.Views.{state_view};
 ghost use Rattle.replay.specs.Runs.{runs, runs_of, Replayable, Replays};

@@ -1,4 +1,6 @@
 // Demand 3 on random plans of all kinds: each is run, pinned, and some of its lines are run again in another order. The second answer must be 0, each record the one it had, and the owner tables the reservations and those lines' rows.
+#![tactic(auto)]
+
 mod checked;
 mod drawn;
 mod lends;
@@ -13,7 +15,7 @@ const LINES: usize = REQUEST * PLAN;
 const RESULTS: usize = RECORD * PLAN;
 
 // What became of a plan.
-#[derive(Drop)]
+#[derive(Clone, Copy)]
 pub enum Outcome {
     Passed,
     Refused,

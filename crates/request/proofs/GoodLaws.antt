@@ -5,10 +5,10 @@ use Prim.Native.Nat.{ℕ, ◌^◌, ◌<◌, ◌≤◌}
 use native.Mathlib.Omega.{arith}
 use lib.Dec.{T, leb, ltb, ltb→lt}
 use borrow.Author.Tests.{leb-true}
-use Rattle.definition.specs.BaseLaws.{and_l, and_r, T_true, true_T}
+use Rattle.definition.proofs.BaseLaws.{and_l, and_r, T_true, true_T}
 use Rattle.definition.specs.Request.{Choice, good_choice, one_bit, good_want, good_request, mmio_want, pio_want, msi_want}
 use Rattle.definition.specs.Request as R
-use Rattle.definition.specs.RequestLaws.{one_bit_pos}
+use Rattle.definition.proofs.RequestLaws.{one_bit_pos}
 use Rattle.search.proofs.OnesLaws.{one_bit_wide}
 use Rattle.request.specs.Asked.{good_span}
 

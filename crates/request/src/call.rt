@@ -3,33 +3,33 @@ use super::Request;
 use tables::{DeviceId, EventId, Lpi};
 
 // Which pools a range is added to: those that automatic requests search, or those that fixed requests are allowed in.
-#[derive(Drop)]
+#[derive(Clone, Copy)]
 pub enum Use {
     Automatic,
     Fixed,
 }
 
 // Half-open ranges of numbers that cannot be passed for one another.
-#[derive(Drop)]
+#[derive(Clone, Copy)]
 pub struct Devices {
     pub start: DeviceId,
     pub end: DeviceId,
 }
 
-#[derive(Drop)]
+#[derive(Clone, Copy)]
 pub struct Events {
     pub start: EventId,
     pub end: EventId,
 }
 
-#[derive(Drop)]
+#[derive(Clone, Copy)]
 pub struct Lpis {
     pub start: Lpi,
     pub end: Lpi,
 }
 
 // What a pool call adds. Its numbers stand in the order of the program's line.
-#[derive(Drop)]
+#[derive(Clone, Copy)]
 pub enum PoolRange {
     Mmio(u64, u64),
     Pio(u16, u16),
@@ -39,7 +39,7 @@ pub enum PoolRange {
 }
 
 // What a reservation holds: an input with its trigger and sharing, a pair with its trigger and host IRQ.
-#[derive(Drop)]
+#[derive(Clone, Copy)]
 pub enum Hold {
     Mmio(u64, u64),
     Pio(u16, u16),
@@ -52,7 +52,7 @@ pub enum Hold {
 }
 
 // A range for the pools of a use, something held by an owner, a start, a request. `Bad`: a line of no form, or numbers that cannot be read.
-#[derive(Drop)]
+#[derive(Clone, Copy)]
 pub enum Call {
     Pool(Use, PoolRange),
     Hold(u32, Hold),

@@ -1,4 +1,6 @@
 // A request as it is handed in, whether its numbers make sense, and the numbers of a refusal.
+#![tactic(auto)]
+
 ghost use Rattle.std.specs.Prelude.{◌≡◌};
 ghost use Rattle.definition.specs.Base.{tell};
 ghost use Rattle.definition.specs.Request.{good_choice, good_want, good_request, input_want, msi_want};
@@ -16,7 +18,7 @@ const TOP_64: u64 = 18446744073709551615;
 const TOP_16: u64 = 65535;
 
 // What is wanted. PIO numbers have 16 bits: one that is too large is bad input. All numbers of MSI have 32 by their types.
-#[derive(Drop)]
+#[derive(Clone, Copy)]
 pub enum Want {
     Mmio {
         size: u64,
@@ -47,7 +49,7 @@ pub enum Want {
     },
 }
 
-#[derive(Drop)]
+#[derive(Clone, Copy)]
 pub struct Request {
     pub requester: u32,
     pub slot: u32,
@@ -55,7 +57,7 @@ pub struct Request {
 }
 
 // The numbers of an answer beside the index.
-#[derive(Drop)]
+#[derive(Clone, Copy)]
 pub struct Said {
     pub number: u64,
     pub namespace: u64,

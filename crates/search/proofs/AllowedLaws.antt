@@ -6,7 +6,7 @@ use Prim.Native.Nat.{ℕ, ◌+◌, ◌%◌, ◌<◌, ◌≤◌}
 use lib.Dec.{T, leb, leb→le}
 use borrow.Author.Tests.{lt-leb, le-leb, eq-eqb, ne_eqb}
 use Rattle.definition.specs.Base.{any_of}
-use Rattle.definition.specs.BaseLaws.{and_l, and_r, and_false, true_T}
+use Rattle.definition.proofs.BaseLaws.{and_l, and_r, and_false, true_T}
 use Rattle.definition.specs.Tables.{Span, nature}
 use Rattle.definition.specs.Request.{Need, aligned, holds, allowed}
 

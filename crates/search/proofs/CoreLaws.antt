@@ -9,11 +9,11 @@ use native.Mathlib.Nat.{eq-or-lt_of_le}
 use native.Mathlib.Omega.{arith}
 use lib.Dec.{T, leb, eqb, leb→le, eqb→eq}
 use Rattle.definition.specs.Base.{any_of, pairs_of}
-use Rattle.definition.specs.BaseLaws.{and_l, and_r, and_i, T_false, false_T, not_T→, →not_T, or_cases, eq→eqb, all_some, all_none}
+use Rattle.definition.proofs.BaseLaws.{and_l, and_r, and_i, T_false, false_T, not_T→, →not_T, or_cases, eq→eqb, all_some, all_none}
 use Rattle.definition.specs.Tables.{same_dom, pool_dom, Span, Row, meets, same_span, in_order}
-use Rattle.definition.specs.RowLaws.{dom_sym, dom_trans}
+use Rattle.definition.proofs.RowLaws.{dom_sym, dom_trans}
 use Rattle.definition.specs.Request.{Need, row_at, aligned, holds, free, lowest}
-use Rattle.definition.specs.SearchLaws.{lowest_says}
+use Rattle.definition.proofs.SearchLaws.{lowest_says}
 use Rattle.tables.specs.Below.{listed}
 use Rattle.tables.proofs.ListedLaws.{pairs_out}
 use Rattle.bases.specs.Bases.{Up}

@@ -5,7 +5,7 @@ use Prim.Native.Nat.{ℕ, suc, ◌+◌, ◌<◌, ◌≤◌}
 use native.Mathlib.Omega.{arith}
 use lib.Dec.{T, leb, ltb, ltb→lt, leb→le, le→leb}
 use borrow.Author.Tests.{lt-ltb, le-ltb, eq-eqb, ne_eqb}
-use Rattle.definition.specs.BaseLaws.{and_l, and_r, and_i, and_false, T_true, true_T}
+use Rattle.definition.proofs.BaseLaws.{and_l, and_r, and_i, and_false, T_true, true_T}
 use Rattle.definition.specs.Tables.{dom, same_dom, pool_dom, Span, Row, wired_row, overlap, meets}
 use Rattle.definition.specs.Request.{Need, holds}
 

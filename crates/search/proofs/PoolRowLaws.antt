@@ -6,7 +6,7 @@ use native.Mathlib.Omega.{arith}
 use lib.Dec.{T}
 use borrow.Author.Tests.{eq-eqb, ne_eqb}
 use Rattle.definition.specs.Base.{any_of}
-use Rattle.definition.specs.BaseLaws.{T_true, T_false, true_T, false_T}
+use Rattle.definition.proofs.BaseLaws.{T_true, T_false, true_T, false_T}
 use Rattle.definition.specs.Tables.{pool_limit, dom, same_dom, pool_dom, Span, used}
 use Rattle.definition.specs.Request.{Need, holds}
 use Rattle.tables.specs.Views.{pool_view}

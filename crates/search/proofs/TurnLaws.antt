@@ -7,7 +7,7 @@ use native.Mathlib.Nat.{eq-or-lt_of_le}
 use native.Mathlib.Omega.{arith}
 use borrow.Author.Tests.{lt-ltb, le-ltb}
 use lib.Dec.{T, ltb, ltb→lt, lt→ltb}
-use Rattle.definition.specs.BaseLaws.{and_l, and_r, and_i}
+use Rattle.definition.proofs.BaseLaws.{and_l, and_r, and_i}
 use Rattle.definition.specs.Tables.{Row}
 use Rattle.definition.specs.Request.{Need, row_at}
 use Rattle.search.specs.Steps.{Passed, Jumps}

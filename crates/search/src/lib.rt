@@ -1,4 +1,6 @@
 // The searches: they read columns through references, and change nothing. Ranges here, inputs in `input`.
+#![tactic(auto)]
+
 ghost use Rattle.std.specs.Prelude.{◌≡◌, [], ◌+◌, ◌^◌, ◌%◌, ◌≤◌, ◌<◌};
 ghost use Rattle.definition.specs.Base.{any_of};
 ghost use Rattle.definition.specs.Tables.{used, pool_limit, row_limit, nature, dom, same_dom, range_row, meets};
@@ -15,7 +17,7 @@ use tables::{Hit, Kind, POOL_ROWS, ROWS};
 pub mod input;
 
 // What a request needs of one table. A domain number that the kind does not use is 0.
-#[derive(Drop)]
+#[derive(Clone, Copy)]
 pub struct Need {
     pub kind: Kind,
     pub controller: u32,
@@ -27,14 +29,14 @@ pub struct Need {
 }
 
 // The base that a search found, if there is one.
-#[derive(Drop)]
+#[derive(Clone, Copy)]
 pub enum Found {
     At(u64),
     Nothing,
 }
 
 // One turn of a search: go on at another base, or stay.
-#[derive(Drop)]
+#[derive(Clone, Copy)]
 pub enum Step {
     To(u64),
     Stay,
@@ -47,6 +49,7 @@ pub fn one_bit(a: u64) -> bool
     u64::count_ones(a) == 1
 }
 
+#[tactic(auto, unfolding(definition::specs::Tables::same_dom))]
 pub fn same_domain(
     controller: u32,
     its: u32,

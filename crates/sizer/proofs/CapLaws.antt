@@ -13,7 +13,7 @@ use Rattle.definition.specs.Base.{bad_input, short, Answer, accepted, require, a
 use Rattle.definition.specs.Tables.{top}
 use Rattle.definition.specs.Request.{Request}
 use Rattle.definition.specs.Registers.{register_count, asked_from, registers}
-use Rattle.lines.specs.Base.{tab, newline, split, when, ◌andThen◌}
+use Rattle.lines.specs.Base.{tab, newline, split, when, ◌and_then◌}
 use Rattle.lines.proofs.FormLaws.{and_both}
 use Rattle.sizer.specs.Words.{size_text_limit, word, fields, field_count, line_by, words_of}
 use Rattle.sizer.specs.Sizes.{sizes_of}
@@ -26,7 +26,7 @@ capped_all none = none
 capped_all (some vs) = some (map capped vs)
 
 fields_more : (n : ℕ) (f : List ℕ) (fs : List (List ℕ)) → fields capped_word n fs ≡ capped_all (fields word n fs) → fields capped_word (suc n) (f ∷ fs) ≡ capped_all (fields word (suc n) (f ∷ fs))
-unfolding fields ◌andThen◌
+unfolding fields ◌and_then◌
 fields_more n f fs below = go (word f)
   where
     rest : (v : ℕ) (o : Option (List ℕ)) → (capped_all o and_then λ vs. some (capped v ∷ vs)) ≡ capped_all (o and_then λ vs. some (v ∷ vs))

@@ -9,8 +9,8 @@ use native.Mathlib.Numerals.{add-one}
 use lib.Dec.{leb}
 use lib.ListN.{length, take, drop, get_or, set}
 use borrow.Author.Tests.{eq-eqb, ne_eqb, le-leb, lt-leb}
-use Rattle.definition.specs.BaseLaws.{and_false}
-use Rattle.lines.specs.Base.{tab, newline, split, when, ◌andThen◌}
+use Rattle.definition.proofs.BaseLaws.{and_false}
+use Rattle.lines.specs.Base.{tab, newline, split, when, ◌and_then◌}
 use Rattle.lines.specs.Code.{first, row_from, row_of}
 use Rattle.lines.proofs.PartLaws.{part_last, part_next, part_first, split_some}
 use Rattle.sizer.specs.Words.{size_text_limit, fields, field_count, line_by}
@@ -20,12 +20,12 @@ module _ (read : List ℕ → Option ℕ) where
 
   module _ (n : List ℕ) (i k : ℕ) (f : List ℕ) (fs : List (List ℕ)) where
     row_stop : read f ≡ none → row_from n i (fields read (suc k) (f ∷ fs)) ≡ row_of none
-    unfolding fields ◌andThen◌ row_from row_of
-    row_stop e = rw (e, ◌andThen◌)
+    unfolding fields ◌and_then◌ row_from row_of
+    row_stop e = rw (e, ◌and_then◌)
 
     row_more : (v : ℕ) → read f ≡ some v → row_from n i (fields read (suc k) (f ∷ fs)) ≡ row_from (set n i v) (suc i) (fields read k fs)
-    unfolding fields ◌andThen◌ row_from
-    row_more v e = rw (e, ◌andThen◌) (go (fields read k fs))
+    unfolding fields ◌and_then◌ row_from
+    row_more v e = rw (e, ◌and_then◌) (go (fields read k fs))
       where
         go : (o : Option (List ℕ)) → row_from n i (o and_then λ ns. some (v ∷ ns)) ≡ row_from (set n i v) (suc i) o
         go none = refl

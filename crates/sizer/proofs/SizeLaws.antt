@@ -10,16 +10,16 @@ use lib.ListN.{length, take, drop, get_or, replicate, length-append, get_or-appe
 use lib.Seq.{sets, sets-eq, length-sets, take_at, take-append-le}
 use borrow.Author.Tests.{le-leb}
 use Rattle.definition.specs.Base.{bad_line, says, tell, Answer, accepted, refused}
-use Rattle.definition.specs.PlanLaws.{tell_number}
+use Rattle.definition.proofs.PlanLaws.{tell_number}
 use Rattle.definition.specs.Request.{auto, mmio_want, pio_want, Request}
 use Rattle.definition.specs.Calls.{want}
 use Rattle.definition.specs.Plan.{written}
 use Rattle.definition.specs.Registers.{register_count, registers}
-use Rattle.definition.specs.RegisterLaws.{registers_says}
-use Rattle.definition.specs.RegisterFairLaws.{Ranges, end, mmio, pio, Fair, registers_fair}
+use Rattle.definition.proofs.RegisterLaws.{registers_says}
+use Rattle.definition.proofs.RegisterFairLaws.{Ranges, end, mmio, pio, Fair, registers_fair}
 use Rattle.flat.specs.Flat.{request_size, numbers_of, numbers_of_all}
 use Rattle.lines.specs.declared.form.Row.{Row}
-use Rattle.lines.specs.Base.{bytes, tab, newline, split, ◌andThen◌}
+use Rattle.lines.specs.Base.{bytes, tab, newline, split, ◌and_then◌}
 use Rattle.lines.specs.Numbers.{digits}
 use Rattle.lines.specs.Forms.{field_of, fields_of}
 use Rattle.lines.specs.Line.{behind, line_with, line_from, line_of}
@@ -113,7 +113,7 @@ sizes_length text = answer_length (sizes_of (words_of text)) (sizes_fair (words_
 -- ---- what was read
 
 fields_length : (read : List ℕ → Option ℕ) (n : ℕ) (fs : List (List ℕ)) (ns : List ℕ) → fields read n fs ≡ some ns → length ns ≡ n
-unfolding fields ◌andThen◌
+unfolding fields ◌and_then◌
 fields_length read zero [] ns e = let q : [] ≡ ns = cc in sym (ap length q)
 fields_length read zero (f ∷ fs) ns e = absurd (let z : ◌≡◌ {A = ℕ} 0 1 = cc in omega arith)
 fields_length read (suc n) [] ns e = absurd (let z : ◌≡◌ {A = ℕ} 0 1 = cc in omega arith)

@@ -13,8 +13,8 @@ use lib.ListN.{length, drop, get_or, drop_of_length-le}
 use lib.Seq.{drop-cons}
 use borrow.Author.Tests.{eq-eqb, ne_eqb, le-leb, lt-leb, lt-ltb, le-ltb, leb-true}
 use Rattle.definition.specs.Base.{all_of}
-use Rattle.definition.specs.BaseLaws.{and_false}
-use Rattle.lines.specs.Base.{pick, same, when, ◌andThen◌, ◌orElse◌}
+use Rattle.definition.proofs.BaseLaws.{and_false}
+use Rattle.lines.specs.Base.{pick, same, when, ◌and_then◌, ◌or_else◌}
 use Rattle.lines.specs.Numbers.{digit, value_from, plain, number}
 use Rattle.lines.proofs.NumberLaws.{number_from}
 use Rattle.lines.proofs.FormLaws.{and_both}
@@ -110,32 +110,32 @@ capped_end f i base v l h = let e : capped v ≡ v = omega arith in rw (drop_of_
 -- ---- the field's first bytes
 
 or_none : (o : Option ℕ) → (o or_else none) ≡ o
-unfolding ◌orElse◌
+unfolding ◌or_else◌
 or_none none = refl
 or_none (some v) = refl
 
 pub word_empty : (f : List ℕ) → length f ≡ 0 → word f ≡ none
-unfolding word decimal hexadecimal plain same when ◌orElse◌
+unfolding word decimal hexadecimal plain same when ◌or_else◌
 word_empty [] e = refl
 word_empty (x ∷ xs) e = absurd (omega arith)
 
 -- a leading zero, and behind it what is no `x`
 pub word_zeros : (f : List ℕ) → 1 < length f → get_or f 0 0 ≡ 48 → (get_or f 1 0 ≡ 120 → ⊥) → word f ≡ none
-unfolding word decimal hexadecimal plain same when ◌orElse◌
+unfolding word decimal hexadecimal plain same when ◌or_else◌
 word_zeros [] l e n = absurd (omega arith)
 word_zeros (x ∷ []) l e n = absurd (omega arith)
 word_zeros (x ∷ y ∷ ys) l e n = rw (eq-eqb x 48 e, ne_eqb y 120 n)
 
 -- .. or nothing behind the `x`
 pub word_bare : (f : List ℕ) → length f ≡ 2 → get_or f 0 0 ≡ 48 → word f ≡ none
-unfolding word decimal hexadecimal plain same when ◌orElse◌
+unfolding word decimal hexadecimal plain same when ◌or_else◌
 word_bare [] l e = absurd (omega arith)
 word_bare (x ∷ []) l e = absurd (omega arith)
 word_bare (x ∷ y ∷ []) l e = rw (eq-eqb x 48 e, and_false (eqb y 120 && true))
 word_bare (x ∷ y ∷ z ∷ zs) l e = absurd (omega arith)
 
 pub word_hexadecimal : (f : List ℕ) → 2 < length f → get_or f 0 0 ≡ 48 → get_or f 1 0 ≡ 120 → word f ≡ said_in 16 0 (drop 2 f)
-unfolding word decimal hexadecimal plain same when ◌orElse◌
+unfolding word decimal hexadecimal plain same when ◌or_else◌
 word_hexadecimal [] l e h = absurd (omega arith)
 word_hexadecimal (x ∷ []) l e h = absurd (omega arith)
 word_hexadecimal (x ∷ y ∷ ys) l e h = rw (eq-eqb x 48 e, eq-eqb y 120 h, lt-ltb 2 (length (x ∷ y ∷ ys)) l)
@@ -168,7 +168,7 @@ abbrev pub at_most : ℕ → Option ℕ → Option ℕ
 at_most most o = o and_then λ v. when (leb v most) (some v)
 
 one_more : (most v b : ℕ) (bs : List ℕ) → at_most most (said_in 10 (v * 10 + (b - 48)) bs) ≡ number_from most (v * 10 + (b - 48)) bs → at_most most (said_in 10 v (b ∷ bs)) ≡ number_from most v (b ∷ bs)
-unfolding said_in number_from all_of value_from when ◌andThen◌
+unfolding said_in number_from all_of value_from when ◌and_then◌
 one_more most v b bs below = go (digit b) refl
   where
     go : (t : Bool) → digit b ≡ t → at_most most (said_in 10 v (b ∷ bs)) ≡ number_from most v (b ∷ bs)
@@ -176,13 +176,13 @@ one_more most v b bs below = go (digit b) refl
     go false e = rw (e, le-ltb (digit_value b) 10 (not_decimal b e))
 
 decimal_from : (most v : ℕ) (bs : List ℕ) → at_most most (said_in 10 v bs) ≡ number_from most v bs
-unfolding said_in number_from all_of value_from ◌andThen◌
+unfolding said_in number_from all_of value_from ◌and_then◌
 decimal_from most v [] = refl
 decimal_from most v (b ∷ bs) = one_more most v b bs (decimal_from most (v * 10 + (b - 48)) bs)
 
 -- THE LAW: 01's number of at most so much is the decimal word, where it is at most so much
 pub decimal_number : (most : ℕ) (f : List ℕ) → number most f ≡ at_most most (decimal f)
-unfolding number decimal number_from when ◌andThen◌
+unfolding number decimal number_from when ◌and_then◌
 decimal_number most f = go (plain f)
   where
     go : (t : Bool) → when (t && (all_of digit f && leb (value_from 0 f) most)) (some (value_from 0 f)) ≡ at_most most (when t (said_in 10 0 f))

@@ -3,7 +3,7 @@ use Rattle.std.specs.Prelude.{◌≡◌, refl, List, [], ◌∷◌, map, ℕ}
 use Prim.Native.String.{String}
 use Rattle.definition.specs.Base.{all_of, require}
 use Rattle.definition.specs.Registers.{memory_of, register_of, upper_ones, topped, good_mask, size_of, asked, asked_at, asked_from, registers}
-use Rattle.lines.specs.Base.{bytes, same, grow, split, when, ◌andThen◌, ◌orElse◌}
+use Rattle.lines.specs.Base.{bytes, same, grow, split, when, ◌and_then◌, ◌or_else◌}
 use Rattle.lines.specs.Numbers.{plain, digits_up_to, digits}
 use Rattle.lines.specs.Forms.{field_of, fields_of}
 use Rattle.lines.specs.Line.{behind, line_with, line_from, line_of}
@@ -50,5 +50,5 @@ cases =
     ∷ []
 
 pub examples : map (λ c. sizes_output c.text) cases ≡ map (λ c. c.written) cases
-unfolding all_of require memory_of register_of upper_ones topped good_mask size_of asked asked_at asked_from registers same grow split when ◌andThen◌ ◌orElse◌ plain digits_up_to digits field_of fields_of behind line_with line_from line_of no_line digit_value said_in decimal hexadecimal word fields line_by want_lines sizes_output
+unfolding all_of require memory_of register_of upper_ones topped good_mask size_of asked asked_at asked_from registers same grow split when ◌and_then◌ ◌or_else◌ plain digits_up_to digits field_of fields_of behind line_with line_from line_of no_line digit_value said_in decimal hexadecimal word fields line_by want_lines sizes_output
 examples = refl

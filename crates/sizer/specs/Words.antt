@@ -2,7 +2,7 @@
 use Rattle.std.specs.Prelude.{◌&&◌, List, [], ◌∷◌, ℕ, zero, suc, ◌+◌, ◌*◌, ◌-◌, eqb, leb, ltb, length, take, drop, get_or}
 use Rattle.std.proofs.Math.Option.{Option, none, some}
 use Rattle.definition.specs.Registers.{register_count}
-use Rattle.lines.specs.Base.{bytes, tab, newline, same, split, pick, when, ◌andThen◌, ◌orElse◌}
+use Rattle.lines.specs.Base.{bytes, tab, newline, same, split, pick, when, ◌and_then◌, ◌or_else◌}
 use Rattle.lines.specs.Numbers.{digit, plain}
 
 -- the longest input, in bytes, its newline with it

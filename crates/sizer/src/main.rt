@@ -1,4 +1,6 @@
 // The program that sizes a device: six words of its registers and its requester from standard input, its requests as `want` lines to standard output, or the line `no`. A read that fails prints nothing.
+#![tactic(auto)]
+
 ghost use Rattle.std.specs.Prelude.{◌≤◌, ◌<◌, length, take};
 ghost use Rattle.writers.specs.Put.{Put};
 ghost use Rattle.standard_input.specs.Reads.{Stopped, Prints};

@@ -10,7 +10,7 @@ use Rattle.definition.specs.Tables.{row_limit, top, last_trigger, shared, input,
 use Rattle.tables.specs.Below.{all_below, all_from}
 use Rattle.tables.specs.Views.{input_of, input_at, inputs_view}
 use Rattle.tables.specs.declared.Inputs.{Inputs}
-use Rattle.definition.specs.BaseLaws.{and_l, and_r, and_i, and_true, t_ext, eq→eqb}
+use Rattle.definition.proofs.BaseLaws.{and_l, and_r, and_i, and_true, t_ext, eq→eqb}
 use Rattle.tables.proofs.BelowLaws.{all_every}
 use Rattle.tables.proofs.TableLaws.{tidy_is, tidy_count, sound_is, begins_used}
 use Rattle.table_tests.specs.Tests.{NoneAbove}
@@ -19,11 +19,11 @@ use Rattle.table_tests.proofs.HighLaws.{high_at}
 
 -- ---- one row
 
-pub input-good :
+pub input_good :
     (c x t s o : ℕ) → c ≤ top 32 → x ≤ top 64 → o ≤ top 32
     → good_row input (wired_row c x t s o) ≡ leb t last_trigger && (leb s shared && ltb 0 o)
 unfolding good_row fits floored within
-input-good c x t s o p q r =
+input_good c x t s o p q r =
     rw (le-leb c (top 32) p, le-leb x (top 64) q, eq-eqb (suc x) (suc x) refl, le-leb o (top 32) r, lt-ltb x (suc x) (omega arith), le-leb 0 x (omega arith))
     (turn (leb t last_trigger) (leb s shared) (ltb 0 o))
   where

@@ -1,4 +1,3 @@
 pub mod KindLaws
 pub mod StateLaws
 pub mod InputLaws
-pub mod LentWalk

@@ -6,7 +6,7 @@ use Rattle.definition.specs.Tables.{same_dom, same_row, same_span, Kind, kinds, 
 use Rattle.definition.specs.Calls.{fresh, given_at, sound_at, given, sound}
 use Rattle.tables.specs.Views.{state_view}
 use Rattle.tables.specs.declared.State.{State}
-use Rattle.definition.specs.BaseLaws.{and_true}
+use Rattle.definition.proofs.BaseLaws.{and_true}
 use Rattle.sound.specs.Tests.{given_of, set_of}
 use Rattle.sound.proofs.KindLaws.{given-ranges, set-ranges, given-inputs, set-inputs}
 

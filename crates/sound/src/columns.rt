@@ -10,6 +10,7 @@ use table_tests::{pool, range};
 use tables::{Kind, POOL_ROWS, ROWS};
 
 // Whether the two pools of a kind are sound: the first test of each of the four below.
+#[tactic(auto, unfolding(crate::specs::Tests::pools_in))]
 pub fn pools_sound<'a>(
     l: Limits,
     pc: &'a [u32; POOL_ROWS],
@@ -32,6 +33,7 @@ pub fn pools_sound<'a>(
 }
 
 // Whether the pools and reservations of a kind of ranges are sound.
+#[tactic(auto, unfolding(crate::specs::Tests::given_ranges))]
 pub fn ranges_given<'a>(
     kind: Kind,
     pc: &'a [u32; POOL_ROWS],
@@ -62,6 +64,7 @@ pub fn ranges_given<'a>(
 }
 
 // Whether all tables of a kind of ranges are sound.
+#[tactic(auto, unfolding(crate::specs::Tests::set_ranges))]
 pub fn ranges_set<'a>(
     kind: Kind,
     pc: &'a [u32; POOL_ROWS],
@@ -99,6 +102,7 @@ pub fn ranges_set<'a>(
 }
 
 // Whether the pools and reservations of inputs are sound.
+#[tactic(auto, unfolding(crate::specs::Tests::given_inputs))]
 pub fn inputs_given<'a>(
     pc: &'a [u32; POOL_ROWS],
     pi: &'a [u32; POOL_ROWS],
@@ -127,6 +131,7 @@ pub fn inputs_given<'a>(
 }
 
 // Whether all tables of inputs are sound.
+#[tactic(auto, unfolding(crate::specs::Tests::set_inputs))]
 pub fn inputs_set<'a>(
     pc: &'a [u32; POOL_ROWS],
     pi: &'a [u32; POOL_ROWS],

@@ -162,6 +162,7 @@ pub fn all_passed(
 }
 
 // Whether all pools and all reservations are sound: what adding a range, reserving and starting ask.
+#[tactic(auto, using(crate::proofs::StateLaws::given_is))]
 pub fn given(s: &State) -> bool
     ensures { result ≡ given kinds (state_view s.now) }
 {
@@ -181,6 +182,7 @@ pub fn given(s: &State) -> bool
 }
 
 // Whether all tables are sound: what a request and a plan ask.
+#[tactic(auto, using(crate::proofs::StateLaws::sound_is))]
 pub fn sound(s: &State) -> bool
     ensures { result ≡ sound kinds (state_view s.now) }
 {

@@ -1,4 +1,6 @@
 // The test of handed-in tables: what 01 calls sound, no more and no less.
+#![tactic(auto)]
+
 ghost use Rattle.std.specs.Prelude.{◌≡◌};
 ghost use Rattle.definition.specs.Tables.{kinds};
 ghost use Rattle.definition.specs.Calls.{sound};
@@ -76,6 +78,7 @@ pub fn inputs_set(auto: Pool, fixed: Pool, held: Inputs, owners: Inputs) -> bool
 }
 
 // Whether all tables are sound: what a request and a plan ask.
+#[tactic(auto, using(crate::proofs::StateLaws::sound_is))]
 pub fn sound(s: State) -> bool
     ensures { result ≡ sound kinds (state_view s) }
 {

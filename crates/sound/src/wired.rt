@@ -14,6 +14,7 @@ const LAST_TRIGGER: u32 = 3;
 const SHARED: u32 = 1;
 
 // Whether two rows can stand in one table: an input is reserved once (`single`), and owned once or by rows that share it with one trigger.
+#[tactic(auto, using(crate::proofs::InputLaws::input_apart, crate::proofs::InputLaws::input_fits))]
 pub fn inputs_fit(single: bool, a: InputRow, b: InputRow) -> bool
     ensures { result ≡ input_fit single (input_of a) (input_of b) }
 {
@@ -35,6 +36,7 @@ pub fn inputs_fit(single: bool, a: InputRow, b: InputRow) -> bool
     a.trigger == b.trigger
 }
 
+#[tactic(auto, using(crate::proofs::InputLaws::once), unfolding(definition::specs::Tables::same_row, definition::specs::Tables::same_dom))]
 pub fn same_row(a: InputRow, b: InputRow) -> bool
     ensures { result ≡ same_row (input_of a) (input_of b) }
 {
@@ -47,6 +49,7 @@ pub fn same_row(a: InputRow, b: InputRow) -> bool
 }
 
 // Whether a row has known codes and an owner. Its numbers keep to their width by their types.
+#[tactic(auto, using(crate::proofs::InputLaws::input_good))]
 pub fn good_row(r: InputRow) -> bool
     ensures { result ≡ good_row wired (input_of r) }
 {
@@ -60,6 +63,7 @@ pub fn good_row(r: InputRow) -> bool
 }
 
 // Whether `r` can stand with each of the first `k` rows.
+#[tactic(auto, using(tables::proofs::BelowLaws::all_start, tables::proofs::BelowLaws::all_more))]
 pub fn fits_below<'a>(
     k: usize,
     single: bool,
@@ -88,6 +92,7 @@ pub fn fits_below<'a>(
 }
 
 // Whether each row from `n` on is zero. No early end: so the compiler takes several rows at a time.
+#[tactic(auto, using(tables::proofs::BelowLaws::from_start, tables::proofs::BelowLaws::from_next))]
 pub fn unused_zero<'a>(
     n: usize,
     controller: &'a [u32; ROWS],
@@ -120,6 +125,7 @@ pub fn unused_zero<'a>(
 }
 
 // Whether a table in lent columns has its count within its size and zeros in its unused rows.
+#[tactic(auto, using(crate::proofs::InputLaws::inputs_tidy))]
 pub fn tidy<'a>(
     n: usize,
     controller: &'a [u32; ROWS],
@@ -137,6 +143,7 @@ pub fn tidy<'a>(
 }
 
 // Whether row `k` is good and can stand with each row before it. None of those is an input above `high`, so a higher one can.
+#[tactic(auto, using(crate::proofs::InputLaws::input_bad, crate::proofs::InputLaws::input_rest))]
 pub fn row_ok<'a>(
     k: usize,
     high: u64,
@@ -162,6 +169,7 @@ pub fn row_ok<'a>(
 }
 
 // Whether each of the first `n` rows is good and can stand with the others.
+#[tactic(auto, using(tables::proofs::BelowLaws::all_start, tables::proofs::BelowLaws::all_more, table_tests::proofs::HighLaws::high_start, table_tests::proofs::HighLaws::high_more))]
 pub fn rows_ok<'a>(
     n: usize,
     single: bool,
@@ -187,6 +195,7 @@ pub fn rows_ok<'a>(
 }
 
 // Whether a table in lent columns is sound: `single` for reservations.
+#[tactic(auto, using(crate::proofs::InputLaws::inputs_is, crate::proofs::InputLaws::inputs_count), unfolding(crate::specs::Tests::input_ok))]
 pub fn table_sound<'a>(
     single: bool,
     n: usize,
@@ -205,6 +214,7 @@ pub fn table_sound<'a>(
 }
 
 // Whether the first `m` rows of two tables in lent columns are the same.
+#[tactic(auto, using(tables::proofs::BelowLaws::all_start, tables::proofs::BelowLaws::all_more))]
 pub fn rows_same<'a>(
     m: usize,
     controller: &'a [u32; ROWS],
@@ -234,6 +244,7 @@ pub fn rows_same<'a>(
 }
 
 // Whether an owner table begins with the reservations, in order, both in lent columns.
+#[tactic(auto, using(crate::proofs::InputLaws::inputs_begin_is))]
 pub fn begins_with<'a>(
     m: usize,
     controller: &'a [u32; ROWS],

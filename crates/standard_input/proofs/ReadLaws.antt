@@ -1,11 +1,11 @@
 -- Why reading stops; and the bytes read decide what is printed, though no more of an input is read than one byte past the longest that is answered. Assumes nothing.
 use mathlib.Core.Path.{◌≡◌, refl, sym, subst, ap, ◌∙◌}
 use mathlib.Core.Bool.{Bool, true, false}
-use mathlib.Core.List.{List}
+use Rattle.std.proofs.Common.{List, ◌++◌, append_assoc, Option, None, Some, ◌+◌}
 use Prim.Native.Nat.{ℕ, zero, suc, ◌≤◌, ◌<◌}
 use native.Mathlib.Omega.{arith}
 use lib.IntN.{ℤ, pos, negsuc}
-use lib.Signed.{lt_z, le_z}
+use lib.Signed.{lt_z}
 use lib.Dec.{T, leb}
 use mir.Syntax.{w64}
 use mir.Val.{SFits, to_z, of_z}
@@ -13,20 +13,31 @@ use mir.ValLaws.{to_z-of_z}
 use lib.ListN.{length, take}
 use lib.Seq.{take_all, length-take-le}
 use borrow.Author.Tests.{ltb-true, leb-true, leb-false}
-use Rattle.io.specs.Counts.{clamp_len}
+use Rattle.std.proofs.Math.Seq.{take-append-add}
+use Rattle.std.proofs.lemmas.List.{take-append-le}
+use borrow.Rule.Slice.PartMut.{put_mid, post_of}
+use Rattle.std.specs.Io.KnownBytes.{Consumes}
 use Rattle.standard_input.specs.Reads.{Stopped, ReadOf, Prints}
 
+-- ---- the bytes that were read
+
+-- a read more: the bytes of all reads so far, and then its own
+pub consumes_more : (before between behind : Option (List ℕ)) (front more both : List ℕ)
+    → Consumes before between front → Consumes between behind more → both ≡ front ++ more → Consumes before behind both
+consumes_more None between behind front more both a b e = tt
+consumes_more (Some xs) None behind front more both a b e = absurd a
+consumes_more (Some xs) (Some ys) None front more both a b e = absurd b
+consumes_more (Some xs) (Some ys) (Some zs) front more both a b e = a ∙ rw (b, e, append_assoc)
+
+-- the part of a buffer from n on is read into, and so many bytes of it are read
+pub read_so_far : (n k got : ℕ) (buf part : List ℕ) → n ≤ length buf → got ≤ length part → take (n + got) (put_mid n k buf part) ≡ take n buf ++ take got part
+read_so_far n k got buf part inside fits =
+    subst
+    (λ (m : ℕ). take (m + got) (put_mid n k buf part) ≡ take n buf ++ take got part)
+    (length-take-le n buf inside)
+    (take-append-add (take n buf) (part ++ post_of n k buf) got ∙ ap (λ z. take n buf ++ z) (take-append-le got part (post_of n k buf) fits))
+
 -- ---- why reading stops
-
-pub stops : (long n : ℕ) (got : ℤ) → le_z got (pos 0) ≡ true → n ≤ long → Stopped long n got
-stops long n (pos zero) e l = l
-stops long n (pos (suc k)) e l = absurd (omega (arith, leb-true (suc k) 0 e))
-stops long n (negsuc k) e l = l
-
--- a read that brought something
-pub brings : (got : ℤ) (room : ℕ) → le_z got (pos 0) ≡ false → 0 < room → 0 < clamp_len got room
-brings (pos k) room e l = omega (arith, leb-false k 0 e)
-brings (negsuc k) room e l = absurd (subst T e tt)
 
 pub within : (long n : ℕ) (last : ℤ) → Stopped long n last → n ≤ long
 within long n (pos zero) s = s

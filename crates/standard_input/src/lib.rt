@@ -1,24 +1,34 @@
 // Standard input, read until the buffer is full, the input ends or a read fails.
-ghost use Rattle.std.specs.Prelude.{length};
+#![tactic(auto)]
+
+ghost use Rattle.std.specs.Prelude.{◌≡◌, ℤ, pos, length, take};
+ghost use Rattle.std.specs.Io.KnownBytes.{Consumes, IsAtEnd};
 ghost use Rattle.standard_input.specs.Reads.{Stopped};
 
+use std::io::Read;
+
 // How many bytes were read, and what the last read answered: a negative number where it failed, 0 at the input's end.
-#[derive(Drop)]
+#[derive(Clone, Copy)]
 pub struct Input {
     pub n: usize,
     pub last: isize,
 }
 
-pub fn read_input(buf: &mut [u8]) -> Input
-    ensures { Stopped (length buf.new) result.n result.last }
+// The bytes of a reader. Of one whose bytes are known those that were read are its first ones, and at its end none is left.
+pub fn read_input<R: Read>(reader: &mut R, buf: &mut [u8]) -> Input
+    ensures stopped { Stopped (length buf.new) result.n result.last }
+    ensures front { Consumes (R.remaining reader.old) (R.remaining reader.new) (take result.n buf.new) }
+    ensures end { result.last ≡ pos 0 → IsAtEnd (R.remaining reader.new) }
 {
     let mut n: usize = 0;
     while n < buf.len() {
-        let got = libc::read(0, &mut buf[n..]);
-        if got <= 0 {
-            return Input { n, last: got };
+        let Ok(got) = reader.read(&mut buf[n..]) else {
+            return Input { n, last: -1 };
+        };
+        if got == 0 {
+            return Input { n, last: 0 };
         }
-        n += io::count(got, &buf[n..]);
+        n += got;
     }
     // full: the last read brought something
     Input { n, last: 1 }

@@ -8,8 +8,8 @@ use Rattle.definition.specs.Tables.{row_limit, Row, same_row, used, begins}
 use Rattle.tables.specs.Below.{all_below, row_ok}
 use Rattle.tables.specs.Views.{range_of, range_at, ranges_view}
 use Rattle.tables.specs.declared.Ranges.{Ranges}
-use Rattle.definition.specs.BaseLaws.{and_l, and_r, and_i, and_false, t_ext, T_true, true_T}
-use Rattle.definition.specs.RowLaws.{row_eq}
+use Rattle.definition.proofs.BaseLaws.{and_l, and_r, and_i, and_false, t_ext, T_true, true_T}
+use Rattle.definition.proofs.RowLaws.{row_eq}
 use Rattle.tables.proofs.BelowLaws.{all_in, all_out}
 use Rattle.tables.proofs.TableLaws.{begins_used}
 use Rattle.table_tests.specs.declared.limits.Limits.{Limits}

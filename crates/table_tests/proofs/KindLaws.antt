@@ -8,7 +8,7 @@ use Rattle.definition.specs.Tables.{pool_limit, row_limit, top, Dom, dom, within
 use Rattle.tables.specs.Views.{span_of, pool_at, pool_view, range_of, range_at, ranges_view}
 use Rattle.tables.specs.declared.Pool.{Pool}
 use Rattle.tables.specs.declared.Ranges.{Ranges}
-use Rattle.definition.specs.BaseLaws.{and_l, and_r, and_i, and_true, t_ext}
+use Rattle.definition.proofs.BaseLaws.{and_l, and_r, and_i, and_true, t_ext}
 use Rattle.tables.proofs.TableLaws.{sound_ext}
 use Rattle.table_tests.specs.Tests.{limits_of, good_pool, sound_pool_in, blank_range, good_range, apart, sound_ranges_in}
 

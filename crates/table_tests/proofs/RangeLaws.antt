@@ -11,7 +11,7 @@ use Rattle.tables.specs.Below.{all_below, all_from, first, is_clear}
 use Rattle.tables.specs.Views.{range_of, range_at}
 use Rattle.tables.specs.declared.Hit.{Hit}
 use Rattle.tables.specs.declared.Ranges.{Ranges}
-use Rattle.definition.specs.BaseLaws.{and_false, t_ext, eq→eqb}
+use Rattle.definition.proofs.BaseLaws.{and_false, t_ext, eq→eqb}
 use Rattle.tables.proofs.BelowLaws.{all_every, all_ext, first_clear}
 use Rattle.tables.proofs.TableLaws.{tidy_is, tidy_count, sound_is}
 use Rattle.table_tests.specs.declared.limits.Limits.{Limits}

@@ -7,7 +7,7 @@ ghost use Rattle.table_tests.specs.Tests.{limits_of};
 use tables::{Kind, ROWS};
 
 // The least number at which a kind's ranges may start, the largest of its width, and of each number of its domain: 0 where the kind does not use it.
-#[derive(Drop)]
+#[derive(Clone, Copy)]
 pub struct Limits {
     pub floor: u64,
     pub top: u64,

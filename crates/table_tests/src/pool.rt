@@ -9,6 +9,7 @@ use super::limits::{Limits, higher};
 use tables::{POOL_ROWS, Pool, PoolRow};
 
 // Whether two rows of one domain are sorted by start, the earlier one first, and are no exact duplicates.
+#[tactic(auto, unfolding(definition::specs::Tables::in_order, definition::specs::Tables::same_span, definition::specs::Tables::same_dom))]
 pub fn in_order(a: PoolRow, b: PoolRow) -> bool
     ensures { result ≡ in_order (span_of a) (span_of b) }
 {
@@ -27,6 +28,7 @@ pub fn in_order(a: PoolRow, b: PoolRow) -> bool
     a.end != b.end
 }
 
+#[tactic(auto, unfolding(definition::specs::Tables::same_span, definition::specs::Tables::same_dom))]
 pub fn same_row(a: PoolRow, b: PoolRow) -> bool
     ensures { result ≡ same_span (span_of a) (span_of b) }
 {
@@ -38,6 +40,7 @@ pub fn same_row(a: PoolRow, b: PoolRow) -> bool
 }
 
 // Whether a row keeps to its kind's limits and holds a number.
+#[tactic(auto, unfolding(crate::specs::Tests::good_pool))]
 pub fn good_row(l: Limits, r: PoolRow) -> bool
     ensures { result ≡ good_pool l (span_of r) }
 {
@@ -57,6 +60,7 @@ pub fn good_row(l: Limits, r: PoolRow) -> bool
 }
 
 // Whether `r` is in order behind each of the first `k` rows.
+#[tactic(auto, using(tables::proofs::BelowLaws::all_start, tables::proofs::BelowLaws::all_more))]
 pub fn order_below<'a>(
     k: usize,
     controller: &'a [u32; POOL_ROWS],
@@ -79,6 +83,7 @@ pub fn order_below<'a>(
 }
 
 // Whether each row from `n` on is zero. No early end: so the compiler takes several rows at a time.
+#[tactic(auto, using(tables::proofs::BelowLaws::from_start, tables::proofs::BelowLaws::from_next))]
 pub fn unused_zero<'a>(
     n: usize,
     controller: &'a [u32; POOL_ROWS],
@@ -106,6 +111,7 @@ pub fn unused_zero<'a>(
 }
 
 // Whether a table in lent columns has its count within its size and zeros in its unused rows.
+#[tactic(auto, using(crate::proofs::PoolLaws::pool_tidy))]
 pub fn tidy<'a>(
     n: usize,
     controller: &'a [u32; POOL_ROWS],
@@ -122,6 +128,7 @@ pub fn tidy<'a>(
 }
 
 // Whether row `k` is good and in order behind each row before it. None of those starts above `high`, so a row that starts higher is.
+#[tactic(auto, using(crate::proofs::PoolLaws::pool_bad, crate::proofs::PoolLaws::pool_high, crate::proofs::PoolLaws::pool_rest))]
 pub fn row_ok<'a>(
     k: usize,
     high: u64,
@@ -146,6 +153,7 @@ pub fn row_ok<'a>(
 }
 
 // Whether each of the first `n` rows is good and in order.
+#[tactic(auto, using(tables::proofs::BelowLaws::all_start, tables::proofs::BelowLaws::all_more, crate::proofs::HighLaws::high_start, crate::proofs::HighLaws::high_more))]
 pub fn rows_ok<'a>(
     n: usize,
     l: Limits,
@@ -170,6 +178,7 @@ pub fn rows_ok<'a>(
 }
 
 // Whether a table in lent columns is sound.
+#[tactic(auto, using(crate::proofs::PoolLaws::pool_is, crate::proofs::PoolLaws::pool_count), unfolding(crate::specs::Tests::pool_ok))]
 pub fn table_sound<'a>(
     l: Limits,
     n: usize,

@@ -9,6 +9,7 @@ use super::limits::{Limits, capped, higher};
 use tables::{Hit, ROWS, RangeRow, Ranges};
 
 // Whether two ranges have a number in common.
+#[tactic(auto, unfolding(definition::specs::Tables::overlap))]
 pub fn ranges_overlap(start: u64, end: u64, other_start: u64, other_end: u64) -> bool
     ensures { result ≡ overlap start end other_start other_end }
 {
@@ -19,6 +20,7 @@ pub fn ranges_overlap(start: u64, end: u64, other_start: u64, other_end: u64) ->
 }
 
 // Whether two rows have a number and their domain in common. The numbers are the quicker test.
+#[tactic(auto, unfolding(definition::specs::Tables::meets, definition::specs::Tables::same_dom))]
 pub fn rows_meet(a: RangeRow, b: RangeRow) -> bool
     ensures { result ≡ meets (range_of a) (range_of b) }
 {
@@ -34,6 +36,7 @@ pub fn rows_meet(a: RangeRow, b: RangeRow) -> bool
     a.device == b.device
 }
 
+#[tactic(auto, unfolding(definition::specs::Tables::same_row, definition::specs::Tables::same_dom))]
 pub fn same_row(a: RangeRow, b: RangeRow) -> bool
     ensures { result ≡ same_row (range_of a) (range_of b) }
 {
@@ -47,6 +50,7 @@ pub fn same_row(a: RangeRow, b: RangeRow) -> bool
 }
 
 // Whether a row keeps to its kind's limits, holds a number and has an owner.
+#[tactic(auto, unfolding(crate::specs::Tests::good_range))]
 pub fn good_row(l: Limits, r: RangeRow) -> bool
     ensures { result ≡ good_range l (range_of r) }
 {
@@ -72,6 +76,7 @@ pub fn good_row(l: Limits, r: RangeRow) -> bool
 }
 
 // The first of `n` rows, in table order, that meets `r`.
+#[tactic(auto, using(tables::proofs::BelowLaws::first_start, tables::proofs::BelowLaws::first_more))]
 pub fn first_overlap<'a>(
     n: usize,
     controller: &'a [u32; ROWS],
@@ -99,6 +104,7 @@ pub fn first_overlap<'a>(
 }
 
 // Whether each row from `n` on is zero. No early end: so the compiler takes several rows at a time.
+#[tactic(auto, using(tables::proofs::BelowLaws::from_start, tables::proofs::BelowLaws::from_next))]
 pub fn unused_zero<'a>(
     n: usize,
     controller: &'a [u32; ROWS],
@@ -133,6 +139,7 @@ pub fn unused_zero<'a>(
 }
 
 // Whether a table in lent columns has its count within its size and zeros in its unused rows.
+#[tactic(auto, using(crate::proofs::RangeLaws::ranges_tidy))]
 pub fn tidy<'a>(
     n: usize,
     controller: &'a [u32; ROWS],
@@ -151,6 +158,7 @@ pub fn tidy<'a>(
 }
 
 // Whether row `k` is good and meets no row before it. None of those ends above `high`, so a row that starts there or later meets none.
+#[tactic(auto, using(crate::proofs::RangeLaws::range_bad, crate::proofs::RangeLaws::range_high))]
 pub fn row_ok<'a>(
     k: usize,
     high: u64,
@@ -180,6 +188,7 @@ pub fn row_ok<'a>(
 }
 
 // Whether each of the first `n` rows is good and meets no other.
+#[tactic(auto, using(tables::proofs::BelowLaws::all_start, tables::proofs::BelowLaws::all_more, crate::proofs::HighLaws::high_start, crate::proofs::HighLaws::high_more))]
 pub fn rows_ok<'a>(
     n: usize,
     l: Limits,
@@ -206,6 +215,7 @@ pub fn rows_ok<'a>(
 }
 
 // Whether a table in lent columns is sound.
+#[tactic(auto, using(crate::proofs::RangeLaws::ranges_is, crate::proofs::RangeLaws::ranges_count), unfolding(crate::specs::Tests::range_ok))]
 pub fn table_sound<'a>(
     l: Limits,
     n: usize,
@@ -242,6 +252,7 @@ pub fn ranges_sound(l: Limits, t: Ranges) -> bool
 }
 
 // Whether the first `m` rows of two tables in lent columns are the same.
+#[tactic(auto, using(tables::proofs::BelowLaws::all_start, tables::proofs::BelowLaws::all_more))]
 pub fn rows_same<'a>(
     m: usize,
     controller: &'a [u32; ROWS],
@@ -273,6 +284,7 @@ pub fn rows_same<'a>(
 }
 
 // Whether an owner table begins with the reservations, in order, both in lent columns.
+#[tactic(auto, using(crate::proofs::BeginLaws::ranges_begin_is))]
 pub fn begins_with<'a>(
     m: usize,
     controller: &'a [u32; ROWS],
@@ -313,6 +325,7 @@ pub fn begins_with<'a>(
 }
 
 // Whether reservations and owners are sound, and the owners begin with the reservations, all in lent columns. The reservations then stand among the owners, so the test of the owners' pairs serves both.
+#[tactic(auto, using(crate::proofs::BeginLaws::holders_begin, crate::proofs::BeginLaws::holders_unsound, crate::proofs::BeginLaws::holders_untidy))]
 pub fn holders_sound<'a>(
     l: Limits,
     m: usize,

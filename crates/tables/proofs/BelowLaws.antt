@@ -11,7 +11,7 @@ use borrow.Author.Tests.{lt-ltb, le-ltb}
 use Rattle.tables.specs.Below.{all_below, all_from, first, or_at, is_clear}
 use Rattle.tables.specs.declared.Hit.{Hit}
 use Rattle.tables.specs.declared.Hit.TheVariants.{At, Clear}
-use Rattle.definition.specs.BaseLaws.{and_l, and_r, and_i, t_ext, T_true, T_false, true_T, false_T}
+use Rattle.definition.proofs.BaseLaws.{and_l, and_r, and_i, t_ext, T_true, T_false, true_T, false_T}
 
 module _ (q : ℕ → Bool) where
   pub all_start : all_below q 0 ≡ true

@@ -8,7 +8,7 @@ use native.Mathlib.Nat.{eq-or-lt_of_le, le_of_suc-le-suc}
 use native.Mathlib.Omega.{arith}
 use lib.Dec.{T}
 use Rattle.definition.specs.Base.{any_of, first_of}
-use Rattle.definition.specs.BaseLaws.{or_cases, or_l, or_r, first_at, first_past, true_T, false_T}
+use Rattle.definition.proofs.BaseLaws.{or_cases, or_l, or_r, first_at, first_past, true_T, false_T}
 use Rattle.tables.specs.Below.{listed, first, or_at}
 use Rattle.tables.specs.declared.Hit.{Hit}
 use Rattle.tables.specs.declared.Hit.TheVariants.{At, Clear}

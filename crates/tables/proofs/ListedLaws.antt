@@ -9,7 +9,7 @@ use lib.ListN.{length, take, drop, set, get_or, replicate}
 use Rattle.definition.specs.Base.{all_of, pairs_of}
 use Rattle.definition.specs.Tables.{Row, same_row, begins}
 use Rattle.tables.specs.Below.{listed, all_below}
-use Rattle.definition.specs.BaseLaws.{and_l, and_r, and_i, t_ext}
+use Rattle.definition.proofs.BaseLaws.{and_l, and_r, and_i, t_ext}
 use Rattle.tables.proofs.BelowLaws.{all_in, all_out}
 
 module _ {A : Type 0} where

@@ -6,7 +6,7 @@ use lib.Dec.{T, leb, ltb, le→leb}
 use borrow.Author.Tests.{ltb-false}
 use Rattle.definition.specs.Tables.{sound_table, tidy}
 use Rattle.tables.specs.Below.{all_below, all_from, row_ok}
-use Rattle.definition.specs.BaseLaws.{and_l, and_r, and_i, T_true}
+use Rattle.definition.proofs.BaseLaws.{and_l, and_r, and_i, T_true}
 use Rattle.tables.proofs.BelowLaws.{all_in, all_out}
 use Rattle.tables.proofs.TableLaws.{table, tidy_count, tidy_unused, tidy_is, sound_is}
 

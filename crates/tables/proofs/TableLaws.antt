@@ -10,7 +10,7 @@ use borrow.Author.Tests.{le-ltb, ltb-false, leb-true, leb-false, eq-eqb}
 use Rattle.definition.specs.Base.{all_of, pairs_of}
 use Rattle.definition.specs.Tables.{Row, same_row, Table, used, tidy, sound_table, begins}
 use Rattle.tables.specs.Below.{listed, all_below, all_from, row_ok}
-use Rattle.definition.specs.BaseLaws.{and_l, and_r, and_i, t_ext}
+use Rattle.definition.proofs.BaseLaws.{and_l, and_r, and_i, t_ext}
 use Rattle.tables.proofs.BelowLaws.{all_in, all_out}
 use Rattle.tables.proofs.ListedLaws.{listed_length, listed_take, listed_out, listed_in, drop_out, drop_in, pairs_out, pairs_in, begins_is}
 

@@ -1,4 +1,6 @@
 // The tables as columns: what the planner keeps, how a table starts, gains a row and is read. Used rows stand first.
+#![tactic(auto)]
+
 ghost use Rattle.std.specs.Prelude.{◌≡◌, ◌<◌};
 ghost use Rattle.definition.specs.Tables.{pool_limit, row_limit, nature};
 ghost use Rattle.tables.specs.Views.{kind_of, same_of, pool, ranges, inputs, pool_at, range_at, input_at, range_of, input_of};
@@ -15,7 +17,7 @@ pub const RECORD: usize = 9;
 
 // A pool table of any kind. A domain number that a kind does not use is 0 in every row.
 #[repr(C)]
-#[derive(Drop)]
+#[derive(Clone, Copy)]
 pub struct Pool {
     pub n: usize,
     pub controller: [u32; POOL_ROWS],
@@ -26,7 +28,7 @@ pub struct Pool {
 
 // A reservation or owner table of a kind whose rows hold ranges: every kind but inputs.
 #[repr(C)]
-#[derive(Drop)]
+#[derive(Clone, Copy)]
 pub struct Ranges {
     pub n: usize,
     pub controller: [u32; ROWS],
@@ -39,7 +41,7 @@ pub struct Ranges {
 
 // A reservation or owner table of inputs: one number a row, with its codes.
 #[repr(C)]
-#[derive(Drop)]
+#[derive(Clone, Copy)]
 pub struct Inputs {
     pub n: usize,
     pub controller: [u32; ROWS],
@@ -51,7 +53,7 @@ pub struct Inputs {
 
 // The pool tables of one use, automatic or fixed.
 #[repr(C)]
-#[derive(Drop)]
+#[derive(Clone, Copy)]
 pub struct Pools {
     pub mmio: Pool,
     pub pio: Pool,
@@ -64,7 +66,7 @@ pub struct Pools {
 
 // The reservation tables, or the owner tables.
 #[repr(C)]
-#[derive(Drop)]
+#[derive(Clone, Copy)]
 pub struct Holders {
     pub mmio: Ranges,
     pub pio: Ranges,
@@ -77,7 +79,7 @@ pub struct Holders {
 
 // All tables, and the five numbers of the last answer.
 #[repr(C)]
-#[derive(Drop)]
+#[derive(Clone, Copy)]
 pub struct State {
     pub auto: Pools,
     pub fixed: Pools,
@@ -91,7 +93,7 @@ pub struct State {
 }
 
 // The kinds, each with its tables.
-#[derive(Drop)]
+#[derive(Clone, Copy)]
 pub enum Kind {
     Mmio,
     Pio,
@@ -125,17 +127,17 @@ pub fn same_kind(one: Kind, other: Kind) -> bool
 }
 
 // Three numbers that cannot be passed for one another.
-#[derive(Drop)]
+#[derive(Clone, Copy)]
 pub struct DeviceId(pub u32);
 
-#[derive(Drop)]
+#[derive(Clone, Copy)]
 pub struct EventId(pub u32);
 
-#[derive(Drop)]
+#[derive(Clone, Copy)]
 pub struct Lpi(pub u32);
 
 // One row of each layout.
-#[derive(Drop)]
+#[derive(Clone, Copy)]
 pub struct PoolRow {
     pub controller: u32,
     pub its: u32,
@@ -143,7 +145,7 @@ pub struct PoolRow {
     pub end: u64,
 }
 
-#[derive(Drop)]
+#[derive(Clone, Copy)]
 pub struct RangeRow {
     pub controller: u32,
     pub its: u32,
@@ -153,7 +155,7 @@ pub struct RangeRow {
     pub owner: u32,
 }
 
-#[derive(Drop)]
+#[derive(Clone, Copy)]
 pub struct InputRow {
     pub controller: u32,
     pub input: u64,
@@ -163,7 +165,7 @@ pub struct InputRow {
 }
 
 // The first row that passes a test, if any does.
-#[derive(Drop)]
+#[derive(Clone, Copy)]
 pub enum Hit {
     At(usize),
     Clear,

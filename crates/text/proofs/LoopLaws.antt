@@ -11,7 +11,7 @@ use lib.Dec.{T, eqb, ltb}
 use lib.ListN.{length, drop}
 use lib.Seq.{drop-drop}
 use borrow.Author.Tests.{ltb-true, ltb-false}
-use Rattle.definition.specs.BaseLaws.{T_true, true_T, and_l, and_r}
+use Rattle.definition.proofs.BaseLaws.{T_true, true_T, and_l, and_r}
 use Rattle.definition.specs.Tables.{plan_limit, record_size, kinds}
 use Rattle.definition.specs.Calls.{State, given, Call, pool, hold, start, want}
 use Rattle.definition.specs.Plan.{Lent}

@@ -12,17 +12,17 @@ use lib.Dec.{eqb, ltb, eqb→eq}
 use lib.ListN.{length, take, drop, replicate, length-append, length-take}
 use lib.Seq.{take-append_seam, drop-append_seam, drop-drop}
 use borrow.Author.Tests.{eq-eqb, ne_eqb, lt-ltb, ltb-true, ltb-false}
-use Rattle.definition.specs.BaseLaws.{T_true, true_T}
-use Rattle.definition.specs.RowLaws.{every_kind}
+use Rattle.definition.proofs.BaseLaws.{T_true, true_T}
+use Rattle.definition.proofs.RowLaws.{every_kind}
 use Rattle.definition.specs.Base.{Refusal, bad_line, short, Said, says, tell, Answer, accepted, refused}
 use Rattle.definition.specs.Tables.{plan_limit, record_size, kinds}
 use Rattle.definition.specs.Pools.{Claim}
 use Rattle.definition.specs.Request.{Request, resolve}
 use Rattle.definition.specs.Calls.{State, pools_of, owners_of, given, sound, granting, Call, pool, hold, start, want, serve}
-use Rattle.definition.specs.StateLaws.{SoundFor, given_for, for_given, sound_for, for_sound, serve_given, started_sound, want_sound}
+use Rattle.definition.proofs.StateLaws.{SoundFor, given_for, for_given, sound_for, for_sound, serve_given, started_sound, want_sound}
 use Rattle.definition.specs.Plan.{grant, record_of_grant, Lent, lent, allocate_into}
-use Rattle.definition.specs.RunLaws.{record_length}
-use Rattle.definition.specs.PlanLaws.{tell_number, start_is}
+use Rattle.definition.proofs.RunLaws.{record_length}
+use Rattle.definition.proofs.PlanLaws.{tell_number, start_is}
 use Rattle.lines.specs.Text as Text
 use Rattle.lines.specs.Text.{sofar, accepts, next, refuse, set_up, opened, naming, answered, ask, take_line}
 use Rattle.lines.proofs.WantLaws.{want_serves, want_record}

@@ -1,4 +1,6 @@
 // The text call: a plan's text is answered by the bytes of 01's lines.
+#![tactic(auto)]
+
 ghost use Rattle.std.specs.Prelude.{◌≡◌, ◌*◌, ◌≤◌, length};
 ghost use Rattle.definition.specs.Tables.{record_size};
 ghost use Rattle.definition.specs.Calls.{fresh};
@@ -23,7 +25,7 @@ pub const TEXT: usize = 65536;
 pub const RESULTS: usize = RECORD * PLAN;
 
 // 0 and how many bytes were written; or 11 where the buffer is too short for the longest output, and nothing written.
-#[derive(Drop)]
+#[derive(Clone, Copy)]
 pub struct Response {
     pub number: u64,
     pub length: usize,

@@ -1,9 +1,2 @@
-pub mod Columns
-pub mod Frame
-pub mod KindValue
-pub mod Passing
 pub mod Prelude
-pub mod StateParts
-pub mod Straight
-pub mod Row
-pub mod Again
+pub mod KindValue

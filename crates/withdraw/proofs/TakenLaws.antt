@@ -7,13 +7,13 @@ use native.Mathlib.Omega.{arith}
 use lib.Dec.{T, ltb, leb, eqb, ltb→lt, lt→ltb, leb→le}
 use borrow.Author.Tests.{le-ltb}
 use Rattle.definition.specs.Base.{any_of, tell, not_found, silence}
-use Rattle.definition.specs.BaseLaws.{and_l, and_r, T_true, T_false, true_T, not_T→, either, in_any}
+use Rattle.definition.proofs.BaseLaws.{and_l, and_r, T_true, T_false, true_T, not_T→, either, in_any}
 use Rattle.definition.specs.Tables.{top, Kind, kinds, Row, Table, blank_row}
-use Rattle.definition.specs.RowLaws.{every_kind}
+use Rattle.definition.proofs.RowLaws.{every_kind}
 use Rattle.definition.specs.Calls as C
 use Rattle.definition.specs.Cut.{close_to, closing}
 use Rattle.definition.specs.Withdraw.{owned_by, holds_grant, a_requester, withdraw}
-use Rattle.definition.specs.WithdrawLaws.{withdraw_malformed, withdraw_nobody, withdraw_none, withdraw_takes, close_withdraws, close_none, close_shorter}
+use Rattle.definition.proofs.WithdrawLaws.{withdraw_malformed, withdraw_nobody, withdraw_none, withdraw_takes, close_withdraws, close_none, close_shorter}
 use Rattle.tables.specs.Views.{state_view}
 use Rattle.tables.specs.declared.State.{State}
 use Rattle.insert.specs.Answers.{heard}

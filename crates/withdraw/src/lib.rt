@@ -1,4 +1,6 @@
 // A withdrawal on a lent state: everything that was granted to one requester goes from the owner tables, in place.
+#![tactic(auto)]
+
 ghost use Rattle.std.specs.Prelude.{◌≡◌, ◌||◌, ◌≤◌, ltb};
 ghost use Rattle.definition.specs.Tables.{top};
 ghost use Rattle.definition.specs.Withdraw.{a_requester, withdraw};

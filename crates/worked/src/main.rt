@@ -1,4 +1,5 @@
 // Worked cases of pools, reservations and start. Each expectation is proved, and run.
+#![tactic(auto)]
 
 fn main() {
     // a range is reserved, and one that overlaps it is refused and names its owner

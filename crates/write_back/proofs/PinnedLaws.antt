@@ -9,11 +9,11 @@ use lib.Dec.{T}
 use lib.ListN.{length, take, drop}
 use lib.Seq.{drop_at}
 use Rattle.definition.specs.Tables.{record_size}
-use Rattle.definition.specs.BaseLaws.{and_l, and_r, true_T}
+use Rattle.definition.proofs.BaseLaws.{and_l, and_r, true_T}
 use Rattle.definition.specs.Request.{Request}
 use Rattle.definition.specs.Calls.{Call, pool, hold, start, want}
 use Rattle.definition.specs.Plan.{Grant, record_of_grant, records, pinned}
-use Rattle.definition.specs.RunLaws.{record_length}
+use Rattle.definition.proofs.RunLaws.{record_length}
 use Rattle.lines.specs.Base.{newline}
 use Rattle.lines.specs.Forms.{want_spelling}
 use Rattle.lines.specs.Line.{read_line, line_of, spellable, sayable}

@@ -9,7 +9,7 @@ use lib.Dec.{eqb, leb}
 use lib.ListN.{length, take, drop, take-append-drop}
 use lib.Seq.{sets, sets-eq}
 use borrow.Author.Tests.{le-leb, lt-leb, eq-eqb, ne_eqb}
-use Rattle.definition.specs.BaseLaws.{and_false}
+use Rattle.definition.proofs.BaseLaws.{and_false}
 use Rattle.definition.specs.Tables.{record_size}
 use Rattle.definition.specs.Base.{silence, short, tell}
 use Rattle.definition.specs.Calls.{State, fresh, Call}

@@ -1,4 +1,6 @@
 // The pinned text: an accepted plan's text with the numbers granted in place of each last field `auto`.
+#![tactic(auto)]
+
 ghost use Rattle.std.specs.Prelude.{◌≡◌, ◌≤◌, length};
 ghost use Rattle.lines.specs.Base.{newline, split};
 ghost use Rattle.writers.specs.Put.{Put};
@@ -62,7 +64,7 @@ pub fn put_back(out: &mut [u8], text: &[u8], results: &[u64]) -> usize
 }
 
 // What writing back answers: the five numbers of a `no` line, and how many bytes were written.
-#[derive(Drop)]
+#[derive(Clone, Copy)]
 pub struct Written {
     pub line: u64,
     pub number: u64,

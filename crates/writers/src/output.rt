@@ -18,6 +18,7 @@ pub const GOT: usize = 3 + 2 * FIELD + 4 + 6 * FIELD + 1;
 pub const END: usize = 3 + FIELD + 1;
 
 // How many numbers a record of kind k carries.
+#[tactic(auto, unfolding(lines::specs::Output::carried_by))]
 pub fn carried(k: u64) -> usize
     ensures { result ≡ (carried_by k).count }
 {
@@ -37,6 +38,7 @@ pub fn carried(k: u64) -> usize
 }
 
 // A tab, and the word of kind k.
+#[tactic(auto, unfolding(lines::specs::Output::carried_by))]
 pub fn put_kind(out: &mut [u8], at: usize, k: u64) -> usize
     requires { at + length (tab ∷ (carried_by k).word) ≤ length out.old }
     ensures { Put out.old at (tab ∷ (carried_by k).word) result out.new }
@@ -72,6 +74,7 @@ pub fn put_got(out: &mut [u8], at: usize, r: &[u64]) -> usize
 }
 
 // The `end` line: how many requests were answered.
+#[tactic(auto, unfolding(lines::specs::Output::end_line))]
 pub fn put_end(out: &mut [u8], at: usize, n: u64) -> usize
     requires { at + length (end_line n) ≤ length out.old }
     ensures { Put out.old at (end_line n) result out.new }
@@ -80,6 +83,7 @@ pub fn put_end(out: &mut [u8], at: usize, n: u64) -> usize
 }
 
 // The `no` line: the refused line's number, and what it was answered.
+#[tactic(auto, unfolding(lines::specs::Output::no_line))]
 pub fn put_no(
     out: &mut [u8],
     at: usize,

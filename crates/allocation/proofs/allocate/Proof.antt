@@ -1,6 +1,6 @@
 -- Unsound tables are refused; the rest is the core's answer. Assumes nothing.
 use mathlib.Core.Path.{sym, ◌∙◌}
-use Rattle.definition.specs.BaseLaws.{true_T}
+use Rattle.definition.proofs.BaseLaws.{true_T}
 use Rattle.allocation.proofs.ServeLaws.{serve_sound, serve_unsound}
 use borrow.Author.Rules.{rules}
 use Rattle.allocation.proofs.allocate.Statement.{statement}

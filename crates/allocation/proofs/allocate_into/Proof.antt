@@ -4,7 +4,7 @@ use mathlib.Core.Path.{sym, ap, ◌∙◌}
 use Prim.Native.Nat.{◌≤◌, ◌<◌}
 use lib.ListN.{length}
 use Rattle.definition.specs.Tables.{record_size}
-use Rattle.definition.specs.BaseLaws.{true_T}
+use Rattle.definition.proofs.BaseLaws.{true_T}
 use Rattle.definition.specs.Plan.{lent}
 use Rattle.allocation.specs.Records.{list_of, record_in}
 use Rattle.allocation.proofs.RecordLaws.{record_granted}

@@ -7,7 +7,7 @@ use denote.Builtin.{u8}
 use denote.Struct.Laws as LL
 use Rattle.definition.specs.Tables.{kinds}
 use Rattle.definition.specs.Calls as C
-use Rattle.definition.specs.StateLaws.{for_given, sound_for, fresh_sound}
+use Rattle.definition.proofs.StateLaws.{for_given, sound_for, fresh_sound}
 use Rattle.tables.specs.Views.{state_view}
 use Rattle.tables.specs.Whole.{fresh_state}
 use Rattle.tables.specs.declared.State.{State}

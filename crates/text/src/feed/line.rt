@@ -9,7 +9,7 @@ use reader::read::read_line;
 use request::call::Call;
 
 // The call that it says, and where the next line starts.
-#[derive(Drop)]
+#[derive(Clone, Copy)]
 pub struct Line {
     pub call: Call,
     pub next: usize,

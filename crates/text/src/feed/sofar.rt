@@ -13,7 +13,7 @@ use request::{Request, Want};
 use tables::PLAN;
 
 // Where the next line starts; the lines taken and the wants accepted; the five numbers that the last line was answered.
-#[derive(Drop)]
+#[derive(Clone, Copy)]
 pub struct Sofar {
     pub at: usize,
     pub lines: u64,

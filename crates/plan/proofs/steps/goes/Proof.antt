@@ -3,7 +3,7 @@ use mathlib.Core.Path.{ap, sym}
 use mathlib.Core.Bool.{◌&&◌}
 use Prim.Native.Nat.{◌/◌}
 use lib.Dec.{ltb, eqb, eqb→eq}
-use Rattle.definition.specs.BaseLaws.{T_false}
+use Rattle.definition.proofs.BaseLaws.{T_false}
 use Rattle.definition.specs.Tables.{record_size}
 use Rattle.plan.proofs.steps.goes.Statement.{statement}
 use Rattle.plan.proofs.steps.goes.Tie as tie

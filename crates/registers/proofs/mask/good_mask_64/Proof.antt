@@ -1,7 +1,7 @@
 -- The zeros that the machine counts. Assumes nothing.
 use Rattle.std.proofs.Common.{◌-◌, ◌^◌, sym, arith, rules}
 use lib.Count.{leading_le, trailing_le}
-use Rattle.definition.specs.MaskLaws.{mask_zeros}
+use Rattle.definition.proofs.MaskLaws.{mask_zeros}
 use Rattle.registers.proofs.SizeLaws.{mask_zero}
 use Rattle.registers.proofs.mask.good_mask_64.Statement.{statement}
 use Rattle.registers.proofs.mask.good_mask_64.Tie as tie

@@ -7,7 +7,7 @@ use mathlib.Core.Option.{some as some'}
 use mir.Syntax.{Body}
 use denote.Builtin.{u8}
 use denote.Struct.Laws as LL
-use Rattle.definition.specs.BaseLaws.{T_true, T_false, not_T→}
+use Rattle.definition.proofs.BaseLaws.{T_true, T_false, not_T→}
 use Rattle.definition.specs.Tables.{kinds}
 use Rattle.definition.specs.Calls.{given}
 use Rattle.lines.specs.Place.{call_at, next_at}

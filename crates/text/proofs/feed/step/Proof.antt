@@ -5,7 +5,7 @@ use denote.Ref.{MutBor, mut_vals}
 use Rattle.walks.proofs.Prelude.{◌≡◌, refl, sym, ap, ap₂, subst, ◌∙◌, ℕ, ◌<◌, ◌^◌, Bool, [], ◌∷◌, List, none, length, Ura, named, w64, Local, Val, vint, vunit, vptr, vbool, SProp, ent, emp, via, id⊢, GName, Lft, Share, ftrue, flft, Memory, Routine, WpFn, Tables, sem, Fun, fact_i, AllOutlive, tables, tables_of, Item, at_ret, mean, ‵, ◌⊛◌, ◌$◌, ◌∵◌, !, qed, move, keep, split, join, fsplit, fjoin, suffices, frame, done, load, and_then, no_more, addr, hop, fld, from, stop, agg, whole, sub, FmC, fm_of, WpFn-mono, owns, Is, uint_Tells, bool_Tells, Nothing-Tells, usize, u64, bool, unit, RefT, MutRef, ptr-vals, mut_Tells, slice_val, MutSlice, Room, slice-vals, mut_slice_Tells, plain, owned, nothing, on_entry, Meets, triple_of, Contract, Triple, entered, cited, needs, Stays, stay_none, stay_ref, stay_slice, walk_of, AllGo, Goes-none, Goes-ref, Goes-slice, Walks, walked, walk_Meets, yes}
 use denote.Struct.Laws as LL
 use denote.Enum.Laws as EE
-use Rattle.definition.specs.BaseLaws.{T_true, T_false, not_T→}
+use Rattle.definition.proofs.BaseLaws.{T_true, T_false, not_T→}
 use Rattle.definition.specs.Plan.{lent}
 use Rattle.tables.specs.Views.{state_view}
 use Rattle.tables.specs.declared.State.{State}

@@ -1,7 +1,7 @@
 -- Each number in turn. Assumes nothing.
 use mathlib.Core.Path.{sym}
 use Rattle.definition.specs.Base.{all_of}
-use Rattle.definition.specs.BaseLaws.{and_true}
+use Rattle.definition.proofs.BaseLaws.{and_true}
 use borrow.Author.Tests.{lt-leb, le-leb}
 use lib.Dec.{leb}
 use native.Mathlib.Omega.{arith}

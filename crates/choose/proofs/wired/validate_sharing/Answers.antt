@@ -1,0 +1,16 @@
+-- The trigger before the sharing, and the request's before the row's. Assumes nothing.
+use Rattle.std.proofs.Common.{arith}
+use Rattle.choose.proofs.SharingLaws.{differ, alone, taken, joined}
+use Rattle.choose.proofs.wired.validate_sharing.Goals as goal
+
+pub returns-then-need-held : goal.returns-then-need-held
+returns-then-need-held c = λ b. differ _ b _ c.if-need-held.true
+
+pub returns-then-need-ne1 : goal.returns-then-need-ne1
+returns-then-need-ne1 c = λ b. alone _ b _ (omega arith) c.if-need-ne1.true
+
+pub returns-then-held-ne1 : goal.returns-then-held-ne1
+returns-then-held-ne1 c = λ b. taken _ b _ (omega arith) (omega arith) c.if-held-ne1.true
+
+pub returns : goal.returns
+returns c = λ b. joined _ b _ (omega arith) (omega arith) (omega arith)
