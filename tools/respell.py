@@ -11,7 +11,7 @@ import re
 import sys
 
 MODIFIERS = r"(?:(?:unfoldable|abbrev|pub)\s+)*"
-DECLARES = re.compile(r"^\s*" + MODIFIERS + r"([^\s(){}.;,@\"«»]+(?: [^\s(){}.;,@\"«»:]+)*)(?:\s*\{[^{}]*\})*(?:\s*\([^()]*\))*\s*:\s")
+DECLARES = re.compile(r"^\s*" + MODIFIERS + r"([^\s(){}.;,@\"«»]+(?: [^\s(){}.;,@\"«»:]+)*)(?:\s*\{[^{}]*\})*(?:\s*\([^()]*\))*\s*:(?:\s|$)")
 WORD = re.compile(r"[^\s(){}.;,@\"«»`]+")
 STRING = re.compile(r'b?"(?:[^"\\\n]|\\.)*"')
 # names that a record of the checker's holds: after these a name is the checker's

@@ -18,7 +18,7 @@ use Rattle.tables.specs.Sized.{SizedRanges, SizedInputs}
 use Rattle.tables.specs.declared.State.{State}
 use Rattle.tables.specs.declared.Ranges.{Ranges}
 use Rattle.tables.specs.declared.RangeRow.{RangeRow}
-use Rattle.tables.proofs.PushLaws.{push-range-view, push-input-view}
+use Rattle.tables.proofs.PushLaws.{push_range_view, push_input_view}
 use Rattle.search.specs.declared.Need.{Need}
 use Rattle.choose.specs.Told.{refusal_of, told, chosen_in}
 use Rattle.choose.specs.Wired.{input_asked}
@@ -50,7 +50,7 @@ none n e = let z : ◌≡◌ {A = ℕ} 0 1 = cc in absurd (omega arith)
 
 -- a row at the end of a table, seen through the view
 pushed : (t : Ranges) (r : RangeRow) → SizedRanges t → t.n < row_limit → ranges_view (pushed_range t (range_of r)) ≡ push_all (ranges_view t) (range_of r ∷ [])
-pushed t r z l = push-range-view t (dom r.controller r.its r.device) r.start r.end r.owner z l
+pushed t r z l = push_range_view t (dom r.controller r.its r.device) r.start r.end r.owner z l
 
 module _ (s : State) (q : R.Request) where
   pub refused_finds : (y : Refusal) → refused (refusal_of y) ≡ answer s q → Finds s q (refusal y)
@@ -72,13 +72,13 @@ module _ (s : State) (q : R.Request) where
       }
 
   -- one table's answer, whichever it is
-  pub given-finds :
+  pub given_finds :
       (k : Kind) (n : R.Need) (ps fs : List Span) (rs : List Row) (c : R.Choice) (x : Chosen) (f : ℕ → ℕ → Granted)
       → answer s q ≡ claim_of k (chosen_in ps fs rs n c) → told n x ≡ chosen_in ps fs rs n c
       → ((b e : ℕ) → length rs < row_limit → e ≡ b + n.size → claim_of k (told n (Stands b e)) ≡ answer s q → Finds s q (f b e))
       → Finds s q (given f x)
-  given-finds k n ps fs rs c (Refused y) f a t g = refused_finds y (sym (a ∙ ap (claim_of k) (sym t)))
-  given-finds k n ps fs rs c (Stands b e) f a t g = g b e (stands_room rs _ _ t) (stands_end ps fs rs n c _ t) (sym (a ∙ ap (claim_of k) (sym t)))
+  given_finds k n ps fs rs c (Refused y) f a t g = refused_finds y (sym (a ∙ ap (claim_of k) (sym t)))
+  given_finds k n ps fs rs c (Stands b e) f a t g = g b e (stands_room rs _ _ t) (stands_end ps fs rs n c _ t) (sym (a ∙ ap (claim_of k) (sym t)))
 
   -- a request of one range
   module _ (one : (cs : List Claim) → some_base (base_at 0 cs) ≡ firsts_in q.want cs) where
@@ -105,7 +105,7 @@ module _ (s : State) (q : R.Request) where
     input_finds z w b e l h a =
         granted_finds (at_kind input (input_of (input_for w b)) ∷ []) (input_granted w b e) (ap (λ x. claim_of input (told (input_asked w) (Stands b x))) (sym (h ∙ add-one b)) ∙ a)
         (record { mmio = none _; pio = none _; input = λ _. l; host = none _; device = none _; event = none _; lpi = none _ }) refl (one _)
-        (record { mmio = refl; pio = refl; input = push-input-view s.owners.input w.controller b w.trigger w.sharing w.requester z l; host = refl; device = refl; event = refl; lpi = refl })
+        (record { mmio = refl; pio = refl; input = push_input_view s.owners.input w.controller b w.trigger w.sharing w.requester z l; host = refl; device = refl; event = refl; lpi = refl })
 
   -- a device, its events and LPIs
   module _ (z : SizedRanges s.owners.device) (z' : SizedRanges s.owners.event) (z'' : SizedRanges s.owners.lpi)

@@ -43,18 +43,18 @@ use Rattle.decide.proofs.QueryLaws.{good_query, bad_query}
 use Rattle.decide.proofs.RoomLaws.{standing_is}
 use Rattle.decide.proofs.AnswerLaws.{claim_of, one_claimed, resolve_bad, resolve_good}
 use Rattle.decide.proofs.AskLaws.{counted}
-use Rattle.decide.proofs.KeptLaws.{refused_finds, given-finds, mmio_finds, pio_finds, host_finds, input_finds}
+use Rattle.decide.proofs.KeptLaws.{refused_finds, given_finds, mmio_finds, pio_finds, host_finds, input_finds}
 use Rattle.decide.proofs.MsiLaws.{msi_verdict_finds}
 
 module _ (s : State) (t : T (sound kinds (state_view s))) where
   -- MMIO, ports, host IRQs: what they have in common
-  range-finds :
+  range_finds :
       (q : R.Request) (j : Kind) (a f : Pool) (o : Ranges) (n : Need) (c : Choice) (x : Seen) → o.n ≤ row_limit → Sees a f o (ask n c) x
       → answer s q ≡ claim_of j (chosen_in (used (pool_view a)) (used (pool_view f)) (used (ranges_view o)) (need_of n) (choice_of c))
       → ((b e : ℕ) → o.n < row_limit → accepted (at_kind j (range_of (row_for n b e)) ∷ []) ≡ answer s q → Finds s q (range_granted n b e))
       → Finds s q (given (range_granted n) (standing x.at x.chosen))
-  range-finds q j a f o n c x l y e g =
-      given-finds s q j (need_of n) _ _ _ (choice_of c) (standing x.at x.chosen) (range_granted n) e
+  range_finds q j a f o n c x l y e g =
+      given_finds s q j (need_of n) _ _ _ (choice_of c) (standing x.at x.chosen) (range_granted n) e
       (standing_is _ _ _ (need_of n) (choice_of c) x.chosen x.at (y.chosen refl) (ranges_length o l ∙ sym y.at)) (λ b e h w. g b e (omega (arith, ranges_length o l)))
 
   module _ (m p w h d e l : Seen) where
@@ -63,16 +63,16 @@ module _ (s : State) (t : T (sound kinds (state_view s))) where
     unfolding claims
     wanted_finds r i (Mmio v a c) is y =
         let n : Need = needing K.Mmio v a r in
-        range-finds _ mmio s.auto.mmio s.fixed.mmio s.owners.mmio n c m (counted s mmio t) y (is ∙ one_claimed (state_view s) r (want_of (Mmio v a c)) (need_of n) (choice_of c) refl) (mmio_finds s _ (λ cs. refl) y.sized n)
+        range_finds _ mmio s.auto.mmio s.fixed.mmio s.owners.mmio n c m (counted s mmio t) y (is ∙ one_claimed (state_view s) r (want_of (Mmio v a c)) (need_of n) (choice_of c) refl) (mmio_finds s _ (λ cs. refl) y.sized n)
     wanted_finds r i (Pio v a c) is y =
         let n : Need = needing K.Pio v a r in
-        range-finds _ pio s.auto.pio s.fixed.pio s.owners.pio n c p (counted s pio t) y (is ∙ one_claimed (state_view s) r (want_of (Pio v a c)) (need_of n) (choice_of c) refl) (pio_finds s _ (λ cs. refl) y.sized n)
+        range_finds _ pio s.auto.pio s.fixed.pio s.owners.pio n c p (counted s pio t) y (is ∙ one_claimed (state_view s) r (want_of (Pio v a c)) (need_of n) (choice_of c) refl) (pio_finds s _ (λ cs. refl) y.sized n)
     wanted_finds r i (Host c) is y =
         let n : Need = needing K.Host 1 1 r in
-        range-finds _ host s.auto.host s.fixed.host s.owners.host n c h (counted s host t) y (is ∙ one_claimed (state_view s) r (want_of (Host c)) (need_of n) (choice_of c) refl) (host_finds s _ (λ cs. refl) y.sized n)
+        range_finds _ host s.auto.host s.fixed.host s.owners.host n c h (counted s host t) y (is ∙ one_claimed (state_view s) r (want_of (Host c)) (need_of n) (choice_of c) refl) (host_finds s _ (λ cs. refl) y.sized n)
     wanted_finds r i (Input k g v c) is y =
         let x : InputNeed = record { controller = k; trigger = g; sharing = v; requester = r } in
-        given-finds s _ input (input_asked x) _ _ _ (choice_of c) (standing w.at w.chosen) _ (is ∙ one_claimed (state_view s) r (want_of (Input k g v c)) (input_asked x) (choice_of c) refl)
+        given_finds s _ input (input_asked x) _ _ _ (choice_of c) (standing w.at w.chosen) _ (is ∙ one_claimed (state_view s) r (want_of (Input k g v c)) (input_asked x) (choice_of c) refl)
         (standing_is _ _ _ (input_asked x) (choice_of c) w.chosen w.at (y.chosen refl) (inputs_length s.owners.input (counted s input t) ∙ sym y.at))
         (λ b e u. input_finds s _ (λ cs. refl) y.sized x b e (omega (arith, inputs_length s.owners.input (counted s input t))))
     wanted_finds r i (Msi k j c dc ec lc) is y =

@@ -18,7 +18,7 @@ use Rattle.tables.specs.declared.Inputs.{Inputs}
 use Rattle.tables.specs.declared.Holders.{Holders}
 use Rattle.tables.specs.declared.RangeRow.{RangeRow}
 use Rattle.tables.specs.declared.InputRow.{InputRow}
-use Rattle.tables.proofs.PushLaws.{push-range-view, push-input-view}
+use Rattle.tables.proofs.PushLaws.{push_range_view, push_input_view}
 use Rattle.lent_table.specs.Store.{Free, put_range, put_input}
 use Rattle.adding.specs.Adds.{pick, goes_to}
 use Rattle.adding.specs.Judged.{stays_of}
@@ -49,11 +49,11 @@ SizedAt h event = SizedRanges h.event
 SizedAt h lpi = SizedRanges h.lpi
 
 range_put : (r : RangeRow) (t : Ranges) (b : Bool) → SizedRanges t → Free t.n b → ranges_view (put_range t (record { go = b; row = r })) ≡ push_all (ranges_view t) (pick b (range_of r ∷ []) [])
-range_put r t true z room = push-range-view t _ _ _ _ z (room refl)
+range_put r t true z room = push_range_view t _ _ _ _ z (room refl)
 range_put r t false z room = sym (push_nil (ranges_view t))
 
 input_put : (r : InputRow) (t : Inputs) (b : Bool) → SizedInputs t → Free t.n b → inputs_view (put_input t (record { go = b; row = r })) ≡ push_all (inputs_view t) (pick b (input_of r ∷ []) [])
-input_put r t true z room = push-input-view t _ _ _ _ _ z (room refl)
+input_put r t true z room = push_input_view t _ _ _ _ _ z (room refl)
 input_put r t false z room = sym (push_nil (inputs_view t))
 
 pub held_put : (v : Verdict) (h : Holders) (k : Kind) → SizedAt h k → Free (holders_view h k).count (stays_of v T.Held (kind_in k)) → holders_view (held_with v h) k ≡ push_all (holders_view h k) (pick (stays_of v T.Held (kind_in k)) (row_in v.adds.row v.adds.input k ∷ []) [])

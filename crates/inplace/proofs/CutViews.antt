@@ -19,7 +19,7 @@ use Rattle.tables.specs.declared.Ranges.{Ranges}
 use Rattle.tables.specs.declared.Inputs.{Inputs}
 use Rattle.tables.specs.declared.Holders.{Holders}
 use Rattle.tables.specs.declared.State.{State}
-use Rattle.tables.proofs.ListedLaws.{listed_length, listed_at, listed-set}
+use Rattle.tables.proofs.ListedLaws.{listed_length, listed_at, listed_set}
 use Rattle.inplace.specs.Cut.{goes, goes_by, placed, closed, lesser, close_ranges, close_inputs}
 use Rattle.inplace.specs.Marks.{marks_by, counts_in, taken_out}
 use Rattle.inplace.specs.declared.marks.Marks.{Marks}
@@ -57,7 +57,7 @@ module _ (F : (List ℕ → ℕ) → Row) (owners : List ℕ) (own : (g : List �
 
   -- one row stored in every column
   set_rows : (f f' : List ℕ → List ℕ) (j : ℕ) (g : List ℕ → ℕ) → j < row_limit → ((c : List ℕ) → get_or (f' c) j 0 ≡ g c) → ((c : List ℕ) (i : ℕ) → (i ≡ j → ⊥) → get_or (f' c) i 0 ≡ get_or (f c) i 0) → rows_by f' ≡ set (rows_by f) j (F g)
-  set_rows f f' j g l here others = listed-set (λ i. F (λ c. get_or (f c) i 0)) (λ i. F (λ c. get_or (f' c) i 0)) j row_limit (F g) l (λ h. F (λ c. here c h)) (λ i o h. F (λ c. others c i o h))
+  set_rows f f' j g l here others = listed_set (λ i. F (λ c. get_or (f c) i 0)) (λ i. F (λ c. get_or (f' c) i 0)) j row_limit (F g) l (λ h. F (λ c. here c h)) (λ i o h. F (λ c. others c i o h))
 
   module _ (k : ℕ) (l : m + k < row_limit) where
     row_is : get_or was (m + k) (F (λ c. 0)) ≡ F (λ c. get_or c (m + k) 0)

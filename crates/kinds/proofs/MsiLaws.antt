@@ -14,7 +14,7 @@ use Rattle.definition.specs.Calls.{State, state, push_all, pools_of, owners_of, 
 use Rattle.definition.proofs.StateLaws.{Sound, sound_says}
 use Rattle.tables.specs.Views.{ranges_view}
 use Rattle.tables.specs.declared.Ranges.{Ranges}
-use Rattle.sound.proofs.KindLaws.{set-ranges}
+use Rattle.sound.proofs.KindLaws.{set_ranges_is}
 use Rattle.choose.specs.Told.{refusal_of}
 use Rattle.msi.specs.Msi.{msi_rows, told_msi, asked_msi}
 use Rattle.msi.specs.declared.Msi.{Msi}
@@ -44,13 +44,13 @@ owners_is t x o v e h = ap (λ (y : RangeTables). ranges_view y.owners) e ∙ h
 
 module _ (t : MsiTables) (i : Said) where
   set_device : sound_at (msi_state t i) device ≡ set_of device t.device
-  set_device = set-ranges (msi_state t i) device refl _ _ _ _ refl refl refl refl
+  set_device = set_ranges_is (msi_state t i) device refl _ _ _ _ refl refl refl refl
 
   set_event : sound_at (msi_state t i) event ≡ set_of event t.event
-  set_event = set-ranges (msi_state t i) event refl _ _ _ _ refl refl refl refl
+  set_event = set_ranges_is (msi_state t i) event refl _ _ _ _ refl refl refl refl
 
   set_lpi : sound_at (msi_state t i) lpi ≡ set_of lpi t.lpi
-  set_lpi = set-ranges (msi_state t i) lpi refl _ _ _ _ refl refl refl refl
+  set_lpi = set_ranges_is (msi_state t i) lpi refl _ _ _ _ refl refl refl refl
 
   judged : sound three (msi_state t i) ≡ set_msi t
   unfolding sound all_of set_msi

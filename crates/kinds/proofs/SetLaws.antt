@@ -17,7 +17,7 @@ use Rattle.tables.specs.declared.Inputs.{Inputs}
 use Rattle.table_tests.specs.Tests.{limits_of}
 use Rattle.table_tests.proofs.KindLaws.{Ranged}
 use Rattle.sound.specs.Tests.{set_ranges, set_inputs}
-use Rattle.sound.proofs.KindLaws.{set-ranges, set-inputs}
+use Rattle.sound.proofs.KindLaws.{set_ranges_is, set_inputs_is}
 use Rattle.search.specs.Asks.{need_of}
 use Rattle.search.specs.Finds.{InOrder}
 use Rattle.tables.specs.declared.Kind as K
@@ -51,14 +51,14 @@ pub ranges_passed : (k : K.Kind) → Ranged (kind_of k) → (a f : Pool) (h o : 
 unfolding everywhere
 ranges_passed k w a f h o e =
     let v : State = everywhere (pool_view a) (pool_view f) (ranges_view h) (ranges_view o) in
-    let s : Sound v (kind_of k) = sound_says v (kind_of k) (true_T (sound_at v (kind_of k)) (set-ranges v (kind_of k) w a f h o refl refl refl refl ∙ e)) in
+    let s : Sound v (kind_of k) = sound_says v (kind_of k) (true_T (sound_at v (kind_of k)) (set_ranges_is v (kind_of k) w a f h o refl refl refl refl ∙ e)) in
     record { order = pool_order (kind_of k) a (s.given.pools automatic); fixed_count = (s.given.pools fixed).tidied.within; rows = s.owners.tidied.within }
 
 pub inputs_passed : (a f : Pool) (h o : Inputs) → set_inputs a f h o ≡ true → Passed a f o.n
 unfolding everywhere
 inputs_passed a f h o e =
     let v : State = everywhere (pool_view a) (pool_view f) (inputs_view h) (inputs_view o) in
-    let s : Sound v input = sound_says v input (true_T (sound_at v input) (set-inputs v a f h o refl refl refl refl ∙ e)) in
+    let s : Sound v input = sound_says v input (true_T (sound_at v input) (set_inputs_is v a f h o refl refl refl refl ∙ e)) in
     record { order = pool_order input a (s.given.pools automatic); fixed_count = (s.given.pools fixed).tidied.within; rows = s.owners.tidied.within }
 
 -- ---- the call's promise
@@ -86,7 +86,7 @@ module _ (t : RangeTables) (m : Need) (c : Choice) (r : RangeAnswer) (q s : ℕ)
   range_serves ranged cl h = record { tables = tables; answer = λ i. rows_said_is Kd (need_of m) r.chosen _ (answer i) }
     where
       judged : (i : Said) → sound (Kd ∷ []) (at_range i) ≡ set_ranges (limits_of Kd) t.auto t.fixed t.held t.owners
-      judged i = sound_alone (at_range i) Kd ∙ set-ranges (at_range i) Kd ranged t.auto t.fixed t.held t.owners (only_same Kd _ _) (only_same Kd _ _) (only_same Kd _ _) (only_same Kd _ _)
+      judged i = sound_alone (at_range i) Kd ∙ set_ranges_is (at_range i) Kd ranged t.auto t.fixed t.held t.owners (only_same Kd _ _) (only_same Kd _ _) (only_same Kd _ _) (only_same Kd _ _)
 
       answer : (i : Said) → claim_of Kd (told (need_of m) r.chosen) ≡ answer_of (Kd ∷ []) (asked q s w) (at_range i)
       answer i = kind_answer (at_range i) q s w (need_of m) (choice_of c) (cl i) (told (need_of m) r.chosen)
@@ -114,7 +114,7 @@ module _ (t : InputTables) (m : InputNeed) (c : Choice) (r : InputAnswer) (q s :
   input_serves cl h = record { tables = tables; answer = λ i. rows_said_is input (input_asked m) r.chosen _ (answer i) }
     where
       judged : (i : Said) → sound (input ∷ []) (at_input i) ≡ set_inputs t.auto t.fixed t.held t.owners
-      judged i = sound_alone (at_input i) input ∙ set-inputs (at_input i) t.auto t.fixed t.held t.owners refl refl refl refl
+      judged i = sound_alone (at_input i) input ∙ set_inputs_is (at_input i) t.auto t.fixed t.held t.owners refl refl refl refl
 
       answer : (i : Said) → claim_of input (told (input_asked m) r.chosen) ≡ answer_of (input ∷ []) (asked q s w) (at_input i)
       answer i = kind_answer (at_input i) q s w (input_asked m) (choice_of c) (cl i) (told (input_asked m) r.chosen) (h.answer ∙ ap (λ b. require b malformed (input_rest i)) (sym (judged i)))

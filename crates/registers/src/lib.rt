@@ -40,6 +40,7 @@ fn refused(number: u64) -> Sized
 }
 
 // Whether all are words of 32 bits.
+#[tactic(auto, using(crate::proofs::WordsLaws::words_on, crate::proofs::WordsLaws::words_stop, crate::proofs::WordsLaws::words_done))]
 fn words_fit(words: &[u64]) -> bool
     ensures { result ≡ all_of (λ w. nat_le w (top 32)) words.now }
 {
@@ -63,6 +64,7 @@ fn put_request(list: &mut [u64], at: usize, kind: u64, requester: u64, slot: u64
 }
 
 // What a register asks for, put from a place on; how many requests that is.
+#[tactic(auto, using(crate::proofs::CollectLaws::added_memory, crate::proofs::CollectLaws::added_ports, crate::proofs::CollectLaws::added_none))]
 fn put_asked(list: &mut [u64], at: usize, requester: u64, slot: u64, asked: Asked) -> usize
     requires { at + request_size ≤ length list.old }
     ensures { Added (requests_at requester slot (wants_of asked)) at list.old result list.new }
@@ -93,6 +95,7 @@ fn past(pair: bool, i: usize) -> usize
 }
 
 // The word at i, 0 behind the last.
+#[tactic(auto, using(crate::proofs::WordsLaws::word_fits, crate::proofs::WordsLaws::word_none))]
 fn word_at(words: &[u64], i: usize) -> u32
     requires { T (all_of (λ w. nat_le w (top 32)) words.now) }
     ensures { result ≡ slice_index words.now i }
@@ -127,6 +130,7 @@ fn collect(words: &[u64], requester: u64, list: &mut [u64]) -> Sized
 }
 
 // What is answered: the first fault, or Short where the list has room for fewer requests than there are, or 0.
+#[tactic(auto, using(crate::proofs::IntoLaws::verdict_fault, crate::proofs::IntoLaws::verdict_short, crate::proofs::IntoLaws::verdict_good))]
 fn verdict(number: u64, count: usize, most: usize) -> u64
     ensures { result ≡ verdict_of number count most }
 {
@@ -157,6 +161,7 @@ fn size_all(words: &[u64], requester: u64, list: &mut [u64]) -> Sized
 }
 
 // A device's requests, from the words read from its base address registers after all ones were written, in front of the caller's list.
+#[tactic(auto, using(crate::proofs::IntoLaws::words_short, crate::proofs::IntoLaws::asker_none, crate::proofs::IntoLaws::asker_wide, crate::proofs::IntoLaws::words_wide, crate::proofs::IntoLaws::words_good))]
 pub fn registers(words: &[u64], requester: u64, list: &mut [u64]) -> Sized
     ensures { sized result.number result.count list.new ≡ registers_into words.now requester list.old }
 {

@@ -59,6 +59,7 @@ pub fn refusal_of(asked: Asked) -> u64
 }
 
 // By bit 0, and of memory by bits 2 and 1.
+#[tactic(auto, using(crate::proofs::WordLaws::says_nothing, crate::proofs::WordLaws::says_ports, crate::proofs::WordLaws::says_unknown, crate::proofs::WordLaws::says_pair, crate::proofs::WordLaws::says_memory))]
 pub fn register_of(w: u32) -> Register
     ensures { register_said result ≡ register_of w }
 {
@@ -91,6 +92,7 @@ pub fn takes_next(register: Register) -> bool
 }
 
 // The mask of ports: upper 16 bits that read zero are taken as ones.
+#[tactic(auto, using(crate::proofs::WordLaws::ones_taken, crate::proofs::WordLaws::ones_left))]
 pub fn port_mask(w: u32) -> u32
     ensures { result ≡ port_mask w }
 {
@@ -101,6 +103,7 @@ pub fn port_mask(w: u32) -> u32
 }
 
 // Ports are as many as 16 bits hold.
+#[tactic(auto, using(crate::proofs::SizeLaws::ports_many, crate::proofs::SizeLaws::ports_fit))]
 pub fn sized_ports(n: u64) -> Asked
     ensures { asked_of result ≡ ports_want n }
 {
@@ -111,6 +114,7 @@ pub fn sized_ports(n: u64) -> Asked
 }
 
 // Ports.
+#[tactic(auto, using(crate::proofs::SizeLaws::bad_size, crate::proofs::SizeLaws::good_size, crate::proofs::SizeLaws::mask_pos))]
 pub fn asked_ports(w: u32) -> Asked
     ensures { asked_of result ≡ (size_of 32 (port_mask w) then ports_want) }
 {
@@ -122,6 +126,7 @@ pub fn asked_ports(w: u32) -> Asked
 }
 
 // Memory of one word.
+#[tactic(auto, using(crate::proofs::SizeLaws::bad_size, crate::proofs::SizeLaws::good_size, crate::proofs::SizeLaws::mask_pos))]
 pub fn asked_memory(w: u32) -> Asked
     ensures { asked_of result ≡ (size_of 32 (memory_mask w) then memory_want) }
 {
@@ -134,6 +139,7 @@ pub fn asked_memory(w: u32) -> Asked
 }
 
 // Memory of a pair: its mask is one number of 64 bits.
+#[tactic(auto, using(crate::proofs::SizeLaws::bad_size, crate::proofs::SizeLaws::good_size, crate::proofs::SizeLaws::mask_pos))]
 pub fn asked_pair(w: u32, high: u32) -> Asked
     ensures { asked_of result ≡ (size_of 64 (pair_mask w high) then memory_want) }
 {
@@ -145,6 +151,7 @@ pub fn asked_pair(w: u32, high: u32) -> Asked
 }
 
 // A register, with the next word unless it is the last.
+#[tactic(auto, unfolding(definition::specs::Registers::asked))]
 pub fn judge(w: u32, last: bool, next: u32) -> Asked
     ensures { asked_of result ≡ asked (register_of w) w (next_of last next) }
 {

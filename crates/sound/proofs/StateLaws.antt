@@ -8,25 +8,25 @@ use Rattle.tables.specs.Views.{state_view}
 use Rattle.tables.specs.declared.State.{State}
 use Rattle.definition.proofs.BaseLaws.{and_true}
 use Rattle.sound.specs.Tests.{given_of, set_of}
-use Rattle.sound.proofs.KindLaws.{given-ranges, set-ranges, given-inputs, set-inputs}
+use Rattle.sound.proofs.KindLaws.{given_ranges_is, set_ranges_is, given_inputs_is, set_inputs_is}
 
 pub given_at_is : (s : State) (k : Kind) → given_at (state_view s) k ≡ given_of s k
-given_at_is s mmio = given-ranges (state_view s) mmio refl _ _ _ refl refl refl
-given_at_is s pio = given-ranges (state_view s) pio refl _ _ _ refl refl refl
-given_at_is s input = given-inputs (state_view s) _ _ _ refl refl refl
-given_at_is s host = given-ranges (state_view s) host refl _ _ _ refl refl refl
-given_at_is s device = given-ranges (state_view s) device refl _ _ _ refl refl refl
-given_at_is s event = given-ranges (state_view s) event refl _ _ _ refl refl refl
-given_at_is s lpi = given-ranges (state_view s) lpi refl _ _ _ refl refl refl
+given_at_is s mmio = given_ranges_is (state_view s) mmio refl _ _ _ refl refl refl
+given_at_is s pio = given_ranges_is (state_view s) pio refl _ _ _ refl refl refl
+given_at_is s input = given_inputs_is (state_view s) _ _ _ refl refl refl
+given_at_is s host = given_ranges_is (state_view s) host refl _ _ _ refl refl refl
+given_at_is s device = given_ranges_is (state_view s) device refl _ _ _ refl refl refl
+given_at_is s event = given_ranges_is (state_view s) event refl _ _ _ refl refl refl
+given_at_is s lpi = given_ranges_is (state_view s) lpi refl _ _ _ refl refl refl
 
 pub sound_at_is : (s : State) (k : Kind) → sound_at (state_view s) k ≡ set_of s k
-sound_at_is s mmio = set-ranges (state_view s) mmio refl _ _ _ _ refl refl refl refl
-sound_at_is s pio = set-ranges (state_view s) pio refl _ _ _ _ refl refl refl refl
-sound_at_is s input = set-inputs (state_view s) _ _ _ _ refl refl refl refl
-sound_at_is s host = set-ranges (state_view s) host refl _ _ _ _ refl refl refl refl
-sound_at_is s device = set-ranges (state_view s) device refl _ _ _ _ refl refl refl refl
-sound_at_is s event = set-ranges (state_view s) event refl _ _ _ _ refl refl refl refl
-sound_at_is s lpi = set-ranges (state_view s) lpi refl _ _ _ _ refl refl refl refl
+sound_at_is s mmio = set_ranges_is (state_view s) mmio refl _ _ _ _ refl refl refl refl
+sound_at_is s pio = set_ranges_is (state_view s) pio refl _ _ _ _ refl refl refl refl
+sound_at_is s input = set_inputs_is (state_view s) _ _ _ _ refl refl refl refl
+sound_at_is s host = set_ranges_is (state_view s) host refl _ _ _ _ refl refl refl refl
+sound_at_is s device = set_ranges_is (state_view s) device refl _ _ _ _ refl refl refl refl
+sound_at_is s event = set_ranges_is (state_view s) event refl _ _ _ _ refl refl refl refl
+sound_at_is s lpi = set_ranges_is (state_view s) lpi refl _ _ _ _ refl refl refl refl
 
 -- a test of all kinds, one after the other
 all_kinds : (p q : Kind → Bool) → ((k : Kind) → p k ≡ q k)

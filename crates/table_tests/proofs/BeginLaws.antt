@@ -22,10 +22,10 @@ pub ranges_begin_is : (h o : Ranges)
 ranges_begin_is h o = begins_used row_limit (λ k. range_of (range_at h k)) (λ k. range_of (range_at o k)) h.n o.n
 
 -- rows that stand in a sound table are sound
-prefix-ok :
+prefix_ok :
     (good : Row → Bool) (fit : Row → Row → Bool) (f g : ℕ → Row) (m n : ℕ) → m ≤ n → ((k : ℕ) → k < m → f k ≡ g k)
     → T (all_below (row_ok good fit g) n) → T (all_below (row_ok good fit f) m)
-prefix-ok good fit f g m n l e t = all_in (row_ok good fit f) m λ k p.
+prefix_ok good fit f g m n l e t = all_in (row_ok good fit f) m λ k p.
     let w : T (row_ok good fit g k) = all_out (row_ok good fit g) n t k (omega arith) in
     and_i (good (f k)) (all_below (λ j. fit (f j) (f k)) k)
     (rw (e k p) (and_l (good (g k)) (all_below (λ j. fit (g j) (g k)) k) w))
@@ -38,10 +38,10 @@ module _ (l : Limits) (h o : Ranges) where
   same_at : ℕ → Bool
   same_at k = same_row (range_of (range_at h k)) (range_of (range_at o k))
 
-  held-ok :
+  held_ok :
       T (sound_ranges_in l o) → h.n ≤ row_limit → T (begins (used (ranges_view h)) (used (ranges_view o))) → T (all_below (range_ok l h) h.n)
   unfolding range_ok same_at
-  held-ok s c t =
+  held_ok s c t =
       let a : T (tidy_ranges o && all_below (range_ok l o) o.n) = subst T (ranges_is l o) s in
       let b : T (leb (min h.n row_limit) (min o.n row_limit) && all_below same_at (min h.n row_limit)) = subst T (ranges_begin_is h o) t in
       let d : T (tidy_ranges o) = and_l (tidy_ranges o) (all_below (range_ok l o) o.n) a in
@@ -49,28 +49,28 @@ module _ (l : Limits) (h o : Ranges) where
       let r : T (all_below (range_ok l o) o.n) = and_r (tidy_ranges o) (all_below (range_ok l o) o.n) a in
       let m : min h.n row_limit ≤ min o.n row_limit =
       leb→le (min h.n row_limit) (min o.n row_limit) (and_l (leb (min h.n row_limit) (min o.n row_limit)) (all_below same_at (min h.n row_limit)) b) in
-      prefix-ok (good_range l) apart (λ k. range_of (range_at h k)) (λ k. range_of (range_at o k)) h.n o.n (omega arith)
+      prefix_ok (good_range l) apart (λ k. range_of (range_at h k)) (λ k. range_of (range_at o k)) h.n o.n (omega arith)
       (λ k p. row_eq (range_of (range_at h k)) (range_of (range_at o k))
       (all_out same_at (min h.n row_limit) (and_r (leb (min h.n row_limit) (min o.n row_limit)) (all_below same_at (min h.n row_limit)) b) k (omega arith)))
       r
 
-  pub prefix-sound :
+  pub prefix_sound :
       sound_ranges_in l o ≡ true → tidy_ranges h ≡ true
       → sound_ranges_in l h && begins (used (ranges_view h)) (used (ranges_view o)) ≡ begins (used (ranges_view h)) (used (ranges_view o))
-  prefix-sound s z = t_ext (sound_ranges_in l h && B) B (λ t. and_r (sound_ranges_in l h) B t) (λ t. and_i (sound_ranges_in l h) B (go t) t)
+  prefix_sound s z = t_ext (sound_ranges_in l h && B) B (λ t. and_r (sound_ranges_in l h) B t) (λ t. and_i (sound_ranges_in l h) B (go t) t)
     where
       B : Bool
       B = begins (used (ranges_view h)) (used (ranges_view o))
 
       go : T (begins (used (ranges_view h)) (used (ranges_view o))) → T (sound_ranges_in l h)
       go t =
-          let r : T (all_below (range_ok l h) h.n) = held-ok (true_T (sound_ranges_in l o) s) (ranges_count h z) t in
+          let r : T (all_below (range_ok l h) h.n) = held_ok (true_T (sound_ranges_in l o) s) (ranges_count h z) t in
           true_T (sound_ranges_in l h) (ranges_is l h ∙ rw z (T_true (all_below (range_ok l h) h.n) r))
 
   -- .. which leaves the beginning to be told
   pub holders_begin : sound_ranges_in l o ≡ true → tidy_ranges h ≡ true → holders_in l h o ≡ begins (used (ranges_view h)) (used (ranges_view o))
   unfolding holders_in
-  holders_begin s z = rw s (prefix-sound s z)
+  holders_begin s z = rw s (prefix_sound s z)
 
   pub holders_unsound : sound_ranges_in l o ≡ false → holders_in l h o ≡ false
   unfolding holders_in

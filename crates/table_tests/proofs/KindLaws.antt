@@ -48,11 +48,11 @@ pool_kind k t =
 
 -- ---- ranges: every kind but inputs
 
-range-turn :
+range_turn :
     (c i d s e o C I D F M W : ℕ)
     → ((leb c C && (leb i I && leb d D)) && (leb s M && (leb e M && leb o W))) && (ltb s e && (leb F s && ltb 0 o))
     ≡ leb c C && (leb i I && (leb d D && (ltb s e && (leb F s && (leb e M && (leb o W && ltb 0 o))))))
-range-turn c i d s e o C I D F M W = t_ext _ _
+range_turn c i d s e o C I D F M W = t_ext _ _
     (λ t.
     let p : T (leb c C) = search (and_l, and_r) depth 8 in
     let q : T (leb i I) = search (and_l, and_r) depth 8 in
@@ -82,7 +82,7 @@ Ranged k = (nature k).wired ≡ false
 range_good : (k : Kind) → Ranged k → (c i d s e o : ℕ) → good_row k (range_row (dom c i d) s e o) ≡ good_range (limits_of k) (range_row (dom c i d) s e o)
 unfolding good_row fits floored within good_range
 range_good k w c i d s e o =
-    rw w (range-turn c i d s e o (nature k).dom_top.controller (nature k).dom_top.its (nature k).dom_top.device (nature k).floor (nature k).top (top 32))
+    rw w (range_turn c i d s e o (nature k).dom_top.controller (nature k).dom_top.its (nature k).dom_top.device (nature k).floor (nature k).top (top 32))
 
 range_blank : (k : Kind) → Ranged k → blank_row k ≡ blank_range
 range_blank k w = rw w

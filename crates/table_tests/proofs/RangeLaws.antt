@@ -56,11 +56,11 @@ module _ (l : Limits) (t : Ranges) (k : ℕ) where
       rw g (all_every (λ j. apart (range_of (range_at t j)) (range_of (range_at t k))) k
       (λ j m. ap not (meets_past (range_of (range_at t j)) (range_of (range_at t k)) (omega (arith, high_at h t.end k a j m)))))
 
-  pub range-hit :
+  pub range_hit :
       (h : Hit) → good_range l (range_of (range_at t k)) ≡ true
       → h ≡ first (λ j. meets (range_of (range_at t k)) (range_of (range_at t j))) k → range_ok l t k ≡ is_clear h
   unfolding range_ok
-  range-hit h g f =
+  range_hit h g f =
       rw g (all_ext (λ j. apart (range_of (range_at t j)) (range_of (range_at t k))) (λ j. not (meets (range_of (range_at t k)) (range_of (range_at t j)))) k
       (λ j m. ap not (meets_sym (range_of (range_at t j)) (range_of (range_at t k))))
       ∙ sym (first_clear (λ j. meets (range_of (range_at t k)) (range_of (range_at t j))) k) ∙ ap is_clear (sym f))

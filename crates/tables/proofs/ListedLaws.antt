@@ -46,15 +46,15 @@ module _ {A : Type 0} where
   listed_take f (suc m) (suc n) l = ap (λ xs. f 0 ∷ xs) (listed_take (λ k. f (suc k)) m n (omega arith))
 
   -- one row stored
-  pub listed-set :
+  pub listed_set :
       (f g : ℕ → A) (m n : ℕ) (a : A) → m < n → g m ≡ a → ((k : ℕ) → (k ≡ m → ⊥) → g k ≡ f k) → listed g n ≡ set (listed f n) m a
   unfolding listed
-  listed-set f g m zero a l h o = absurd (omega arith)
-  listed-set f g zero (suc n) a l h o =
+  listed_set f g m zero a l h o = absurd (omega arith)
+  listed_set f g zero (suc n) a l h o =
       ap₂ (λ x xs. x ∷ xs) h (listed_ext (λ k. g (suc k)) (λ k. f (suc k)) n (λ k p. o (suc k) (λ e. omega arith)))
-  listed-set f g (suc m) (suc n) a l h o =
+  listed_set f g (suc m) (suc n) a l h o =
       ap₂ (λ x xs. x ∷ xs) (o 0 (λ e. omega arith))
-      (listed-set (λ k. f (suc k)) (λ k. g (suc k)) m n a (omega arith) h (λ k p. o (suc k) (λ e. p (omega arith))))
+      (listed_set (λ k. f (suc k)) (λ k. g (suc k)) m n a (omega arith) h (λ k p. o (suc k) (λ e. p (omega arith))))
 
   -- ---- all rows, rows from n on, pairs
 

@@ -14,13 +14,13 @@ use Rattle.tables.specs.Whole.{pushed_range, pushed_input}
 use Rattle.tables.specs.Sized.{SizedRanges, SizedInputs}
 use Rattle.tables.specs.declared.Ranges.{Ranges}
 use Rattle.tables.specs.declared.Inputs.{Inputs}
-use Rattle.tables.proofs.ListedLaws.{listed-set}
+use Rattle.tables.proofs.ListedLaws.{listed_set}
 
-pub push-range-view :
+pub push_range_view :
     (t : Ranges) (d : Dom) (s e o : ℕ) → SizedRanges t → t.n < row_limit
     → ranges_view (pushed_range t (range_row d s e o)) ≡ push_all (ranges_view t) (range_row d s e o ∷ [])
 unfolding push_all
-push-range-view t d s e o z l = λ i. record { count = add-one t.n i; rows = rows i }
+push_range_view t d s e o z l = λ i. record { count = add-one t.n i; rows = rows i }
   where
     here : range_of (range_at (pushed_range t (range_row d s e o)) t.n) ≡ range_row d s e o
     here =
@@ -33,14 +33,14 @@ push-range-view t d s e o z l = λ i. record { count = add-one t.n i; rows = row
         simp get_or-set_same
 
     rows : listed (λ k. range_of (range_at (pushed_range t (range_row d s e o)) k)) row_limit ≡ set (listed (λ k. range_of (range_at t k)) row_limit) t.n (range_row d s e o)
-    rows = listed-set (λ k. range_of (range_at t k)) (λ k. range_of (range_at (pushed_range t (range_row d s e o)) k)) t.n row_limit (range_row d s e o) l here
+    rows = listed_set (λ k. range_of (range_at t k)) (λ k. range_of (range_at (pushed_range t (range_row d s e o)) k)) t.n row_limit (range_row d s e o) l here
         (λ k h. simp get_or-set_other)
 
-pub push-input-view :
+pub push_input_view :
     (t : Inputs) (c x g h o : ℕ) → SizedInputs t → t.n < row_limit
     → inputs_view (pushed_input t (wired_row c x g h o)) ≡ push_all (inputs_view t) (wired_row c x g h o ∷ [])
 unfolding push_all
-push-input-view t c x g h o z l = λ i. record { count = add-one t.n i; rows = rows i }
+push_input_view t c x g h o z l = λ i. record { count = add-one t.n i; rows = rows i }
   where
     here : input_of (input_at (pushed_input t (wired_row c x g h o)) t.n) ≡ wired_row c x g h o
     here =
@@ -52,7 +52,7 @@ push-input-view t c x g h o z l = λ i. record { count = add-one t.n i; rows = r
         simp get_or-set_same
 
     rows : listed (λ k. input_of (input_at (pushed_input t (wired_row c x g h o)) k)) row_limit ≡ set (listed (λ k. input_of (input_at t k)) row_limit) t.n (wired_row c x g h o)
-    rows = listed-set (λ k. input_of (input_at t k)) (λ k. input_of (input_at (pushed_input t (wired_row c x g h o)) k)) t.n row_limit (wired_row c x g h o) l here
+    rows = listed_set (λ k. input_of (input_at t k)) (λ k. input_of (input_at (pushed_input t (wired_row c x g h o)) k)) t.n row_limit (wired_row c x g h o) l here
         (λ k h. simp get_or-set_other)
 
 -- .. and the columns keep their lengths

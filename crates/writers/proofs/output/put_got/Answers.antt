@@ -33,7 +33,8 @@ put_numbers-d-requires c =
       c.put_numbers-b.ensures.0,
       c.put_numbers-b.auto.out,
       c.put_kind-c.ensures.0,
-      c.put_kind-c.auto.out)
+      c.put_kind-c.auto.out,
+    )
 
 pub bounds-out-d : goal.bounds-out-d
 bounds-out-d c =
@@ -49,7 +50,8 @@ bounds-out-d c =
       c.put_kind-c.ensures.0,
       c.put_kind-c.auto.out,
       c.put_numbers-d.ensures.0,
-      c.put_numbers-d.auto.out)
+      c.put_numbers-d.auto.out,
+    )
 
 pub overflow_add-result : goal.overflow_add-result
 overflow_add-result c =

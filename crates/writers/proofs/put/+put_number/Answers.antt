@@ -1,6 +1,5 @@
 -- The digits of a number: the last digit is put behind those of a tenth. Assumes nothing.
-use Rattle.std.proofs.Common.{◌≡◌, ◌+◌, length, arith}
-use Rattle.lines.specs.Numbers.{digits}
+use Rattle.std.proofs.Common.{arith}
 use Rattle.lines.proofs.DigitLaws.{digits_small, digits_small_length, digits_more_length}
 use Rattle.writers.proofs.PutLaws.{sets_digit}
 use Rattle.writers.proofs.put.+put_number.Goals as goal

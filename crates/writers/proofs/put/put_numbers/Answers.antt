@@ -2,7 +2,6 @@
 use Rattle.std.proofs.Common.{take, length-set, refl, arith}
 use Rattle.lines.specs.Base.{tab}
 use Rattle.lines.specs.Line.{behind}
-use Rattle.writers.specs.Put.{Put}
 use Rattle.writers.proofs.PutLaws.{tabbed, put_turn, put_length, tabbed_room}
 use Rattle.writers.proofs.put.put_numbers.Goals as goal
 
@@ -28,7 +27,8 @@ put_number-p-requires c =
       l.invariant.written.0,
       length-set l.out l.p tab,
       put_length a.out.now a.at (tabbed (take l.i a.xs.now)) l.p l.out l.invariant.written,
-      tabbed_room a.xs.now l.i (omega arith))
+      tabbed_room a.xs.now l.i (omega arith),
+    )
 
 pub loop-i-preserved : goal.loop-i-preserved
 loop-i-preserved c =
