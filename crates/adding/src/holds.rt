@@ -67,6 +67,7 @@ fn rows(what: What, row: RangeRow, input: InputRow) -> Adds
 }
 
 // A range of DeviceIDs of one ITS.
+#[tactic(auto, using(crate::proofs::FitLaws::range_fits))]
 fn of_devices(owner: u32, controller: u32, its: u32, ids: Devices) -> Adds
     ensures { HoldAsked owner (devicesHeld controller its ids) result }
 {
@@ -82,6 +83,7 @@ fn of_devices(owner: u32, controller: u32, its: u32, ids: Devices) -> Adds
 }
 
 // A range of EventIDs of one DeviceID.
+#[tactic(auto, using(crate::proofs::FitLaws::range_fits))]
 fn of_events(owner: u32, controller: u32, its: u32, id: DeviceId, ids: Events) -> Adds
     ensures { HoldAsked owner (eventsHeld controller its id ids) result }
 {
@@ -97,6 +99,7 @@ fn of_events(owner: u32, controller: u32, its: u32, id: DeviceId, ids: Events) -
 }
 
 // A range of LPIs of one controller.
+#[tactic(auto, using(crate::proofs::FitLaws::range_fits))]
 fn of_lpis(owner: u32, controller: u32, ids: Lpis) -> Adds
     ensures { HoldAsked owner (lpisHeld controller ids) result }
 {
@@ -105,6 +108,7 @@ fn of_lpis(owner: u32, controller: u32, ids: Lpis) -> Adds
 }
 
 // An input, Exclusive, with a host IRQ.
+#[tactic(auto, using(crate::proofs::FitLaws::range_fits))]
 fn of_pair(owner: u32, controller: u32, input: u64, trigger: u32, irq: u64) -> Adds
     ensures { HoldAsked owner (pairHeld controller input trigger irq) result }
 {
@@ -117,6 +121,7 @@ fn of_pair(owner: u32, controller: u32, input: u64, trigger: u32, irq: u64) -> A
 }
 
 // Something held by an owner.
+#[tactic(auto, using(crate::proofs::FitLaws::range_fits))]
 pub fn of_hold(owner: u32, h: Hold) -> Adds
     ensures { HoldAsked owner h result }
 {

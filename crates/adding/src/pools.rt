@@ -61,6 +61,7 @@ pub fn use_to(u: Use) -> To
 }
 
 // An MSI domain: devices, events, LPIs.
+#[tactic(auto, using(crate::proofs::FitLaws::span_fits))]
 fn of_domain(
     to: To,
     controller: u32,
@@ -78,6 +79,7 @@ fn of_domain(
 }
 
 // A range for the pools of a use.
+#[tactic(auto, using(crate::proofs::FitLaws::span_fits))]
 pub fn of_pool(to: To, p: PoolRange) -> Adds
     ensures { PoolAsked to p result }
 {

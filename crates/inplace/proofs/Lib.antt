@@ -1,3 +1,4 @@
 pub mod CutLaws
 pub mod CloseLaws
 pub mod CutViews
+pub mod FindLaws

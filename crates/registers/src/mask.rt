@@ -3,6 +3,7 @@ ghost use Rattle.std.specs.Prelude.{◌≡◌, ◌-◌, ◌^◌, ◌<◌};
 ghost use Rattle.definition.specs.Registers.{good_mask};
 
 // Not zero, and the ones from the top and the zeros below them are all its bits.
+#[tactic(auto, using(crate::proofs::SizeLaws::mask_zero, definition::proofs::MaskLaws::mask_zeros))]
 pub fn good_mask_32(m: u32) -> bool
     ensures { result ≡ good_mask 32 m }
 {
@@ -13,6 +14,7 @@ pub fn good_mask_32(m: u32) -> bool
 }
 
 // .. of a pair.
+#[tactic(auto, using(crate::proofs::SizeLaws::mask_zero, definition::proofs::MaskLaws::mask_zeros))]
 pub fn good_mask_64(m: u64) -> bool
     ensures { result ≡ good_mask 64 m }
 {
