@@ -1,6 +1,4 @@
-pub mod SizedLaws
 pub mod QueryLaws
-pub mod ElseLaws
 pub mod ReadyLaws
 pub mod RoomLaws
 pub mod AnswerLaws

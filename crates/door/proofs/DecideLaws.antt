@@ -31,7 +31,8 @@ use Rattle.request.specs.declared.call.PoolRange.TheVariants as P
 use Rattle.request.specs.declared.call.Hold.TheVariants as H
 use Rattle.request.specs.declared.call.Call.{Call}
 use Rattle.request.specs.declared.call.Call.TheVariants as C
-use Rattle.adding.specs.Adds.{pick, use_to, held, adds_of, goes_to, range_for, Asked, FitCall}
+use Rattle.adding.specs.Adds.{pick, use_to, held, adds_of, ask_of, input_ask_of, goes_to, range_for, Asked, FitCall}
+use Rattle.tables.specs.declared.Kind.TheVariants as K
 use Rattle.adding.specs.Judged.{judged, verdict_of, same_to, stays_of}
 use Rattle.adding.specs.Looks.{Tells, TellsInput}
 use Rattle.adding.specs.declared.To.{To}
@@ -171,17 +172,20 @@ module _ (s : State) (g : Holds (given kinds (state_view s))) where
     sizes a = every _ a.mmio.sized a.pio.sized a.input.sized a.host.sized a.device.sized a.event.sized a.lpi.sized
 
     decided : (c : Call) → FitCall c → AllSee s (adds_of c) m p w j d e l → Decides s c (verdict_of (adds_of c) m p w j d e l)
-    decided (C.Pool u (P.Mmio x y)) f a = settled _ _ _ (serve_pool (state_view s) g (use_of u) (mmio_pool x y)) (pooled s (sizes a) u _ (mmio ∷ []) m refl (goes_one mmio) (spans_apart (mmio_pool x y)) (admit_one (pools_of (state_view s) (use_of u)) _ f.0 m (told u mmio _ _ m a.mmio.tells)))
-    decided (C.Pool u (P.Pio x y)) f a = settled _ _ _ (serve_pool (state_view s) g (use_of u) (pio_pool x y)) (pooled s (sizes a) u _ (pio ∷ []) p refl (goes_one pio) (spans_apart (pio_pool x y)) (admit_one (pools_of (state_view s) (use_of u)) _ f.0 p (told u pio _ _ p a.pio.tells)))
-    decided (C.Pool u (P.Host x y)) f a = settled _ _ _ (serve_pool (state_view s) g (use_of u) (host_pool x y)) (pooled s (sizes a) u _ (host ∷ []) j refl (goes_one host) (spans_apart (host_pool x y)) (admit_one (pools_of (state_view s) (use_of u)) _ f.0 j (told u host _ _ j a.host.tells)))
-    decided (C.Pool u (P.Input o x y)) f a = settled _ _ _ (serve_pool (state_view s) g (use_of u) (input_pool o x y)) (pooled s (sizes a) u _ (input ∷ []) w refl (goes_one input) (spans_apart (input_pool o x y)) (admit_one (pools_of (state_view s) (use_of u)) _ f.0 w (told_input u _ _ w a.input.tells)))
+    decided (C.Pool u (P.Mmio x y)) f a = settled _ _ _ (serve_pool (state_view s) g (use_of u) (mmio_pool x y)) (pooled s (sizes a) u _ (mmio ∷ []) m refl (goes_one mmio) (spans_apart (mmio_pool x y)) (admit_one (pools_of (state_view s) (use_of u)) _ f.0 m (told u mmio _ (ask_of (adds_of (C.Pool u (P.Mmio x y))) K.Mmio) m a.mmio.tells)))
+    decided (C.Pool u (P.Pio x y)) f a = settled _ _ _ (serve_pool (state_view s) g (use_of u) (pio_pool x y)) (pooled s (sizes a) u _ (pio ∷ []) p refl (goes_one pio) (spans_apart (pio_pool x y)) (admit_one (pools_of (state_view s) (use_of u)) _ f.0 p (told u pio _ (ask_of (adds_of (C.Pool u (P.Pio x y))) K.Pio) p a.pio.tells)))
+    decided (C.Pool u (P.Host x y)) f a = settled _ _ _ (serve_pool (state_view s) g (use_of u) (host_pool x y)) (pooled s (sizes a) u _ (host ∷ []) j refl (goes_one host) (spans_apart (host_pool x y)) (admit_one (pools_of (state_view s) (use_of u)) _ f.0 j (told u host _ (ask_of (adds_of (C.Pool u (P.Host x y))) K.Host) j a.host.tells)))
+    decided (C.Pool u (P.Input o x y)) f a = settled _ _ _ (serve_pool (state_view s) g (use_of u) (input_pool o x y)) (pooled s (sizes a) u _ (input ∷ []) w refl (goes_one input) (spans_apart (input_pool o x y)) (admit_one (pools_of (state_view s) (use_of u)) _ f.0 w (told_input u _ (input_ask_of (adds_of (C.Pool u (P.Input o x y)))) w a.input.tells)))
     decided (C.Pool u (P.Msi o i x y z)) f a =
         settled _ _ _ (serve_pool (state_view s) g (use_of u) (msi_pool o i x.start.0 x.end.0 y.start.0 y.end.0 z.start.0 z.end.0))
         (pooled s (sizes a) u _ (device ∷ event ∷ lpi ∷ []) (earlier_of d (earlier_of e l)) refl goes_domain (spans_apart (msi_pool o i x.start.0 x.end.0 y.start.0 y.end.0 z.start.0 z.end.0))
-        (admit_more P _ f.0 d (told u device _ _ d a.device.tells) _ _ (admit_more P _ f.1.0 e (told u event _ _ e a.event.tells) _ _ (admit_one P _ f.1.1.0 l (told u lpi _ _ l a.lpi.tells)))))
+        (admit_more pools _ f.0 d (told u device _ (ask_of q K.Device) d a.device.tells) _ _ (admit_more pools _ f.1.0 e (told u event _ (ask_of q K.Event) e a.event.tells) _ _ (admit_one pools _ f.1.1.0 l (told u lpi _ (ask_of q K.Lpi) l a.lpi.tells)))))
       where
-        P : Kind → List Span
-        P = pools_of (state_view s) (use_of u)
+        pools : Kind → List Span
+        pools = pools_of (state_view s) (use_of u)
+
+        q : Adds
+        q = adds_of (C.Pool u (P.Msi o i x y z))
     decided (C.Hold o (H.Mmio x y)) f a = settled _ _ _ (serve_hold (state_view s) g o (hold_call (H.Mmio x y))) (one_reserved s (sizes a) mmio _ _ m (told_as mmio _ _ (f.0 refl) m a.mmio.tells.0) a.mmio.tells.1)
     decided (C.Hold o (H.Pio x y)) f a = settled _ _ _ (serve_hold (state_view s) g o (hold_call (H.Pio x y))) (one_reserved s (sizes a) pio _ _ p (told_as pio _ _ (f.0 refl) p a.pio.tells.0) a.pio.tells.1)
     decided (C.Hold o (H.Host x y)) f a = settled _ _ _ (serve_hold (state_view s) g o (hold_call (H.Host x y))) (one_reserved s (sizes a) host _ _ j (told_as host _ _ (f.0 refl) j a.host.tells.0) a.host.tells.1)

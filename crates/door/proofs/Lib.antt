@@ -1,17 +1,8 @@
-pub mod Lending
-pub mod Verdicts
-pub mod ToldLaws
-pub mod CopyWalk
-pub mod EnterWalk
-pub mod ToValue
-pub mod PoolsWalk
 pub mod KindLaws
 pub mod KeptLaws
 pub mod GivenLaws
-pub mod Filling
 pub mod AfterLaws
 pub mod HoldLaws
 pub mod ApplyLaws
 pub mod DecideLaws
-pub mod Walk
 pub mod ServeLaws

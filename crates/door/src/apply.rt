@@ -22,6 +22,7 @@ use tables::{Kind, Pool, Pools, State};
 // ---- what is stored
 
 // The range for one pool table, if it has one: only then the table goes out by value, and is stored back.
+#[tactic(auto, using(crate::proofs::KeptLaws::resting))]
 pub fn enter(t: &mut Pool, put: PoolPut)
     requires { Tidy t.old }
     ensures { pool_view t.new ≡ entered_view put (pool_view t.old) }
@@ -126,6 +127,7 @@ pub fn told(r: Reply) -> Granted
 }
 
 // The five numbers.
+#[tactic(auto, using(crate::proofs::KeptLaws::said_so))]
 pub fn say(s: &mut State, r: Reply)
     ensures { state_view s.new ≡ saying (heard r) (state_view s.old) }
 {
@@ -159,6 +161,7 @@ pub fn copied(s: &mut State)
     s.owners.lpi = s.held.lpi;
 }
 
+#[tactic(auto, using(crate::proofs::KeptLaws::started))]
 pub fn start(s: &mut State)
     ensures { state_view s.new ≡ starting (state_view s.old) }
 {
@@ -220,6 +223,7 @@ pub fn look(s: &State, c: Call) -> Verdict
 }
 
 // One call on a state whose pools and reservations are sound. A request, and what cannot be read, leave it as it is.
+#[tactic(auto, using(crate::proofs::ApplyLaws::passed, crate::proofs::ApplyLaws::begun))]
 pub fn apply(s: &mut State, c: Call)
     requires { Holds (given kinds (state_view s.old)) }
     ensures { state_view s.new ≡ apply_of (call_of c) (state_view s.old) }

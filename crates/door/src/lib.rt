@@ -88,6 +88,7 @@ pub fn stands(r: Reply) -> bool
 // ---- the doors
 
 // One call on the state lent: a request judges all tables, all other calls the pools and the reservations.
+#[tactic(auto, using(crate::proofs::ServeLaws::served_want, crate::proofs::ServeLaws::goes_on, crate::proofs::ServeLaws::served_adds, crate::proofs::ServeLaws::served_stop))]
 pub fn serve(s: &mut State, c: Call)
     ensures { state_view s.new ≡ serve_of (call_of c) (state_view s.old) }
 {

@@ -249,6 +249,7 @@ pub struct MsiAnswer {
 }
 
 // Whether the tables of all three kinds are sound.
+#[tactic(auto, unfolding(crate::specs::Msis::set_msi))]
 pub fn msi_set(t: MsiTables) -> bool
     ensures { result ≡ set_msi t }
 {

@@ -11,6 +11,7 @@ use inplace::marks::Marks;
 use tables::{PLAN, RECORD};
 
 // As many numbers as what is read takes: the last answer one, a row three.
+#[tactic(auto, using(crate::proofs::FoundLaws::enough_one, crate::proofs::FoundLaws::enough_three))]
 fn is_enough(part: u64, long: usize) -> bool
     ensures { result ≡ enough part long }
 {
@@ -20,6 +21,7 @@ fn is_enough(part: u64, long: usize) -> bool
     3 <= long
 }
 
+#[tactic(auto, using(crate::proofs::FoundLaws::which_is))]
 pub fn which(what: &[u64]) -> Which
     ensures { result ≡ which_in what.now }
 {
@@ -36,6 +38,7 @@ pub fn which(what: &[u64]) -> Which
 }
 
 // A row into a lent list: 2 where no table has it, 11 where the list is too short.
+#[tactic(auto, using(crate::proofs::FoundLaws::found_none, crate::proofs::FoundLaws::found_short, crate::proofs::FoundLaws::found_written))]
 fn tell_row(x: Found, out: &mut [u64]) -> u64
     ensures { told result out.new ≡ found_told (found_of x) out.old }
 {
@@ -50,6 +53,7 @@ fn tell_row(x: Found, out: &mut [u64]) -> u64
 }
 
 // What was read, told: the last answer, or the row.
+#[tactic(auto, using(crate::proofs::FoundLaws::read_short, crate::proofs::FoundLaws::read_answer, crate::proofs::FoundLaws::read_row))]
 pub fn tell_read(k: Which, m: Marks, x: Found, out: &mut [u64]) -> u64
     ensures { told result out.new ≡ read_by k m (found_of x) out.old }
 {
@@ -63,6 +67,7 @@ pub fn tell_read(k: Which, m: Marks, x: Found, out: &mut [u64]) -> u64
 }
 
 // How many numbers of its results a plan has filled: nine a request, of all its requests or of those before the refused one.
+#[tactic(auto, using(crate::proofs::LentLaws::filled_all, crate::proofs::LentLaws::filled_far, crate::proofs::LentLaws::filled_front))]
 pub fn filled(number: u64, index: u64, long: usize) -> u64
     ensures { result ≡ filled_by number index long }
 {

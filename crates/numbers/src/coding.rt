@@ -10,6 +10,7 @@ pub mod holds;
 pub mod pools;
 
 // How many numbers a call needs.
+#[tactic(auto, using(crate::proofs::SizeLaws::size_none), unfolding(crate::specs::Coding::size_in))]
 pub fn call_size(first: u64, kind: u64) -> usize
     ensures { result ≡ size_in first kind }
 {
@@ -29,6 +30,7 @@ pub fn call_size(first: u64, kind: u64) -> usize
 }
 
 // A call that adds or starts, by its first number.
+#[tactic(auto, using(crate::proofs::NarrowLaws::adding_none), unfolding(crate::specs::Coding::adding_in))]
 pub fn adding_of(
     first: u64,
     second: u64,

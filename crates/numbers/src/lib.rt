@@ -39,6 +39,7 @@ pub struct Reading {
 // ---- a list of numbers
 
 // The j-th number, 0 past the end.
+#[tactic(auto, using(crate::proofs::SizeLaws::past_end))]
 pub fn number(numbers: &[u64], j: usize) -> u64
     ensures { result ≡ get_or numbers.now j 0 }
 {
@@ -49,6 +50,7 @@ pub fn number(numbers: &[u64], j: usize) -> u64
 }
 
 // A call that adds or starts.
+#[tactic(auto, using(crate::proofs::CallLaws::numbers_are))]
 fn adding_at(numbers: &[u64]) -> Call
     ensures { call_of result ≡ adding_at numbers.now }
 {
@@ -67,6 +69,7 @@ fn adding_at(numbers: &[u64]) -> Call
 }
 
 // A call, read as far as its numbers go.
+#[tactic(auto, using(crate::proofs::CallLaws::long_to_ask, crate::proofs::CallLaws::room_to_ask))]
 pub fn read_call(numbers: &[u64]) -> Reading
     ensures { Reads numbers.now result }
 {
@@ -147,6 +150,7 @@ pub fn too_short(judged: bool) -> Reply
 // ---- on a lent state
 
 // What was read, served.
+#[tactic(auto, using(crate::proofs::ServeLaws::as_withdrawal, crate::proofs::ServeLaws::as_call, crate::proofs::ServeLaws::as_short_all, crate::proofs::ServeLaws::as_short_adding))]
 pub fn serve_as(s: &mut State, k: Reading)
     ensures { state_view s.new ≡ served_as k (state_view s.old) }
 {
@@ -172,6 +176,7 @@ pub fn serve_as(s: &mut State, k: Reading)
 }
 
 // Five numbers, into a lent list: 11 where it is too short.
+#[tactic(auto, using(crate::proofs::ReadLaws::five_short, crate::proofs::ReadLaws::five_written, crate::proofs::ReadLaws::five_stores))]
 pub fn tell_five(a: u64, b: u64, c: u64, d: u64, e: u64, out: &mut [u64]) -> u64
     ensures { told result out.new ≡ five_told (a ∷ b ∷ c ∷ d ∷ e ∷ []) out.old }
 {
@@ -187,6 +192,7 @@ pub fn tell_five(a: u64, b: u64, c: u64, d: u64, e: u64, out: &mut [u64]) -> u64
 }
 
 // The five numbers that were read of a state.
+#[tactic(auto, unfolding(crate::specs::Rows::answer_told))]
 pub fn tell(m: Marks, out: &mut [u64]) -> u64
     ensures { told result out.new ≡ answer_told (told_by m) out.old }
 {

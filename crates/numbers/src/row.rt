@@ -37,6 +37,7 @@ fn nothing() -> Found
 
 // ---- one table: it tells the row that is asked for, if that is one of its own; else what was found before it stays
 
+#[tactic(auto, using(crate::proofs::ReadLaws::asked_other, crate::proofs::ReadLaws::asked_past, crate::proofs::ReadLaws::asked_kind))]
 fn has_row(k: Which, part: u64, kind: u64, rows: usize) -> bool
     ensures { result ≡ asked k part kind rows }
 {
@@ -48,6 +49,7 @@ fn has_row(k: Which, part: u64, kind: u64, rows: usize) -> bool
     false
 }
 
+#[tactic(auto, using(crate::proofs::ReadLaws::asked_below, crate::proofs::ReadLaws::pool_row_is))]
 fn pool_columns<'a>(
     controller: &'a [u32; POOL_ROWS],
     its: &'a [u32; POOL_ROWS],
@@ -82,6 +84,7 @@ fn pool_columns<'a>(
     before
 }
 
+#[tactic(auto, using(crate::proofs::ReadLaws::asked_below, crate::proofs::ReadLaws::range_row_is))]
 fn range_columns<'a>(
     controller: &'a [u32; ROWS],
     its: &'a [u32; ROWS],
@@ -118,6 +121,7 @@ fn range_columns<'a>(
     before
 }
 
+#[tactic(auto, using(crate::proofs::ReadLaws::asked_below, crate::proofs::ReadLaws::input_row_is))]
 fn input_columns<'a>(
     controller: &'a [u32; ROWS],
     input: &'a [u64; ROWS],
@@ -207,6 +211,7 @@ fn input_row<'a>(t: &'a Inputs, k: Which, part: u64, kind: u64, before: Found) -
 
 // ---- all tables, each by its part and its kind
 
+#[tactic(auto, using(crate::proofs::FoundLaws::all_asked))]
 pub fn row<'a>(s: &'a State, k: Which) -> Found
     ensures { found_of result ≡ row_in (state_view s.now) k.part k.kind k.row }
 {

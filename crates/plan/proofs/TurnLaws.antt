@@ -22,7 +22,10 @@ use Rattle.decide.specs.declared.Bases.{Bases}
 use Rattle.plan.specs.Steps.{clear, Steady, indexed, index_for, turned, written_at}
 use Rattle.plan.proofs.StepLaws.{written_is, turned_skips}
 use Rattle.plan.proofs.PlanLaws.{turned_in_place}
-use Rattle.plan.proofs.StateFields.{with_index}
+
+abbrev pub with_index : ℕ → State → State
+with_index x d =
+    record { auto = d.auto; fixed = d.fixed; held = d.held; owners = d.owners; number = d.number; index = x; namespace = d.namespace; owner = d.owner; detail = d.detail }
 
 pub not_T : (b : Bool) → T (not b) → b ≡ false
 not_T true t = absurd t

@@ -8,6 +8,8 @@ ghost use Rattle.lines.specs.Text.{output};
 ghost use Rattle.standard_input.specs.Reads.{Stopped, Prints};
 
 use standard_input::{Input, read_input};
+use std::io;
+use std::io::Write;
 use text::{OUTPUT, TEXT, respond};
 
 // One byte more than the longest text is read, so that a longer one is seen.
@@ -28,10 +30,10 @@ fn printed(buf: &[u8], input: Input, out: &mut [u8]) -> usize
     r.length
 }
 
-fn main() {
+fn main(rt: HostRuntime) -> io::Result<()> {
     let mut buf = [0u8; INPUT];
-    let input = read_input(&mut buf);
+    let input = read_input(&mut rt.stdin(), &mut buf);
     let mut out = [0u8; OUTPUT];
     let m = printed(&buf, input, &mut out);
-    io::write_all(1, &out[..m]);
+    rt.stdout().write_all(&out[..m])
 }

@@ -44,6 +44,7 @@ pub fn read_fields(line: &[u8]) -> Row
 }
 
 // The whole input.
+#[tactic(auto, using(crate::proofs::LineLaws::line_long, crate::proofs::LineLaws::line_open, crate::proofs::LineLaws::line_closed, crate::proofs::LineLaws::line_empty))]
 pub fn read_words(text: &[u8]) -> Row
     ensures { result ≡ row_of (line_by capped_word text.now) }
 {

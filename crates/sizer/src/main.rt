@@ -1,4 +1,4 @@
-// The program that sizes a device: six words of its registers and its requester from standard input, its requests as `want` lines to standard output, or the line `no`. A read that fails prints nothing.
+// The program that sizes a device: six words of its registers and its requester from standard input, its requests as `want` lines to standard output, or the line `no`. A read that fails prints nothing, and a write that fails ends the program with a status.
 #![tactic(auto)]
 
 ghost use Rattle.std.specs.Prelude.{◌≤◌, ◌<◌, length, take};
@@ -12,6 +12,8 @@ use crate::line::{TEXT, read_words};
 use crate::wants::put_wants;
 use registers::{MOST, REGISTERS, registers};
 use standard_input::{Input, read_input};
+use std::io;
+use std::io::Write;
 use writers::output::{GOT, put_no};
 
 pub mod word; // word.rt: a field read as a number
@@ -56,10 +58,10 @@ fn printed(buf: &[u8], input: Input, out: &mut [u8]) -> usize
     sizes(&buf[..n], out)
 }
 
-fn main() {
+fn main(rt: HostRuntime) -> io::Result<()> {
     let mut buf = [0u8; INPUT];
-    let input = read_input(&mut buf);
+    let input = read_input(&mut rt.stdin(), &mut buf);
     let mut out = [0u8; OUTPUT];
     let m = printed(&buf, input, &mut out);
-    io::write_all(1, &out[..m]);
+    rt.stdout().write_all(&out[..m])
 }

@@ -20,6 +20,7 @@ pub fn capped(v: u64) -> u64
 }
 
 // What a digit says; 16 is no digit.
+#[tactic(auto, using(crate::proofs::WordLaws::value_before, crate::proofs::WordLaws::value_decimal, crate::proofs::WordLaws::value_between, crate::proofs::WordLaws::value_upper, crate::proofs::WordLaws::value_middle, crate::proofs::WordLaws::value_lower, crate::proofs::WordLaws::value_behind))]
 pub fn digit_value(b: u8) -> u64
     ensures { result ≡ digit_value b }
 {
@@ -64,6 +65,7 @@ pub fn read_in(f: &[u8], from: usize, base: u64) -> Number
 }
 
 // Behind a leading zero there is nothing, or `x` and digits.
+#[tactic(auto, using(crate::proofs::WordLaws::word_empty, crate::proofs::WordLaws::word_zeros, crate::proofs::WordLaws::word_bare, crate::proofs::WordLaws::word_hexadecimal, crate::proofs::WordLaws::word_decimal))]
 pub fn read_word(f: &[u8]) -> Number
     ensures { number_says result ≡ capped_word f.now }
 {

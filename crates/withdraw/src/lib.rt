@@ -14,6 +14,7 @@ use tables::State;
 // ---- what is judged, over plain values
 
 // 0 is nobody, and a requester has 32 bits.
+#[tactic(auto, using(crate::proofs::AnswerLaws::somebody, crate::proofs::AnswerLaws::nobody))]
 pub fn a_requester(requester: u64) -> bool
     ensures { result ≡ a_requester requester }
 {
@@ -44,6 +45,7 @@ pub fn narrow(requester: u64) -> u32
 // ---- what came of it
 
 // Whether a count is below another, or what was found of the others.
+#[tactic(auto, using(crate::proofs::AnswerLaws::less_here, crate::proofs::AnswerLaws::less_else))]
 fn less_or(a: usize, b: usize, others: bool) -> bool
     ensures { result ≡ ltb a b || others }
 {
@@ -54,6 +56,7 @@ fn less_or(a: usize, b: usize, others: bool) -> bool
 }
 
 // Whether a table has become shorter.
+#[tactic(auto, unfolding(crate::specs::Answers::shorter_of, definition::specs::Base::any_of))]
 pub fn shorter(before: Marks, after: Marks) -> bool
     ensures { result ≡ shorter_of before after }
 {

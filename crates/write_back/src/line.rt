@@ -14,6 +14,7 @@ use writers::put::{put_bytes, put_numbers};
 const AUTO: usize = 5;
 
 // How many digits n has.
+#[tactic(auto, using(lines::proofs::DigitLaws::digits_length, lines::proofs::DigitLaws::digits_more_length, lines::proofs::DigitLaws::digits_small_length))]
 pub fn digit_count(n: u64) -> usize
     ensures { result ≡ length (digits n) }
 {
@@ -27,6 +28,7 @@ pub fn digit_count(n: u64) -> usize
 }
 
 // How many bytes a few numbers have, each after a tab.
+#[tactic(auto, using(lines::proofs::DigitLaws::digits_length, crate::proofs::LineLaws::tabbed_next, crate::proofs::LineLaws::tabbed_short, crate::proofs::LineLaws::tabbed_end))]
 pub fn numbers_length(xs: &[u64]) -> usize
     requires { length xs.now ≤ record_size }
     ensures { result ≡ length (behind (map digits xs.now)) }
@@ -43,6 +45,7 @@ pub fn numbers_length(xs: &[u64]) -> usize
 }
 
 // Whether the line is a `want`: a `pool` and a `hold` begin otherwise.
+#[tactic(auto, using(crate::proofs::LineLaws::empty_no_want), unfolding(crate::specs::Bytes::is_want))]
 pub fn is_want(line: &[u8]) -> bool
     ensures { result ≡ is_want line.now }
 {
@@ -53,6 +56,7 @@ pub fn is_want(line: &[u8]) -> bool
 }
 
 // Whether the line's last field is `auto`: every other line ends in a digit.
+#[tactic(auto, using(crate::proofs::LineLaws::empty_no_auto), unfolding(crate::specs::Bytes::ends_in_auto))]
 pub fn ends_in_auto(line: &[u8]) -> bool
     ensures { result ≡ ends_in_auto line.now }
 {
@@ -64,6 +68,7 @@ pub fn ends_in_auto(line: &[u8]) -> bool
 }
 
 // The numbers that a record grants, by its kind.
+#[tactic(auto, using(crate::proofs::LineLaws::granted_input, crate::proofs::LineLaws::granted_msi, crate::proofs::LineLaws::granted_first))]
 pub fn granted(r: &[u64]) -> &[u64]
     requires { record_size ≤ length r.now }
     ensures { result.now ≡ granted_in r.now }
@@ -79,6 +84,7 @@ pub fn granted(r: &[u64]) -> &[u64]
 }
 
 // How many bytes the line has when it is pinned by the record r.
+#[tactic(auto, using(crate::proofs::LineLaws::tabbed_short, crate::proofs::LineLaws::granted_few, crate::proofs::LineLaws::pinned_as_is, crate::proofs::LineLaws::pinned_length))]
 pub fn pinned_length(line: &[u8], r: &[u64]) -> usize
     requires { Pinnable line.now r.now }
     ensures { result ≡ length (pinned_bytes line.now r.now) }
@@ -104,6 +110,7 @@ pub fn put_pinned(out: &mut [u8], at: usize, line: &[u8], r: &[u64]) -> usize
 }
 
 // Where the records stand that the lines behind this one are granted: a want takes one.
+#[tactic(auto, using(crate::proofs::LineLaws::used_one, crate::proofs::LineLaws::used_none))]
 pub fn past_record(line: &[u8], from: usize) -> usize
     requires { from ≤ results_size }
     ensures { result ≡ from + used_by line.now }

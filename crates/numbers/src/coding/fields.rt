@@ -20,6 +20,7 @@ pub fn bad() -> Call
 }
 
 // Both fit fields of 16 bits.
+#[tactic(auto, unfolding(definition::specs::Base::all_of))]
 pub fn narrow_16(a: u64, b: u64) -> bool
     ensures { result ≡ all_of (below 16) (a ∷ b ∷ []) }
 {
@@ -30,6 +31,7 @@ pub fn narrow_16(a: u64, b: u64) -> bool
 }
 
 // All four fit fields of 32 bits.
+#[tactic(auto, unfolding(definition::specs::Base::all_of))]
 pub fn narrow_32(a: u64, b: u64, c: u64, d: u64) -> bool
     ensures { result ≡ all_of (below 32) (a ∷ b ∷ c ∷ d ∷ []) }
 {

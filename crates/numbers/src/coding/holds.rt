@@ -11,6 +11,7 @@ use request::call::{Call, Devices, Events, Hold, Lpis};
 use tables::{DeviceId, EventId, Lpi};
 
 // How many numbers a reservation of a kind needs.
+#[tactic(auto, using(crate::proofs::SizeLaws::any_default, crate::proofs::SizeLaws::past_end), unfolding(crate::specs::Coding::hold_size))]
 pub fn hold_size(kind: u64) -> usize
     ensures { result ≡ hold_size kind }
 {
@@ -23,6 +24,7 @@ pub fn hold_size(kind: u64) -> usize
 
 // ---- the kinds that have narrow fields
 
+#[tactic(auto, using(crate::proofs::NarrowLaws::within_16, crate::proofs::NarrowLaws::narrow_in, crate::proofs::NarrowLaws::narrow_out))]
 fn hold_pio(o: u32, a: u64, b: u64) -> Call
     ensures { call_of result ≡ narrow 16 (a ∷ b ∷ []) (some (hold o (pio_hold a b))) }
 {
@@ -32,6 +34,7 @@ fn hold_pio(o: u32, a: u64, b: u64) -> Call
     bad()
 }
 
+#[tactic(auto, using(crate::proofs::NarrowLaws::within_32, crate::proofs::NarrowLaws::three_of_four, crate::proofs::NarrowLaws::narrow_in, crate::proofs::NarrowLaws::narrow_out))]
 fn hold_input(o: u32, a: u64, b: u64, c: u64, d: u64) -> Call
     ensures { call_of result ≡ narrow 32 (a ∷ c ∷ d ∷ []) (some (hold o (input_hold a b c d))) }
 {
@@ -41,6 +44,7 @@ fn hold_input(o: u32, a: u64, b: u64, c: u64, d: u64) -> Call
     bad()
 }
 
+#[tactic(auto, using(crate::proofs::NarrowLaws::within_32, crate::proofs::NarrowLaws::narrow_in, crate::proofs::NarrowLaws::narrow_out))]
 fn hold_devices(o: u32, a: u64, b: u64, c: u64, d: u64) -> Call
     ensures { call_of result ≡ narrow 32 (a ∷ b ∷ c ∷ d ∷ []) (some (hold o (device_hold a b c d))) }
 {
@@ -54,6 +58,7 @@ fn hold_devices(o: u32, a: u64, b: u64, c: u64, d: u64) -> Call
     bad()
 }
 
+#[tactic(auto, using(crate::proofs::NarrowLaws::within_32, crate::proofs::NarrowLaws::narrow_in, crate::proofs::NarrowLaws::narrow_out, crate::proofs::NarrowLaws::one_in, crate::proofs::NarrowLaws::one_out))]
 fn hold_events(o: u32, a: u64, b: u64, c: u64, d: u64, e: u64) -> Call
     ensures { call_of result ≡ narrow 32 (a ∷ b ∷ c ∷ d ∷ []) (narrow 32 (e ∷ []) (some (hold o (event_hold a b c d e)))) }
 {
@@ -70,6 +75,7 @@ fn hold_events(o: u32, a: u64, b: u64, c: u64, d: u64, e: u64) -> Call
     Call::Hold(o, Hold::Events(a as u32, b as u32, DeviceId(c as u32), ids))
 }
 
+#[tactic(auto, using(crate::proofs::NarrowLaws::within_32, crate::proofs::NarrowLaws::three_of_four, crate::proofs::NarrowLaws::narrow_in, crate::proofs::NarrowLaws::narrow_out))]
 fn hold_lpis(o: u32, a: u64, b: u64, c: u64) -> Call
     ensures { call_of result ≡ narrow 32 (a ∷ b ∷ c ∷ []) (some (hold o (lpi_hold a b c))) }
 {
@@ -83,6 +89,7 @@ fn hold_lpis(o: u32, a: u64, b: u64, c: u64) -> Call
     bad()
 }
 
+#[tactic(auto, using(crate::proofs::NarrowLaws::within_32, crate::proofs::NarrowLaws::two_of_four, crate::proofs::NarrowLaws::narrow_in, crate::proofs::NarrowLaws::narrow_out))]
 fn hold_pair(o: u32, a: u64, b: u64, c: u64, d: u64) -> Call
     ensures { call_of result ≡ narrow 32 (a ∷ c ∷ []) (some (hold o (pair_hold a b c d))) }
 {
@@ -95,6 +102,7 @@ fn hold_pair(o: u32, a: u64, b: u64, c: u64, d: u64) -> Call
 // ---- any kind
 
 // A reservation of any kind.
+#[tactic(auto, using(crate::proofs::NarrowLaws::held_none), unfolding(crate::specs::Coding::held_in))]
 fn held_of(o: u32, kind: u64, a: u64, b: u64, c: u64, d: u64, e: u64) -> Call
     ensures { call_of result ≡ held_in o kind a b c d e }
 {
@@ -126,6 +134,7 @@ fn held_of(o: u32, kind: u64, a: u64, b: u64, c: u64, d: u64, e: u64) -> Call
 }
 
 // .. of any owner.
+#[tactic(auto, using(crate::proofs::NarrowLaws::hold_in_is, crate::proofs::NarrowLaws::hold_out))]
 pub fn hold_of(o: u64, kind: u64, a: u64, b: u64, c: u64, d: u64, e: u64) -> Call
     ensures { call_of result ≡ hold_in o kind a b c d e }
 {

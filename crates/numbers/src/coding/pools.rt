@@ -11,6 +11,7 @@ use request::call::{Call, Devices, Events, Lpis, PoolRange, Use};
 use tables::{DeviceId, EventId, Lpi};
 
 // How many numbers a pool of a kind needs.
+#[tactic(auto, using(crate::proofs::SizeLaws::any_default, crate::proofs::SizeLaws::past_end), unfolding(crate::specs::Coding::pool_size))]
 pub fn pool_size(kind: u64) -> usize
     ensures { result ≡ pool_size kind }
 {
@@ -23,6 +24,7 @@ pub fn pool_size(kind: u64) -> usize
 
 // ---- the kinds that have narrow fields
 
+#[tactic(auto, using(crate::proofs::NarrowLaws::within_16, crate::proofs::NarrowLaws::narrow_in, crate::proofs::NarrowLaws::narrow_out))]
 fn pool_pio(u: Use, a: u64, b: u64) -> Call
     ensures { call_of result ≡ narrow 16 (a ∷ b ∷ []) (some (pool (use_of u) (pio_pool a b))) }
 {
@@ -32,6 +34,7 @@ fn pool_pio(u: Use, a: u64, b: u64) -> Call
     bad()
 }
 
+#[tactic(auto, using(crate::proofs::NarrowLaws::within_32, crate::proofs::NarrowLaws::one_of_four, crate::proofs::NarrowLaws::narrow_in, crate::proofs::NarrowLaws::narrow_out))]
 fn pool_input(u: Use, a: u64, b: u64, c: u64) -> Call
     ensures { call_of result ≡ narrow 32 (a ∷ []) (some (pool (use_of u) (input_pool a b c))) }
 {
@@ -41,6 +44,7 @@ fn pool_input(u: Use, a: u64, b: u64, c: u64) -> Call
     bad()
 }
 
+#[tactic(auto, using(crate::proofs::NarrowLaws::within_32, crate::proofs::NarrowLaws::narrow_in, crate::proofs::NarrowLaws::narrow_out))]
 fn pool_msi(u: Use, a: u64, b: u64, c: u64, d: u64, e: u64, f: u64, g: u64, h: u64) -> Call
     ensures { call_of result ≡ narrow 32 (a ∷ b ∷ c ∷ d ∷ []) (narrow 32 (e ∷ f ∷ g ∷ h ∷ []) (some (pool (use_of u) (msi_pool a b c d e f g h)))) }
 {
@@ -68,6 +72,7 @@ fn pool_msi(u: Use, a: u64, b: u64, c: u64, d: u64, e: u64, f: u64, g: u64, h: u
 // ---- any kind
 
 // A pool of any kind.
+#[tactic(auto, using(crate::proofs::NarrowLaws::pool_none), unfolding(crate::specs::Coding::pool_in))]
 fn pool_of(
     u: Use,
     kind: u64,
@@ -101,6 +106,7 @@ fn pool_of(
 }
 
 // A pool of either use.
+#[tactic(auto, using(crate::proofs::NarrowLaws::used_none), unfolding(crate::specs::Coding::used_in))]
 pub fn used_of(
     which: u64,
     kind: u64,

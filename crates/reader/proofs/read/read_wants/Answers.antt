@@ -17,16 +17,16 @@ pub returns-in_default-second : goal.returns-in_default-second
 returns-in_default-second c =
     let a = c.args in
     sym (
-      want_no_slot
-      a.requester.now
-      a.slot.now
-      a.rest.now
-      c.find-e.result
-      c.find-e.ensures
-      c.if-rest-e.false
-      c.in-Value.q
-      (sym c.in-Value.ensures)
-      (sym (rw c.in_default-second.is at c.read_number-second.ensures)))
+    want_no_slot
+    a.requester.now
+    a.slot.now
+    a.rest.now
+    c.find-e.result
+    c.find-e.ensures
+    c.if-rest-e.false
+    c.in-Value.q
+    (sym c.in-Value.ensures)
+    (sym (rw c.in_default-second.is at c.read_number-second.ensures)))
 
 pub overflow_cast-q : goal.overflow_cast-q
 overflow_cast-q c = omega (arith, number_within n32 c.args.requester.now c.in-Value.q (sym c.in-Value.ensures))
@@ -39,14 +39,14 @@ returns c =
     let a = c.args in
     c.read_want.ensures
     ∙ sym (
-      want_said
-      a.requester.now
-      a.slot.now
-      a.rest.now
-      c.find-e.result
-      c.find-e.ensures
-      c.if-rest-e.false
-      c.in-Value.q
-      c.in-Value-second.s
-      (sym c.in-Value.ensures)
-      (sym c.in-Value-second.ensures))
+    want_said
+    a.requester.now
+    a.slot.now
+    a.rest.now
+    c.find-e.result
+    c.find-e.ensures
+    c.if-rest-e.false
+    c.in-Value.q
+    c.in-Value-second.s
+    (sym c.in-Value.ensures)
+    (sym c.in-Value-second.ensures))
