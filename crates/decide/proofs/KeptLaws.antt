@@ -7,7 +7,7 @@ use native.Mathlib.Numerals.{add-one}
 use native.Mathlib.Omega.{arith}
 use lib.ListN.{length}
 use Rattle.definition.specs.Base.{accepted, refused}
-use Rattle.definition.specs.Tables.{row_limit, dom, same_kind, Kind, mmio, pio, input, host, device, event, lpi, Span, Row}
+use Rattle.definition.specs.Tables.{row_limit, dom, same_kind, Kind, mmio, pio, input, host, Span, Row}
 use Rattle.definition.specs.Pools.{at_kind, Claim, rows_of}
 use Rattle.definition.specs.Request as R
 use Rattle.definition.specs.Calls.{state, saying, push_all}

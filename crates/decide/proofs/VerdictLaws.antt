@@ -6,7 +6,7 @@ use Prim.Native.Nat.{ℕ, ◌<◌, ◌≤◌}
 use native.Mathlib.Omega.{arith}
 use lib.Dec.{T}
 use Rattle.definition.specs.Base.{accepted}
-use Rattle.definition.specs.Tables.{row_limit, Kind, kinds, mmio, pio, input, host, device, event, lpi, used}
+use Rattle.definition.specs.Tables.{row_limit, Kind, kinds, mmio, pio, input, host, used}
 use Rattle.definition.specs.Pools.{at_kind}
 use Rattle.definition.specs.Request.{fixed, good_request, claims}
 use Rattle.definition.specs.Request as R

@@ -6,6 +6,7 @@ mod input;
 pub mod lending;
 
 use crate::lending::MOST;
+use std::io;
 use tables::{PLAN, RECORD, State};
 
 // Numbers of results: of the longest plan, and of one request more.
@@ -131,20 +132,20 @@ pub fn handed(c: Case) -> bool {
     part(c, &mut out)
 }
 
-fn main() {
+fn main(rt: HostRuntime) -> io::Result<()> {
     let mut k: u64 = 0;
     while k < CASES {
         let c = case_at(k);
-        io::print_decimal(1, k);
         if tried(c) {
             if handed(c) {
-                io::write_all(1, b" passed\n");
+                println!(rt; "{k} passed")?;
             } else {
-                io::write_all(1, b" plan failed\n");
+                println!(rt; "{k} plan failed")?;
             }
         } else {
-            io::write_all(1, b" plan_in failed\n");
+            println!(rt; "{k} plan_in failed")?;
         }
         k += 1;
     }
+    Ok(())
 }

@@ -5,7 +5,7 @@ use Prim.Native.Nat.{ℕ}
 use lib.Dec.{ltb}
 use lib.ListN.{length}
 use Rattle.definition.specs.Base.{all_of, full, accepted, refused, require}
-use Rattle.definition.specs.Tables.{row_limit, device, event, lpi}
+use Rattle.definition.specs.Tables.{row_limit}
 use Rattle.definition.specs.Base as F
 use Rattle.definition.specs.Pools.{Holders, room}
 use Rattle.definition.specs.Request.{Need, row_at, auto, at, automatic, fixed, Pools, place, claims}

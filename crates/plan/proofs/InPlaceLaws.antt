@@ -15,7 +15,7 @@ use Rattle.definition.proofs.BaseLaws.{T_true, true_T, and_l, and_r}
 use Rattle.definition.specs.Base.{Refusal, malformed, short, Said, silence, tell}
 use Rattle.definition.specs.Tables.{plan_limit, record_size, Kind, kinds}
 use Rattle.definition.specs.Request.{Request}
-use Rattle.definition.specs.Calls.{State, state, pools_of, owners_of, sound, saying, granting}
+use Rattle.definition.specs.Calls.{State, pools_of, owners_of, sound, saying, granting}
 use Rattle.definition.proofs.StateLaws.{sound_for, sound_saying}
 use Rattle.definition.specs.Plan.{Run, done, stopped, run, Lent, lent, all_rows, plan}
 use Rattle.definition.proofs.PlanLaws.{tell_number}

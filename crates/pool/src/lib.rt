@@ -14,7 +14,7 @@ use tables::State;
 
 pub mod address;
 pub mod host_irq;
-pub mod msi;
+pub mod message;
 pub mod wired;
 
 // Any call on a state by value: the state is lent from here.

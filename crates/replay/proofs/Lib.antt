@@ -4,5 +4,3 @@ pub mod AgainLaws
 pub mod RunLaws
 pub mod FlatExample
 pub mod ReplayedLaws
-pub mod Whole
-pub mod Lists

@@ -1,5 +1,5 @@
 -- Demand 3 for the calls: what is asked of the states, the requests and the results as plain numbers, and what is promised of them. Assumes nothing.
-use Rattle.std.specs.Prelude.{◌≡◌, List, [], ◌∷◌, ◌++◌, ℕ, zero, suc, ◌+◌, ◌*◌, ◌/◌, ◌≤◌, length, get_or, take, drop}
+use Rattle.std.specs.Prelude.{◌≡◌, List, [], ◌∷◌, ◌++◌, ℕ, ◌+◌, ◌*◌, ◌/◌, ◌≤◌, length, get_or, take, drop}
 use Rattle.definition.specs.Tables.{record_size, dom, mmio, pio, input, host, device, event, lpi, kinds, range_row, wired_row}
 use Rattle.definition.specs.Pools.{at_kind, Claim}
 use Rattle.definition.specs.Calls.{State, pools_of, start, serve}

@@ -18,7 +18,7 @@ use Rattle.definition.specs.Base.{Refusal, bad_line, short, Said, says, tell, An
 use Rattle.definition.specs.Tables.{plan_limit, record_size, kinds}
 use Rattle.definition.specs.Pools.{Claim}
 use Rattle.definition.specs.Request.{Request, resolve}
-use Rattle.definition.specs.Calls.{State, pools_of, owners_of, given, sound, granting, Call, pool, hold, start, want, serve}
+use Rattle.definition.specs.Calls.{State, pools_of, owners_of, sound, granting, Call, pool, hold, start, want, serve}
 use Rattle.definition.proofs.StateLaws.{SoundFor, given_for, for_given, sound_for, for_sound, serve_given, started_sound, want_sound}
 use Rattle.definition.specs.Plan.{grant, record_of_grant, Lent, lent, allocate_into}
 use Rattle.definition.proofs.RunLaws.{record_length}

@@ -1,24 +1,24 @@
 -- How the line of a call begins and ends: a want begins with 'w', and only an automatic want ends in 'o'; with its answer written back it is the same line up to
 -- its last field. Assumes nothing.
-use mathlib.Core.Path.{◌≡◌, refl, sym, ◌∙◌, ap, subst}
+use mathlib.Core.Path.{◌≡◌, refl, sym, ◌∙◌, ap}
 use mathlib.Core.Bool.{Bool, true, false}
 use mathlib.Core.List.{List, [], ◌∷◌, ◌++◌, map, append_assoc, append-nil}
-use Prim.Native.Nat.{ℕ, zero, suc, ◌+◌, ◌-◌, ◌/◌, ◌%◌, ◌≤◌, ◌<◌}
+use Prim.Native.Nat.{ℕ, suc, ◌+◌, ◌-◌, ◌/◌, ◌%◌, ◌<◌}
 use native.Mathlib.Omega.{arith}
 use native.Mathlib.Nat.{mod-lt}
-use lib.Dec.{T, eqb, ltb}
-use lib.ListN.{length, take, drop, get_or, length-append}
+use lib.Dec.{T, ltb}
+use lib.ListN.{length, take, get_or, length-append}
 use lib.Seq.{take_at}
-use borrow.Author.Tests.{eq-eqb, ne_eqb, ltb-true}
+use borrow.Author.Tests.{ne_eqb, ltb-true}
 use Rattle.definition.specs.Pools.{Claim, Pool, mmio_pool, pio_pool, host_pool, input_pool, msi_pool, Hold, mmio_hold, pio_hold, host_hold, input_hold, device_hold, event_hold, lpi_hold, pair_hold}
-use Rattle.definition.specs.Request.{Choice, auto, at, Want, mmio_want, pio_want, input_want, host_want, msi_want, Request, Use}
-use Rattle.definition.specs.Calls.{Call, pool, hold, start, want}
-use Rattle.definition.specs.Plan.{Grant, grant, base_at, record_of, record_of_grant, pin_choice, pin_want, pinned}
+use Rattle.definition.specs.Request.{auto, at, Want, mmio_want, pio_want, input_want, host_want, msi_want, Use}
+use Rattle.definition.specs.Calls.{pool, hold, want}
+use Rattle.definition.specs.Plan.{base_at, record_of, pin_want}
 use Rattle.lines.specs.Base.{tab, bytes, pick}
 use Rattle.lines.specs.Numbers.{digit_limit, digits_up_to, digits}
 use Rattle.lines.specs.Forms.{field_of, fields_of, want_spelling}
 use Rattle.lines.proofs.SpellLaws.{behind_append}
-use Rattle.lines.specs.Line.{behind, use_word, line_from, line_of, spellable, sayable}
+use Rattle.lines.specs.Line.{behind, use_word, line_from, line_of, spellable}
 use Rattle.write_back.specs.Bytes.{is_want, ends_in_auto, auto_size, granted_in, pinned_bytes, Plain}
 
 -- ---- fields behind fields

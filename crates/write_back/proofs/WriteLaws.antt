@@ -1,18 +1,18 @@
 -- What writing back answers, as the code comes to it, is the definition's answer. Assumes nothing.
 use mathlib.Core.Path.{◌≡◌, refl, sym, ◌∙◌, ap, subst}
-use mathlib.Core.Bool.{Bool, true, false, ◌&&◌}
+use mathlib.Core.Bool.{true, false, ◌&&◌}
 use mathlib.Core.List.{List, [], ◌∷◌, ◌++◌, map}
 use mathlib.Core.Option.{some}
 use Prim.Native.Nat.{ℕ, ◌+◌, ◌*◌, ◌≤◌, ◌<◌}
 use native.Mathlib.Omega.{arith}
-use lib.Dec.{eqb, leb}
-use lib.ListN.{length, take, drop, take-append-drop}
+use lib.Dec.{leb}
+use lib.ListN.{length, drop, take-append-drop}
 use lib.Seq.{sets, sets-eq}
 use borrow.Author.Tests.{le-leb, lt-leb, eq-eqb, ne_eqb}
 use Rattle.definition.proofs.BaseLaws.{and_false}
 use Rattle.definition.specs.Tables.{record_size}
 use Rattle.definition.specs.Base.{silence, short, tell}
-use Rattle.definition.specs.Calls.{State, fresh, Call}
+use Rattle.definition.specs.Calls.{State, fresh}
 use Rattle.definition.specs.Plan.{Grant, records, written}
 use Rattle.lines.specs.Base.{text_limit, newline, split}
 use Rattle.lines.specs.Output.{no_numbers}
@@ -26,10 +26,10 @@ use Rattle.lines.proofs.TakesLaws.{closed_of}
 use Rattle.lines.proofs.RunTextLaws.{standing}
 use Rattle.lines.proofs.BackLaws.{took, requests_are, ends}
 use Rattle.writers.specs.Put.{Put}
-use Rattle.text.specs.Sofar.{said_in, sofar_of}
+use Rattle.text.specs.Sofar.{sofar_of}
 use Rattle.text.specs.Step.{results_size, Fed}
 use Rattle.text.specs.declared.feed.sofar.Sofar.{Sofar}
-use Rattle.write_back.specs.Bytes.{back_bytes, wants_of, Tidy, Writable}
+use Rattle.write_back.specs.Bytes.{back_bytes, Writable}
 use Rattle.write_back.proofs.PinnedLaws.{Known, known}
 
 -- ---- the definition's answer, case by case

@@ -1,5 +1,5 @@
 -- Some events are asked for; all numbers have 32 bits by their types. Assumes nothing.
-use Rattle.std.proofs.Common.{◌≡◌, refl, Bool, true, ◌&&◌, not, ℕ, zero, suc, arith, eqb, ltb, le-leb, lt-ltb, ne_eqb}
+use Rattle.std.proofs.Common.{◌≡◌, refl, true, ◌&&◌, not, ℕ, zero, suc, arith, eqb, ltb, le-leb, lt-ltb, ne_eqb}
 use Rattle.definition.specs.Request.{good_want}
 use Rattle.request.proofs.NarrowLaws.{device_good, event_good, lpi_good}
 use Rattle.request.proofs.good_msi.Goals as goal

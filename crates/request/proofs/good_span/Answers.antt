@@ -1,6 +1,6 @@
 -- Each test in turn. Assumes nothing.
 use Rattle.std.proofs.Common.{arith, sym, ◌∙◌}
-use borrow.Author.Tests.{not-true, not-false, lt-ltb, le-ltb, lt-leb, le-leb}
+use borrow.Author.Tests.{lt-ltb, le-ltb, lt-leb, le-leb}
 use Rattle.request.specs.Asked.{good_span}
 use Rattle.request.proofs.good_span.Goals as goal
 

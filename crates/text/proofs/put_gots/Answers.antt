@@ -1,5 +1,5 @@
 -- The `got` lines of several records: one line more. Assumes nothing.
-use Rattle.std.proofs.Common.{◌≡◌, ◌*◌, drop, length-drop, arith, rules}
+use Rattle.std.proofs.Common.{◌*◌, drop, length-drop, arith}
 use Rattle.definition.specs.Tables.{record_size}
 use Rattle.lines.specs.Output.{got_line, got_lines}
 use Rattle.writers.specs.Put.{Put}
@@ -21,7 +21,9 @@ put_got-e-requires c =
         arith,
         l.invariant.written.0,
         gots_room a.n l.i a.results.now (omega arith),
-        put_length a.out.now 0 (got_lines l.i a.results.now) l.e l.out l.invariant.written))
+        put_length a.out.now 0 (got_lines l.i a.results.now) l.e l.out l.invariant.written,
+      ),
+    )
 
 pub loop-i-preserved : goal.loop-i-preserved
 loop-i-preserved c =

@@ -1,5 +1,5 @@
 -- A text's lines taken on fresh tables, which are sound. Assumes nothing.
-use Rattle.std.proofs.Common.{◌≡◌, ◌∙◌, List, ℕ, sym, ap, subst, T}
+use Rattle.std.proofs.Common.{◌≡◌, ◌∙◌, sym, ap, subst, T}
 use Rattle.definition.specs.Tables.{kinds}
 use Rattle.definition.specs.Calls as C
 use Rattle.definition.proofs.StateLaws.{for_given, sound_for, fresh_sound}

@@ -21,9 +21,10 @@ pub answer-e-requires : goal.answer-e-requires
 answer-e-requires c =
     let a = c.args in
     let r = c.read-t in
-    let long : length r.new.results ≡ results_size = search rules in
-    (records_inside a.text.now blank r.result (tables_after a.text.now) r.new.results r.ensures long,
-    omega (arith, ap length (output_is a.text.now blank r.result (tables_after a.text.now) r.new.results r.ensures long (omega arith)), output_length a.text.now))
+    let long : length r.new.results ≡ results_size = search rules in (
+      records_inside a.text.now blank r.result (tables_after a.text.now) r.new.results r.ensures long,
+      omega (arith, ap length (output_is a.text.now blank r.result (tables_after a.text.now) r.new.results r.ensures long (omega arith)), output_length a.text.now),
+    )
 
 pub returns : goal.returns
 returns c =

@@ -1,5 +1,5 @@
 -- How many bytes the pinned text has: one line more, and where the lines end. Assumes nothing.
-use Rattle.std.proofs.Common.{◌∙◌, ap, length, refl, arith, rules}
+use Rattle.std.proofs.Common.{◌∙◌, ap, length, refl, arith}
 use Rattle.lines.specs.Place.{end_at}
 use Rattle.writers.proofs.EachLaws.{rest_is}
 use Rattle.write_back.proofs.WalkLaws.{walk_ends, walk_turn}

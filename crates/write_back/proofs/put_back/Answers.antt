@@ -1,5 +1,5 @@
 -- The pinned text put into a buffer: one line more, and where the lines end. Assumes nothing.
-use Rattle.std.proofs.Common.{refl, arith, rules}
+use Rattle.std.proofs.Common.{refl, arith}
 use Rattle.lines.specs.Place.{end_at}
 use Rattle.writers.proofs.PutLaws.{put_length}
 use Rattle.writers.proofs.EachLaws.{rest_is}

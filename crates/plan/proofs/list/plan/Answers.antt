@@ -14,8 +14,7 @@ pub returns : goal.returns
 returns c =
     let a = c.args in
     let qs : List R.Request = map request_of a.requests.now in
-    let p : Lent = plan qs (state_view a.state.now) a.results.now in
-    (
+    let p : Lent = plan qs (state_view a.state.now) a.results.now in (
       ap (λ (x : Lent). x.state) c.plan_in.ensures,
       c.front.ensures.0 ∙ answer_front c.plan_in.new.state c.plan_in.new.results p c.peek-m.result c.count-n.result (length a.requests.now) c.plan_in.ensures c.peek-m.ensures c.count-n.ensures
           ∙ (ap (front_of p) (sym (length-map a.requests.now request_of)) ∙ plan_front qs (state_view a.state.now) a.results.now),

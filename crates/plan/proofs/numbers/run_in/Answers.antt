@@ -1,5 +1,5 @@
 -- Turn by turn what is left of the plan equals the whole, and settled it is the definition's. Assumes nothing.
-use Rattle.std.proofs.Common.{arith, sym, ◌∙◌, ◌<◌, length}
+use Rattle.std.proofs.Common.{arith, sym, ◌∙◌, length}
 use Rattle.tables.specs.Views.{state_view}
 use Rattle.request.specs.Asked.{request_of}
 use Rattle.flat.specs.Flat.{bad, requests_from}

@@ -1,5 +1,5 @@
 -- The search ends with the least free input: rows passed are barren, inputs passed are held. The measure of the inner loop is the count of the turns that are left. Assumes nothing.
-use Rattle.std.proofs.Common.{◌≡◌, ℕ, ◌<◌, ◌≤◌, ◌-◌, [], get_or}
+use Rattle.std.proofs.Common.{ℕ, ◌<◌, ◌≤◌, ◌-◌, [], get_or}
 use Rattle.tables.specs.Views.{pool, inputs, input_of, input_at}
 use Rattle.search.specs.Asks.{need_of, one_input}
 use Rattle.search.specs.Steps.{Tried}

@@ -2,11 +2,10 @@
 use Rattle.std.proofs.Common.{◌≡◌, ◌∙◌, sym, ap, ap₂, subst}
 use Rattle.tables.specs.Views.{state_view}
 use Rattle.request.specs.Calls.{call_of}
-use Rattle.request.specs.Asked.{request_of}
-use Rattle.definition.specs.Plan.{Lent, lent}
+use Rattle.definition.specs.Plan.{lent}
 use Rattle.door.specs.Applied.{apply_of}
 use Rattle.plan.specs.Steps.{turned}
-use Rattle.text.specs.Sofar.{head_of, wanted_by, advanced_to}
+use Rattle.text.specs.Sofar.{wanted_by, advanced_to}
 use Rattle.text.specs.Step.{Stepped}
 use Rattle.text.specs.declared.feed.sofar.Sofar.{Sofar}
 use Rattle.text.proofs.StepLaws.{marked, no_want, steady_at, stepped_at, advanced_at}
@@ -20,7 +19,7 @@ turn-requires c =
     (state_view a.s.now)
     a.results.now
     c.requires.0
-    c.requires.1.0
+    c.requires.1
     (call_of a.l.call)
     (sym c.if-asks.ensures)
     (state_view c.apply.new.s)
@@ -42,7 +41,7 @@ returns-then-asks c =
     s
     a.results.now
     c.requires.0
-    c.requires.1.0
+    c.requires.1
     k
     (sym c.if-asks.ensures)
     (state_view c.apply.new.s)
