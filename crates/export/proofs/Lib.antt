@@ -1,4 +1,2 @@
 pub mod SizeLaws
-pub mod PlanWalk
-pub mod FreshWalk
 pub mod FilledLaws

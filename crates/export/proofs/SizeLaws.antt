@@ -1,9 +1,10 @@
 -- The size is that of the state's layout, and the two ways by it. Assumes nothing.
 use mathlib.Core.Path.{◌≡◌, refl, ap, ◌∙◌}
-use mathlib.Core.Bool.{Bool, false, not}
+use mathlib.Core.Bool.{Bool, true, false, not}
 use mathlib.Core.List.{List}
 use Prim.Native.Nat.{ℕ}
 use lib.Dec.{T, eqb}
+use borrow.Author.Tests.{ne_eqb}
 use prog.Memory.{size as size_of}
 use Rattle.definition.proofs.BaseLaws.{T_true}
 use Rattle.definition.specs.Calls.{State as Given}
@@ -20,7 +21,15 @@ pub size_is : state_size ≡ size_of mir
 size_is = refl
 
 fails : (b : Bool) → T (not b) → b ≡ false
+fails true t = elim t [ ]
 fails false t = refl
+
+-- what the code's comparison says
+pub is_size : (size : ℕ) → size ≡ state_size → T (eqb size state_size)
+is_size size e = rw e tt
+
+pub no_size : (size : ℕ) → (size ≡ state_size → ⊥) → T (not (eqb size state_size))
+no_size size f = rw (ne_eqb size state_size f) tt
 
 module _ (size : ℕ) where
   pub right_size : (s : Given) (out : List ℕ) (a b : Answered) → T (eqb size state_size) → b ≡ a → b ≡ sized size s out a

@@ -10,7 +10,6 @@ use lib.ListN.{length, get_or, set}
 use borrow.Author.Tests.{le-leb, lt-leb, lt-ltb, le-ltb, eq-eqb, ne_eqb, ltb-true}
 use Rattle.definition.proofs.BaseLaws.{and_l, and_r, true_T, T_true}
 use Rattle.definition.specs.Tables.{pool_limit, row_limit, Kind, nature, input, Span, Row, blank_span, blank_row}
-use Rattle.definition.specs.Calls.{State as Given}
 use Rattle.definition.specs.Plan.{written}
 use Rattle.tables.specs.Views.{span_of, range_of, input_of, pool_at, range_at, input_at, pool_view, ranges_view, inputs_view}
 use Rattle.tables.specs.declared.Pool.{Pool}

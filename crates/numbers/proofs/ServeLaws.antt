@@ -1,5 +1,5 @@
 -- What is served of a reading, by its way out. Assumes nothing.
-use mathlib.Core.Path.{◌≡◌, refl, sym, ◌∙◌, ap}
+use mathlib.Core.Path.{◌≡◌, refl, ◌∙◌, ap}
 use mathlib.Core.Bool.{Bool, true, false, not, ◌||◌}
 use lib.Dec.{T}
 use Rattle.definition.specs.Base.{malformed, short, refused, require}

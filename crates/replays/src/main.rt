@@ -7,6 +7,7 @@ mod lends;
 mod pools;
 
 use flat::REQUEST;
+use std::io;
 use tables::{PLAN, RECORD, State};
 
 // The numbers of the longest plan, and of its results.
@@ -59,7 +60,7 @@ pub fn tried(seed: u32) -> Outcome {
     again(s, &mut requests[..long], &order[..m], &first)
 }
 
-fn main() {
+fn main(rt: HostRuntime) -> io::Result<()> {
     let mut passed: u64 = 0;
     let mut refused: u64 = 0;
     let mut seed: u32 = 0;
@@ -72,16 +73,13 @@ fn main() {
                 refused = std::num::wrapping_add_u64(refused, 1);
             }
             Outcome::Failed => {
-                io::print_decimal(1, seed as u64);
-                io::write_all(1, b" failed\n");
+                println!(rt; "{seed} failed")?;
             }
         }
         seed += 1;
         if seed % 100 == 0 {
-            io::print_decimal(1, passed);
-            io::write_all(1, b" passed, refused ");
-            io::print_decimal(1, refused);
-            io::write_all(1, b"\n");
+            println!(rt; "{passed} passed, refused {refused}")?;
         }
     }
+    Ok(())
 }

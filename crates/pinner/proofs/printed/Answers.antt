@@ -1,7 +1,8 @@
 -- What is printed: the pinned text, or the line `no`. Assumes nothing.
-use Rattle.std.proofs.Common.{rules, false, take}
+use Rattle.std.proofs.Common.{◌≡◌, pos, rules, false, take}
 use mir.Syntax.{w64}
-use mir.Val.{SFits}
+use lib.Signed.{lt_z}
+use mir.Val.{SFits, to_z, of_z}
 use Rattle.lines.specs.Back.{pin_output}
 use Rattle.standard_input.proofs.ReadLaws.{read_back, prints_front}
 use Rattle.pinner.proofs.PinLaws.{alike_pin, wrote_inside, wrote_front, no_fits, no_inside, no_front}
@@ -21,6 +22,7 @@ returns-then-w-ne0 c =
     let text = take a.input.n a.buf.now in
     let room = c.requires.text_limit_in_bounds_2 in
     let f : SFits w64 a.input.last = search rules in
+    let read : lt_z (to_z w64 (of_z w64 a.input.last)) (pos 0) ≡ false = search rules in
     prints_front
     pin_output
     alike_pin
@@ -29,7 +31,7 @@ returns-then-w-ne0 c =
     a.input.n
     n.result
     a.input.last
-    (read_back a.input.last f false c.if-input-lt0.false)
+    (read_back a.input.last f false read)
     c.requires.text_limit_in_bounds
     c.requires.stopped
     (no_inside text a.out.now w.result w.new.out room w.ensures c.if-w-ne0.true n.result n.new.out n.ensures)
@@ -42,6 +44,7 @@ returns c =
     let text = take a.input.n a.buf.now in
     let room = c.requires.text_limit_in_bounds_2 in
     let f : SFits w64 a.input.last = search rules in
+    let read : lt_z (to_z w64 (of_z w64 a.input.last)) (pos 0) ≡ false = search rules in
     prints_front
     pin_output
     alike_pin
@@ -50,7 +53,7 @@ returns c =
     a.input.n
     w.result.length
     a.input.last
-    (read_back a.input.last f false c.if-input-lt0.false)
+    (read_back a.input.last f false read)
     c.requires.text_limit_in_bounds
     c.requires.stopped
     (wrote_inside text a.out.now w.result w.new.out room w.ensures c.if-w-ne0.false)

@@ -1,7 +1,8 @@
 -- What is printed: the definition's output of the bytes that were read. Assumes nothing.
-use Rattle.std.proofs.Common.{rules, false}
+use Rattle.std.proofs.Common.{◌≡◌, pos, rules, false}
 use mir.Syntax.{w64}
-use mir.Val.{SFits}
+use lib.Signed.{lt_z}
+use mir.Val.{SFits, to_z, of_z}
 use Rattle.lines.specs.Text.{output}
 use Rattle.standard_input.proofs.ReadLaws.{read_back, prints_front}
 use Rattle.planner.proofs.PrintLaws.{alike_output, front_inside, front_is}
@@ -13,6 +14,7 @@ returns c =
     let r = c.respond-r in
     let room = c.requires.output_limit_in_bounds in
     let f : SFits w64 a.input.last = search rules in
+    let read : lt_z (to_z w64 (of_z w64 a.input.last)) (pos 0) ≡ false = search rules in
     prints_front
     output
     alike_output
@@ -21,7 +23,7 @@ returns c =
     a.input.n
     r.result.length
     a.input.last
-    (read_back a.input.last f false c.if-input-lt0.false)
+    (read_back a.input.last f false read)
     c.requires.text_limit_in_bounds
     c.requires.stopped
     (front_inside _ a.out.now _ _ _ room r.ensures)
