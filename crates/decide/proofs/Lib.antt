@@ -1,4 +1,5 @@
 pub mod QueryLaws
+pub mod ElseLaws
 pub mod ReadyLaws
 pub mod RoomLaws
 pub mod AnswerLaws

@@ -1,13 +1,13 @@
 -- No row starts below its kind's floor, whatever calls are made: so no LPI below 8192 ever stands in a pool, a reservation or an owner table. Assumes nothing.
 use Rattle.std.specs.Prelude.{◌≡◌, refl, ◌⊎◌, ℕ, ◌≤◌, T, leb}
 use Rattle.std.proofs.Common.{inl, inr, leb→le}
-use mathlib.Core.List.{List, [], ◌∷◌, Memᴰ}
-use Rattle.definition.specs.Base.{malformed, tell, Answer, accepted, refused, ◌then◌}
+use mathlib.Core.List.{List, Memᴰ}
+use Rattle.definition.specs.Base.{malformed, Answer, accepted, refused, ◌then◌}
 use Rattle.definition.proofs.BaseLaws.{and_l, and_r, either, all_in}
 use Rattle.definition.specs.Tables.{first_lpi, Kind, lpi, kinds, nature, Span, Row, floored, good_row, good_span}
-use Rattle.definition.specs.Pools.{Claim, spans, admit, Hold, held_rows, reserve}
+use Rattle.definition.specs.Pools.{Claim, spans, admit, held_rows, reserve}
 use Rattle.definition.specs.Request.{Request, Use, resolve}
-use Rattle.definition.specs.Calls.{State, fresh, pools_of, held_of, owners_of, given, sound, holding, granting, starting, entering, Call, pool, hold, start, want, settle, serve}
+use Rattle.definition.specs.Calls.{State, fresh, pools_of, held_of, owners_of, given, sound, holding, granting, entering, Call, pool, hold, start, want, settle, serve}
 use Rattle.definition.specs.Plan.{Run, done, stopped, plan_run, ended, plan}
 use Rattle.definition.proofs.RowLaws.{every_kind}
 use Rattle.definition.proofs.RequestLaws.{required}

@@ -15,7 +15,7 @@ use Rattle.definition.specs.Tables.{pool_limit, Kind, same_kind, Span, same_dom,
 use Rattle.definition.specs.Pools.{In, Pool, mmio_pool, pio_pool, host_pool, input_pool, msi_pool, spans, insert, there, entered, has_place, admit, Holders, Claim, room, Hold, mmio_hold, pio_hold, host_hold, input_hold, device_hold, event_hold, lpi_hold, pair_hold, held_rows, unreserved, all_unreserved, reserve}
 use Rattle.definition.proofs.RowLaws.{dom_sym, dom_trans, span_eq, span_refl}
 use Rattle.definition.proofs.ClaimLaws.{other_kind}
-use Rattle.definition.proofs.RequestLaws.{not_accepted, require_accepted, required}
+use Rattle.definition.proofs.RequestLaws.{not_accepted, require_accepted}
 
 -- ---- pool rows in order
 

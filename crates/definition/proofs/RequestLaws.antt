@@ -1,5 +1,5 @@
 -- What an accepted answer says of the tables, and when the same numbers, asked for by name, are accepted again. Assumes nothing.
-use Rattle.std.specs.Prelude.{◌≡◌, Bool, true, false, ◌&&◌, ℕ, zero, suc, ◌+◌, ◌-◌, ◌≤◌, ◌<◌, leb}
+use Rattle.std.specs.Prelude.{◌≡◌, Bool, true, false, ◌&&◌, ℕ, zero, suc, ◌+◌, ◌≤◌, ◌<◌, leb}
 use Rattle.std.proofs.Math.Path.{refl}
 use Rattle.std.proofs.Common.{◌∙◌, zero-add, eqb→eq, lt→ltb}
 use mathlib.Core.List.{List, Memᴰ}
@@ -9,7 +9,7 @@ use Rattle.std.specs.Int.Count.{ones_in}
 use Rattle.std.proofs.Math.Dec.{T, leb→le, le→leb}
 use Rattle.definition.specs.Base.{any_of, all_of, Refusal, fixed_not_allowed, Answer, accepted, refused, require, ◌then◌}
 use Rattle.definition.proofs.BaseLaws.{and_l, and_r, and_i, eq→eqb, any_in, in_any, all_in, LeastAll, none_at_all, least_of_all}
-use Rattle.definition.specs.Tables.{top, last_trigger, shared, Dom, dom, same_dom, within, pool_dom, Kind, input, kinds, nature, Span, Row, fits, ends, if_wired, floored, good_row}
+use Rattle.definition.specs.Tables.{top, last_trigger, shared, Dom, same_dom, within, pool_dom, Kind, input, kinds, nature, Span, Row, fits, ends, if_wired, floored, good_row}
 use Rattle.definition.specs.Pools.{Holders}
 use Rattle.definition.specs.Request.{Choice, auto, at, one_bit, Need, row_at, aligned, holds, free, allowed, obstacle, found, unopposed, Use, automatic, fixed, Pools, place, need, input_need}
 use Rattle.definition.specs.Plan.{pin_choice}

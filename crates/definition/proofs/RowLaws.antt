@@ -6,7 +6,7 @@ use mathlib.Core.List.{List, [], ◌∷◌, Memᴰ}
 use Rattle.std.proofs.Math.Dec.{eqb_refl}
 use Rattle.definition.specs.Base.{all_of, first_of, pairs_of}
 use Rattle.definition.proofs.BaseLaws.{and_l, and_r, and_i, T_true, T_false, not_T→, →not_T, either, eqb_sym, eqb_trans, all_in, first_none, none_first, first_some, first_at, first_past}
-use Rattle.definition.specs.Tables.{top, shared, Dom, dom, same_dom, Kind, mmio, pio, input, host, device, event, lpi, kinds, nature, same_kind, Span, same_span, Row, same_row, overlap, meets, joins, clash, ends, if_wired, fits, good_row}
+use Rattle.definition.specs.Tables.{shared, Dom, same_dom, Kind, mmio, pio, input, host, device, event, lpi, kinds, nature, same_kind, Span, same_span, Row, same_row, overlap, meets, joins, clash, ends, if_wired, fits, good_row}
 use Rattle.definition.specs.Request.{unjoined, obstacle}
 
 -- ---- kinds

@@ -3,18 +3,17 @@ use Rattle.std.specs.Prelude.{◌≡◌, refl, ◌⊎◌, Bool, true, false, ◌
 use Rattle.std.proofs.Common.{sym, ◌∙◌, ap, inl, inr}
 use mathlib.Core.List.Memᴰ
 use mathlib.Core.List.{List, [], ◌∷◌, Memᴰ}
-use Rattle.definition.specs.Base.{all_of, pairs_of, Refusal, malformed, bad_input, empty_range, bad_lpi, full, silence, tell, Answer, accepted, refused, require, ◌then◌}
+use Rattle.definition.specs.Base.{all_of, pairs_of, Refusal, malformed, bad_input, empty_range, bad_lpi, full, silence, tell, require}
 use Rattle.definition.proofs.BaseLaws.{and_l, and_r, T_true, T_false, either, all_in, all_from}
 use Rattle.definition.specs.Tables.{Kind, same_kind, Span, Table, used, fits_span, floored}
 use Rattle.definition.specs.Pools.{In, Pool, spans, insert, there, entered, has_place, admit}
 use Rattle.definition.specs.Request.{Use, automatic, fixed}
-use Rattle.definition.specs.Calls.{State, pools_of, given, saying, stored, same_use, pooling, entering, pool, settle, serve}
-use Rattle.definition.proofs.RowLaws.{same_kind_equal, kind_same}
+use Rattle.definition.specs.Calls.{State, pools_of, given, saying, stored, same_use, pooling, entering, pool, serve}
+use Rattle.definition.proofs.RowLaws.{kind_same}
 use Rattle.definition.proofs.ClaimLaws.{other_kind, apart_kinds}
-use Rattle.definition.proofs.RequestLaws.{required}
 use Rattle.definition.proofs.PoolLaws.{entered_there, entered_new, spans_apart}
-use Rattle.definition.proofs.TableLaws.{Tidy, stored_same}
-use Rattle.definition.proofs.StateLaws.{pooling_other, given_for, GivenFor}
+use Rattle.definition.proofs.TableLaws.{stored_same}
+use Rattle.definition.proofs.StateLaws.{pooling_other, given_for}
 use Rattle.definition.proofs.RefusedLaws.{entering_said}
 
 -- a test that each range passes

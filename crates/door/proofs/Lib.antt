@@ -6,3 +6,4 @@ pub mod HoldLaws
 pub mod ApplyLaws
 pub mod DecideLaws
 pub mod ServeLaws
+pub mod ToldLaws

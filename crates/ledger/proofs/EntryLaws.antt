@@ -1,7 +1,6 @@
 -- An entry of the ledger tells of a grant: of a plan the i-th of the i-th, of one request the one. Assumes nothing.
 use mathlib.Core.Path.{◌≡◌, refl, sym, subst, ap, ◌∙◌}
 use mathlib.Core.Bool.{true, false}
-use mathlib.Core.Option.{none}
 use mathlib.Core.List.{List, [], ◌∷◌, map}
 use Prim.Native.Nat.{ℕ, ◌/◌, ◌≤◌, ◌<◌}
 use native.Mathlib.Omega.{arith}
@@ -13,7 +12,6 @@ use Rattle.definition.specs.Base.{Refusal, tell}
 use Rattle.definition.specs.Tables.{record_size}
 use Rattle.definition.specs.Request.{Request}
 use Rattle.definition.specs.Calls.{State, pools_of, owners_of, saying}
-use Rattle.definition.specs.Calls as C
 use Rattle.definition.specs.Plan.{Grant, Run, done, stopped, record_of_grant, records, written, Lent, lent, plan_run, grants_of, ended, plan, pinned}
 use Rattle.definition.specs.History.{planned, all_or_none, granted, was_accepted}
 use Rattle.definition.proofs.PickLaws.{indices, nth, nth_all}
@@ -23,7 +21,6 @@ use Rattle.flat.specs.Flat.{request_size, request_at, requests_from, requests_of
 use Rattle.flat.proofs.FlatLaws.{request_reads, flat_one}
 use Rattle.flat.specs.Pin.{pinned_numbers}
 use Rattle.flat.proofs.BackLaws.{pinned_length, grants_length, requests_pinned}
-use Rattle.numbers.specs.Face.{number}
 use Rattle.replay.specs.Again.{block, rows_told}
 use Rattle.ledger.specs.Ledger.{Entry, entry_at, entries_of}
 use Rattle.ledger.proofs.AlongLaws.{Along, along_indices}

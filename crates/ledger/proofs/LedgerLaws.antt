@@ -1,7 +1,6 @@
 -- DEMAND 3 OVER HISTORIES OF THE CALLS: the ledger's entries tell of the live lines, so any of them, run as one plan, get what they had. Assumes nothing.
 use mathlib.Core.Path.{◌≡◌, refl, sym, subst, ap, ◌∙◌}
 use mathlib.Core.Bool.{not, ◌&&◌}
-use mathlib.Core.Option.{none}
 use mathlib.Core.List.{List, [], ◌∷◌, ◌++◌, map}
 use Prim.Native.Nat.{ℕ, ◌*◌}
 use native.Mathlib.Omega.{arith}
@@ -10,7 +9,6 @@ use Rattle.definition.specs.Base.{only_of}
 use Rattle.definition.specs.Tables.{Kind, kinds}
 use Rattle.definition.specs.Pools.{rows_of}
 use Rattle.definition.specs.Calls.{State, held_of, owners_of, start, serve, granting, starting}
-use Rattle.definition.specs.Calls as C
 use Rattle.definition.specs.Plan.{Grant, records, written, Lent, lent, all_rows, plan, pinned}
 use Rattle.definition.specs.History.{Step, PoolsStay, HeldStay, granted, takes, outlives, live}
 use Rattle.definition.proofs.ReplayLaws.{Pick}
@@ -18,7 +16,6 @@ use Rattle.definition.proofs.LiveLaws.{LiveAgain, live_replay, live_replay_rows}
 use Rattle.flat.specs.Flat.{request_size, requests_from, requests_of, flat_plan}
 use Rattle.flat.proofs.FlatLaws.{flat_whole}
 use Rattle.flat.proofs.StoreLaws.{requests_cons}
-use Rattle.numbers.specs.Coding.{below}
 use Rattle.ledger.specs.Ledger.{Call, after, PoolsRest, HeldRest, Entry, remains, ledger, lines_of, records_of, rows_by, LedgerAgain}
 use Rattle.ledger.proofs.AlongLaws.{with, along_append, along_only, along_length, pick_along}
 use Rattle.ledger.proofs.AlongLaws as L

@@ -1,5 +1,4 @@
 -- By its size a state is made fresh, or left. Assumes nothing.
-use Rattle.std.proofs.Common.{refl, ◌∙◌, ap, sym, length}
 use Rattle.export.proofs.SizeLaws.{is_size, no_size, right_fresh, wrong_fresh}
 use Rattle.export.proofs.planner_fresh.Goals as goal
 

@@ -1,7 +1,6 @@
 -- What is read of a state of the right size is told; another says 1. Assumes nothing.
 use Rattle.std.proofs.Common.{ap}
 use Rattle.export.proofs.SizeLaws.{is_size, no_size, right_read, wrong_read}
-use Rattle.inplace.specs.declared.marks.Marks.{Marks}
 use Rattle.numbers.specs.Reading.{said_by}
 use Rattle.numbers.proofs.FoundLaws.{read_told_is}
 use Rattle.export.proofs.planner_read.Goals as goal
