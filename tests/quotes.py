@@ -33,7 +33,7 @@ def no_edits(promises, edits):
 
 
 def main():
-    sources = [*ROOT.glob("crates/**/*.antt"), *ROOT.glob("crates/**/*.rt")]
+    sources = [path for ending in ("antt", "rt") for path in ROOT.glob(f"crates/**/*.{ending}") if "out" not in path.parts]
     said = plain("\n".join(path.read_text() for path in sources))
     promises, trace = ((ROOT / "docs" / name).read_text() for name in ("PROMISES.md", "TRACE.md"))
     quoted = [text for block in re.findall(r"```text\n(.*?)```", promises, re.DOTALL) for text in statements(block)]

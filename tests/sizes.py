@@ -44,7 +44,7 @@ TABLE_AGAIN = (
 
 
 def refusals(path, row):
-    """The names of refusals by their numbers, as a file has them: without blanks and dashes, and however they are capitalised."""
+    """The names of refusals by their numbers, as a file has them: without blanks and underscores, and however they are capitalised."""
     rows = re.finditer(row, (ROOT / path).read_text(), re.MULTILINE)
     return {int(r["number"]): re.sub("[ _]", "", r["name"]).lower() for r in rows}
 

@@ -1,4 +1,4 @@
-// The program that pins a plan: its text from standard input, the text with every answer written back to standard output, or the line `no`. A read that fails prints nothing.
+// The program that pins a plan: its text from standard input, the text with every answer written back to standard output, or the line `no`. A read that fails prints nothing, and a write that fails ends the program with a status.
 #![tactic(auto)]
 
 ghost use Rattle.std.specs.Prelude.{◌≤◌, ◌<◌, length, take};

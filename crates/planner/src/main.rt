@@ -1,4 +1,4 @@
-// The plan-reading program: a plan's text from standard input, its answer to standard output. A read that fails prints nothing.
+// The plan-reading program: a plan's text from standard input, its answer to standard output. A read that fails prints nothing, and a write that fails ends the program with a status.
 #![tactic(auto)]
 
 ghost use Rattle.std.specs.Prelude.{◌≤◌, ◌<◌, length, take};
