@@ -14,15 +14,6 @@ held_row c i d s e o = record { controller = c; its = i; device = d; start = s; 
 abbrev pub input_row : ℕ → ℕ → ℕ → ℕ → ℕ → InputRow
 input_row c x t s o = record { controller = c; input = x; trigger = t; sharing = s; owner = o }
 
-abbrev pub no_pool_row : PoolRow
-no_pool_row = pool_row 0 0 0 0
-
-abbrev pub no_row : RangeRow
-no_row = held_row 0 0 0 0 0 0
-
-abbrev pub no_input : InputRow
-no_input = input_row 0 0 0 0 0
-
 pub record IsPoolRow (c i s e : ℕ) (r : PoolRow) : Type 0 where
   pub is : r ≡ pool_row c i s e
   pub controller : c ≤ top 32

@@ -1,59 +1,27 @@
-// Which rows of a verdict are stored, and the ranges for the pool tables of a use.
+// Which ranges of a verdict are stored in the pool tables of a use: all of a call that is accepted, and none of one that is refused.
 ghost use Rattle.std.specs.Prelude.{◌≡◌};
-ghost use Rattle.adding.specs.Judged.{to_number, same_to, stays_of, idle_of, pool_put_of};
+ghost use Rattle.adding.specs.Judged.{idle_of, pool_put_of};
 
-use super::{PoolPut, To, Verdict, goes, range_for};
-use tables::Kind;
+use super::{Adds, Verdict};
+use request::call::Use;
+use tables::{Kind, PoolRow};
 
-fn to_number(to: To) -> u64
-    ensures { result ≡ to_number to }
+// Whether the verdict has no range for the pools of a use.
+pub fn idle(v: &Verdict, to: Use) -> bool
+    ensures { result ≡ idle_of v.now.adds to }
 {
-    match to {
-        To::Nowhere => 0,
-        To::Automatic => 1,
-        To::Fixed => 2,
-        To::Held => 3,
+    match v.adds {
+        Adds::Range(u, _, _) | Adds::Domain(u, _, _, _) => u != to,
+        _ => true,
     }
-}
-
-// Whether rows go to one and the same tables.
-pub fn same_to(a: To, b: To) -> bool
-    ensures { result ≡ same_to a b }
-{
-    to_number(a) == to_number(b)
-}
-
-// Whether the row of kind `k` is stored where it is to go: all rows of a call that is accepted, and none of one that is refused.
-pub fn stays(v: Verdict, to: To, k: Kind) -> bool
-    ensures { result ≡ stays_of v to k }
-{
-    let q = v.adds;
-    let there = q.to;
-    let what = q.what;
-    if !same_to(there, to) {
-        return false;
-    }
-    if !goes(what, k) {
-        return false;
-    }
-    v.reply.number == 0
-}
-
-// Whether the verdict has no row for the tables that `to` names.
-pub fn idle(v: Verdict, to: To) -> bool
-    ensures { result ≡ idle_of v to }
-{
-    let q = v.adds;
-    let there = q.to;
-    !same_to(there, to)
 }
 
 // The range for a pool table.
-pub fn range(v: Verdict, to: To, k: Kind) -> PoolPut
-    ensures { result ≡ pool_put_of v to k }
+pub fn range(v: &Verdict, to: Use, k: Kind) -> Option<PoolRow>
+    ensures { result ≡ pool_put_of v.now to k }
 {
-    let go = stays(v, to, k);
-    let q = v.adds;
-    let row = range_for(q, k);
-    PoolPut { go, row }
+    match v.adds.range(k) {
+        Some((u, r)) if u == to && v.accepted() => Some(r),
+        _ => None,
+    }
 }

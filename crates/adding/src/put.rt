@@ -2,27 +2,19 @@
 ghost use Rattle.std.specs.Prelude.{◌≡◌};
 ghost use Rattle.adding.specs.Judged.{held_put_of, input_put_of};
 
-use super::enter::stays;
-use super::{To, Verdict};
-use lent_table::store::{InputPut, Put};
-use tables::Kind;
+use super::Verdict;
+use tables::{InputRow, Kind, RangeRow};
 
 // The row for a reservation table of ranges.
-pub fn range(v: Verdict, k: Kind) -> Put
-    ensures { result ≡ held_put_of v k }
+pub fn range(v: &Verdict, k: Kind) -> Option<RangeRow>
+    ensures { result ≡ held_put_of v.now k }
 {
-    let go = stays(v, To::Held, k);
-    let q = v.adds;
-    let row = q.row;
-    Put { go, row }
+    if v.accepted() { v.adds.row(k) } else { None }
 }
 
 // .. of inputs.
-pub fn input(v: Verdict) -> InputPut
-    ensures { result ≡ input_put_of v }
+pub fn input(v: &Verdict) -> Option<InputRow>
+    ensures { result ≡ input_put_of v.now }
 {
-    let go = stays(v, To::Held, Kind::Input);
-    let q = v.adds;
-    let row = q.input;
-    InputPut { go, row }
+    if v.accepted() { v.adds.input() } else { None }
 }

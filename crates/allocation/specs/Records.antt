@@ -1,4 +1,4 @@
--- A record as a list of nine numbers, which one a request makes, and what is promised of one request on sound tables. Assumes nothing.
+-- The nine numbers that a request makes, and what is promised of one request on sound tables. Assumes nothing.
 use Rattle.std.specs.Prelude.{◌≡◌, List, [], ◌∷◌, ℕ}
 use Rattle.definition.specs.Request as R
 use Rattle.tables.specs.Views.{state_view}
@@ -9,24 +9,20 @@ use Rattle.request.specs.declared.Request.{Request}
 use Rattle.decide.specs.Outcome.{bases_in, after}
 use Rattle.decide.specs.Kept.{answer}
 use Rattle.decide.specs.declared.Bases.{Bases}
-use Rattle.allocation.specs.declared.Record.{Record}
 use Rattle.allocation.specs.declared.Outcome.{Outcome}
 
-abbrev pub list_of : Record → List ℕ
-list_of n = n.kind ∷ n.requester ∷ n.slot ∷ n.a ∷ n.b ∷ n.c ∷ n.d ∷ n.e ∷ n.f ∷ []
-
-abbrev pub recorded : ℕ → Request → ℕ → ℕ → ℕ → ℕ → ℕ → ℕ → Record
-recorded k r a b c d e f = record { kind = k; requester = r.requester; slot = r.slot; a = a; b = b; c = c; d = d; e = e; f = f }
+abbrev pub recorded : ℕ → Request → ℕ → ℕ → ℕ → ℕ → ℕ → ℕ → List ℕ
+recorded k r a b c d e f = k ∷ r.requester ∷ r.slot ∷ a ∷ b ∷ c ∷ d ∷ e ∷ f ∷ []
 
 -- the record of a request whose rows have these first numbers: law `record_granted` ties it to the definition's
-abbrev pub record_for : Request → Bases → Want → Record
+abbrev pub record_for : Request → Bases → Want → List ℕ
 record_for r bases (Mmio size alignment choice) = recorded 1 r bases.base size 0 0 0 0
 record_for r bases (Pio size alignment choice) = recorded 2 r bases.base size 0 0 0 0
 record_for r bases (Input controller trigger sharing choice) = recorded 3 r controller bases.base trigger sharing 0 0
 record_for r bases (Host choice) = recorded 4 r bases.base 0 0 0 0 0
 record_for r bases (Msi controller its count cd ce cl) = recorded 5 r controller its bases.device.0 bases.event.0 bases.lpi.0 count
 
-abbrev pub record_in : Request → Bases → Record
+abbrev pub record_in : Request → Bases → List ℕ
 record_in r bases = record_for r bases r.want
 
 -- one request on sound tables: the state afterwards, and the first numbers

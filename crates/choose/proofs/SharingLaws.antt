@@ -13,11 +13,10 @@ use Rattle.definition.specs.Request.{row_at, detail, obstacle, unjoined}
 use Rattle.tables.specs.Below.{first}
 use Rattle.tables.specs.Views.{inputs_view}
 use Rattle.tables.specs.declared.Inputs.{Inputs}
-use Rattle.tables.specs.declared.Hit.{Hit}
-use Rattle.tables.specs.declared.Hit.TheVariants.{At, Clear}
+use Rattle.std.specs.Prelude.{Option as Hit, Some, None}
 use Rattle.tables.proofs.BelowLaws.{first_ext}
 use Rattle.tables.proofs.IndexLaws.{row_hit, first_listed}
-use Rattle.search.proofs.FoundLaws.{input_in, inputs_used}
+use Rattle.search.specs.Rows.{input_rows, inputs_listed}
 use Rattle.choose.specs.Wired.{input_asked, verdict}
 use Rattle.choose.specs.declared.wired.InputNeed.{InputNeed}
 
@@ -56,29 +55,29 @@ on_same w b r = rw add-one
 
 -- the obstacle is the first row on the input, unless it joins
 module _ (t : Inputs) (w : InputNeed) (b : ℕ) (l : t.n ≤ row_limit) where
-  on_first : (h : Hit) → h ≡ first (λ k. meets (wired_row w.controller b 0 0 0) (input_in t k)) t.n
-      → first_of (meets (row_at (input_asked w) b)) (used (inputs_view t)) ≡ row_hit (input_in t) h
-  on_first h e = rw (inputs_used t l) (first_listed (meets (row_at (input_asked w) b)) (input_in t) t.n h (e ∙ first_ext _ _ t.n (λ k m. on_same w b (input_in t k))))
+  on_first : (h : Hit ℕ) → h ≡ first (λ k. meets (wired_row w.controller b 0 0 0) (input_rows t k)) t.n
+      → first_of (meets (row_at (input_asked w) b)) (used (inputs_view t)) ≡ row_hit (input_rows t) h
+  on_first h e = rw (inputs_listed t l) (first_listed (meets (row_at (input_asked w) b)) (input_rows t) t.n h (e ∙ first_ext _ _ t.n (λ k m. on_same w b (input_rows t k))))
 
-  pub input_clear : Clear ≡ first (λ k. meets (wired_row w.controller b 0 0 0) (input_in t k)) t.n → obstacle (row_at (input_asked w) b) (used (inputs_view t)) ≡ none
+  pub input_clear : None ≡ first (λ k. meets (wired_row w.controller b 0 0 0) (input_rows t k)) t.n → obstacle (row_at (input_asked w) b) (used (inputs_view t)) ≡ none
   unfolding obstacle unjoined
-  input_clear e = rw (on_first Clear e)
+  input_clear e = rw (on_first None e)
 
-  module _ (k : ℕ) (e : At k ≡ first (λ k. meets (wired_row w.controller b 0 0 0) (input_in t k)) t.n) where
-    pub input_joined : none ≡ verdict (row_at (input_asked w) b) (input_in t k) → obstacle (row_at (input_asked w) b) (used (inputs_view t)) ≡ none
+  module _ (k : ℕ) (e : Some k ≡ first (λ k. meets (wired_row w.controller b 0 0 0) (input_rows t k)) t.n) where
+    pub input_joined : none ≡ verdict (row_at (input_asked w) b) (input_rows t k) → obstacle (row_at (input_asked w) b) (used (inputs_view t)) ≡ none
     unfolding obstacle unjoined verdict
-    input_joined v = rw (on_first (At k) e) (go (joins (row_at (input_asked w) b) (input_in t k)) v)
+    input_joined v = rw (on_first (Some k) e) (go (joins (row_at (input_asked w) b) (input_rows t k)) v)
       where
-        go : (x : Bool) → ◌≡◌ {A = Option ℕ} none (elim x [ true ↦ none | false ↦ some (detail input (row_at (input_asked w) b) (input_in t k)) ]) → ◌≡◌ {A = Option Row} (elim x [ true ↦ none | false ↦ some (input_in t k) ]) none
+        go : (x : Bool) → ◌≡◌ {A = Option ℕ} none (elim x [ true ↦ none | false ↦ some (detail input (row_at (input_asked w) b) (input_rows t k)) ]) → ◌≡◌ {A = Option Row} (elim x [ true ↦ none | false ↦ some (input_rows t k) ]) none
         go true v = refl
         go false v = absurd (let z : ◌≡◌ {A = ℕ} 0 1 = cc in omega arith)
 
-    pub input_met : (d : ℕ) → some d ≡ verdict (row_at (input_asked w) b) (input_in t k)
-        → (obstacle (row_at (input_asked w) b) (used (inputs_view t)) ≡ some (input_in t k)) × (d ≡ detail input (row_at (input_asked w) b) (input_in t k))
+    pub input_met : (d : ℕ) → some d ≡ verdict (row_at (input_asked w) b) (input_rows t k)
+        → (obstacle (row_at (input_asked w) b) (used (inputs_view t)) ≡ some (input_rows t k)) × (d ≡ detail input (row_at (input_asked w) b) (input_rows t k))
     unfolding obstacle unjoined verdict
-    input_met d v = rw (on_first (At k) e) (go (joins (row_at (input_asked w) b) (input_in t k)) v)
+    input_met d v = rw (on_first (Some k) e) (go (joins (row_at (input_asked w) b) (input_rows t k)) v)
       where
-        go : (x : Bool) → ◌≡◌ {A = Option ℕ} (some d) (elim x [ true ↦ none | false ↦ some (detail input (row_at (input_asked w) b) (input_in t k)) ])
-            → (◌≡◌ {A = Option Row} (elim x [ true ↦ none | false ↦ some (input_in t k) ]) (some (input_in t k))) × (d ≡ detail input (row_at (input_asked w) b) (input_in t k))
+        go : (x : Bool) → ◌≡◌ {A = Option ℕ} (some d) (elim x [ true ↦ none | false ↦ some (detail input (row_at (input_asked w) b) (input_rows t k)) ])
+            → (◌≡◌ {A = Option Row} (elim x [ true ↦ none | false ↦ some (input_rows t k) ]) (some (input_rows t k))) × (d ≡ detail input (row_at (input_asked w) b) (input_rows t k))
         go true v = absurd (let z : ◌≡◌ {A = ℕ} 0 1 = cc in omega arith)
         go false v = (refl, cc)

@@ -1,11 +1,12 @@
 -- What the answers of the code say in the definition's terms, and what is promised of them. Assumes nothing.
-use Rattle.std.specs.Prelude.{◌≡◌, List, ℕ, ltb, length}
-use Rattle.definition.specs.Tables.{row_limit, Span, Row, used}
+use Rattle.std.specs.Prelude.{◌≡◌, true, false, List, ℕ, ◌+◌, ltb, length, Result, Ok, Err}
+use Rattle.std.proofs.Math.Option.{none, some}
+use Rattle.definition.specs.Tables.{row_limit, nature, Span, Row, Table, used}
 use Rattle.definition.specs.Base.{malformed, bad_input, fixed_not_allowed, exhausted, conflict, full, short, Answer, accepted, refused, require, ◌then◌}
 use Rattle.definition.specs.Base as F
-use Rattle.definition.specs.Request.{auto, at, automatic, fixed, Pools}
+use Rattle.definition.specs.Request.{auto, at, automatic, fixed, lowest, allowed, Pools}
 use Rattle.definition.specs.Request as R
-use Rattle.tables.specs.Views.{kind_of, ranges, pool_view, ranges_view}
+use Rattle.tables.specs.Views.{kind_of, pool_view, ranges_view}
 use Rattle.tables.specs.declared.Pool.{Pool}
 use Rattle.tables.specs.declared.Ranges.{Ranges}
 use Rattle.search.specs.Asks.{need_of}
@@ -15,10 +16,9 @@ use Rattle.choose.specs.declared.Choice.{Choice}
 use Rattle.choose.specs.declared.Choice.TheVariants.{Auto, Fixed}
 use Rattle.choose.specs.declared.Refusal.{Refusal}
 use Rattle.choose.specs.declared.Refusal.TheVariants.{Malformed, BadInput, FixedNotAllowed, Exhausted, Conflict, Full, Short}
-use Rattle.choose.specs.declared.Chosen.{Chosen}
-use Rattle.choose.specs.declared.Chosen.TheVariants.{Stands, Refused}
+use Rattle.choose.specs.declared.Run.{Run}
 
-abbrev pub choice_of : Choice → R.Choice
+abbrev pub choice_of : Choice ℕ → R.Choice
 choice_of Auto = auto
 choice_of (Fixed b) = at b
 
@@ -33,9 +33,9 @@ refusal_of Full = full
 refusal_of Short = short
 
 -- the row that stands, or the refusal
-abbrev pub told : R.Need → Chosen → Answer Row
-told n (Stands b e) = accepted (record { dom = n.dom; start = b; end = e; trigger = n.trigger; sharing = n.sharing; owner = n.requester })
-told n (Refused y) = refused (refusal_of y)
+abbrev pub told : R.Need → Result Run Refusal → Answer Row
+told n (Ok run) = accepted (record { dom = n.dom; start = run.start; end = run.end; trigger = n.trigger; sharing = n.sharing; owner = n.requester })
+told n (Err y) = refused (refusal_of y)
 
 -- rows of ranges carry no trigger
 abbrev pub DetailIs : Kind → ℕ → Type 0
@@ -58,10 +58,16 @@ roomed rs a = a then λ r. require (ltb (length rs) row_limit) full (accepted r)
 abbrev pub chosen_in : List Span → List Span → List Row → R.Need → R.Choice → Answer Row
 chosen_in ps fs rs n choice = roomed rs (place_in ps fs rs n choice)
 
--- an automatic answer reads no fixed pool and no owner, a fixed one no automatic pool
-abbrev pub AutomaticIs : Pool → ℕ → List ℕ → List ℕ → List ℕ → List ℕ → List ℕ → Need → Chosen → Type 0
-AutomaticIs p on controllers units devices starts ends n x =
-    (fs : List Span) (owners : List ℕ) → told (need_of n) x ≡ place_in (used (pool_view p)) fs (used (ranges_view (ranges on controllers units devices starts ends owners))) (need_of n) auto
+-- the least free base with the run at it, or that there is none
+abbrev pub AutomaticIs : Pool → Table Row → Need → Result Run Refusal → Type 0
+AutomaticIs p owners n (Ok run) = (some run.start ≡ lowest (used (pool_view p)) (used owners) (need_of n)) × (run.end ≡ run.start + n.size)
+AutomaticIs p owners n (Err y) = (none ≡ lowest (used (pool_view p)) (used owners) (need_of n)) × (y ≡ Exhausted (nature (kind_of n.kind)).namespace)
 
-abbrev pub FixedIs : Pool → Ranges → Need → ℕ → Chosen → Type 0
+-- the run at the base, if a fixed pool allows it
+abbrev pub AllowedIs : Pool → Need → ℕ → Result Run Refusal → Type 0
+AllowedIs p n b (Ok run) = (allowed (used (pool_view p)) (need_of n) b ≡ true) × (run ≡ record { start = b; end = b + n.size })
+AllowedIs p n b (Err y) = (allowed (used (pool_view p)) (need_of n) b ≡ false) × (y ≡ FixedNotAllowed (nature (kind_of n.kind)).namespace)
+
+-- a fixed answer reads no automatic pool
+abbrev pub FixedIs : Pool → Ranges → Need → ℕ → Result Run Refusal → Type 0
 FixedIs p t n b x = (ps : List Span) → told (need_of n) x ≡ place_in ps (used (pool_view p)) (used (ranges_view t)) (need_of n) (at b)

@@ -1,10 +1,8 @@
 pub mod QueryLaws
-pub mod ElseLaws
 pub mod ReadyLaws
 pub mod RoomLaws
 pub mod AnswerLaws
 pub mod OwnerLaws
 pub mod AskLaws
 pub mod KeptLaws
-pub mod MsiLaws
-pub mod VerdictLaws
+pub mod FindLaws

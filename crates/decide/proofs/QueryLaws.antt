@@ -1,26 +1,13 @@
--- A query of a good request and of a bad one; a refusal's numbers. Assumes nothing.
+-- A refusal's numbers. Assumes nothing.
 use mathlib.Core.Path.{◌≡◌, refl, ◌∙◌, ap}
-use mathlib.Core.Bool.{true, false}
 use Rattle.definition.specs.Base.{tell}
 use Rattle.definition.specs.Base as F
-use Rattle.definition.specs.Request.{good_request}
 use Rattle.choose.specs.Told.{refusal_of}
 use Rattle.choose.specs.declared.Refusal.{Refusal}
 use Rattle.choose.specs.declared.Refusal.TheVariants.{Malformed, BadInput, FixedNotAllowed, Exhausted, Conflict, Full, Short}
-use Rattle.request.specs.Asked.{request_of, said_of}
-use Rattle.request.specs.declared.Request.{Request}
+use Rattle.request.specs.Asked.{said_of}
 use Rattle.request.specs.declared.Said.{Said}
-use Rattle.decide.specs.Query.{if_good, wanted, query_of}
-use Rattle.decide.specs.declared.Query.TheVariants.{Nothing}
 use Rattle.decide.specs.Granted.{saying, numbers_of}
-
-pub good_query : (r : Request) → good_request (request_of r) ≡ true → query_of r ≡ wanted r.requester r.want
-good_query r e = ap (λ b. if_good b (wanted r.requester r.want)) e
-
-pub bad_query : (r : Request) → good_request (request_of r) ≡ false → query_of r ≡ Nothing
-bad_query r e = ap (λ b. if_good b (wanted r.requester r.want)) e
-
--- ---- the numbers of a refusal are 01's
 
 pub refusal_told : (y : Refusal) → said_of (numbers_of y) ≡ tell 0 (refusal_of y)
 refusal_told Malformed = refl

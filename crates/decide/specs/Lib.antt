@@ -1,5 +1,3 @@
 pub mod Outcome
-pub mod Query
 pub mod Granted
 pub mod Kept
-pub mod Tables

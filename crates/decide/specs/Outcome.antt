@@ -1,5 +1,5 @@
 -- What an answer to a request leaves: the state afterwards, and the first numbers that a record is made of. Assumes nothing.
-use Rattle.std.specs.Prelude.{true, false, List, ℕ}
+use Rattle.std.specs.Prelude.{List, ℕ, Option, Some, None}
 use Rattle.definition.specs.Base.{full, Answer, accepted, refused, require, ◌then◌}
 use Rattle.definition.specs.Pools.{Claim, room}
 use Rattle.definition.specs.Request.{Want, mmio_want, pio_want, input_want, host_want, msi_want, claims}
@@ -10,14 +10,11 @@ use Rattle.tables.specs.declared.EventId.{EventId}
 use Rattle.tables.specs.declared.Lpi.{Lpi}
 use Rattle.decide.specs.declared.Bases.{Bases}
 
-abbrev pub no_bases : Bases
-no_bases = record { accepted = false; base = 0; device = record { 0 = 0 }; event = record { 0 = 0 }; lpi = record { 0 = 0 } }
+abbrev pub one_base : ℕ → Bases
+one_base b = record { base = b; device = record { 0 = 0 }; event = record { 0 = 0 }; lpi = record { 0 = 0 } }
 
-abbrev pub some_base : ℕ → Bases
-some_base b = record { accepted = true; base = b; device = record { 0 = 0 }; event = record { 0 = 0 }; lpi = record { 0 = 0 } }
-
-abbrev pub some_msi : DeviceId → EventId → Lpi → Bases
-some_msi d e l = record { accepted = true; base = 0; device = d; event = e; lpi = l }
+abbrev pub three_bases : DeviceId → EventId → Lpi → Bases
+three_bases d e l = record { base = 0; device = d; event = e; lpi = l }
 
 -- the first numbers of the rows granted: three of an MSI request, one of any other
 abbrev pub base_in : Want → List Claim → ℕ
@@ -35,11 +32,12 @@ three_in (host_want choice) j cs = 0
 three_in (msi_want controller its count cd ce cl) j cs = base_at j cs
 
 abbrev pub firsts_in : Want → List Claim → Bases
-firsts_in w cs = record { accepted = true; base = base_in w cs; device = record { 0 = three_in w 0 cs }; event = record { 0 = three_in w 1 cs }; lpi = record { 0 = three_in w 2 cs } }
+firsts_in w cs = record { base = base_in w cs; device = record { 0 = three_in w 0 cs }; event = record { 0 = three_in w 1 cs }; lpi = record { 0 = three_in w 2 cs } }
 
-abbrev pub bases_in : Want → Answer (List Claim) → Bases
-bases_in w (accepted cs) = firsts_in w cs
-bases_in w (refused y) = no_bases
+-- none where the answer is a refusal
+abbrev pub bases_in : Want → Answer (List Claim) → Option Bases
+bases_in w (accepted cs) = Some (firsts_in w cs)
+bases_in w (refused y) = None
 
 -- the answer to a request on sound tables, whose numbers make sense
 abbrev pub claimed : State → ℕ → Want → Answer (List Claim)

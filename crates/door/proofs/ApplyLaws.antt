@@ -1,5 +1,7 @@
 -- The calls on tables that are sound. Assumes nothing.
-use mathlib.Core.Path.{◌≡◌, refl, sym, ◌∙◌}
+use mathlib.Core.Path.{◌≡◌, refl, sym, ◌∙◌, ap}
+use mathlib.Core.Bool.{true≢false}
+use Rattle.std.specs.Prelude.{None, is_some}
 use Prim.Native.Nat.{ℕ}
 use lib.Dec.{T}
 use Rattle.definition.specs.Tables.{kinds}
@@ -11,7 +13,7 @@ use Rattle.definition.specs.Calls.{State, given, starting, pool, hold, start, se
 use Rattle.request.specs.Calls.{call_of}
 use Rattle.request.specs.declared.call.Call.{Call}
 use Rattle.request.specs.declared.call.Call.TheVariants as C
-use Rattle.adding.specs.Adds.{passes_of, starts_of}
+use Rattle.adding.specs.Adds.{adds_of}
 use Rattle.door.specs.Applied.{apply_of}
 use Rattle.door.proofs.AfterLaws.{pool_after, held_after}
 
@@ -28,17 +30,13 @@ module _ (s : State) (g : T (given kinds s)) where
   unfolding serve require
   serve_start = rw (T_true (given kinds s) g)
 
--- a request, and what cannot be read
-pub passed : (c : Call) (s : State) → T (passes_of c) → s ≡ apply_of (call_of c) s
-passed (C.Pool u p) s t = absurd t
-passed (C.Hold o h) s t = absurd t
-passed C.Start s t = absurd t
-passed (C.Want r) s t = refl
-passed C.Bad s t = refl
+-- what adds nothing: a request, and what cannot be read, but for a start
+pub passed : (c : Call) (s : State) → None ≡ adds_of c → (c ≡ C.Start → ⊥) → s ≡ apply_of (call_of c) s
+passed (C.Pool u p) s e n = absurd (true≢false (sym (ap is_some e)))
+passed (C.Hold o h) s e n = absurd (true≢false (sym (ap is_some e)))
+passed C.Start s e n = absurd (n refl)
+passed (C.Want r) s e n = refl
+passed C.Bad s e n = refl
 
-pub begun : (c : Call) (s t : State) → T (given kinds s) → T (starts_of c) → t ≡ starting s → t ≡ apply_of (call_of c) s
-begun (C.Pool u p) s t g k e = absurd k
-begun (C.Hold o h) s t g k e = absurd k
-begun C.Start s t g k e = e ∙ sym (serve_start s g)
-begun (C.Want r) s t g k e = absurd k
-begun C.Bad s t g k e = absurd k
+pub begun : (s t : State) → T (given kinds s) → t ≡ starting s → t ≡ apply_of (call_of C.Start) s
+begun s t g e = e ∙ sym (serve_start s g)

@@ -1,28 +1,27 @@
 -- The verdict on a call is the definition's, call by call. Assumes nothing.
-use mathlib.Core.Path.{◌≡◌, refl, sym, ◌∙◌, ap, ap₂, subst}
-use mathlib.Core.Bool.{Bool, true, false, true≢false, ◌&&◌, ◌||◌}
+use mathlib.Core.Path.{◌≡◌, refl, sym, ◌∙◌, ap, subst}
+use mathlib.Core.Bool.{Bool, true, false, ◌&&◌, ◌||◌}
 use mathlib.Core.List.{List, [], ◌∷◌}
-use Prim.Native.Nat.{◌<◌}
-use lib.Dec.{T as Holds, eqb}
-use Rattle.definition.specs.Base.{any_of, all_of, pairs_of}
-use Rattle.definition.proofs.BaseLaws.{true_T}
-use Rattle.definition.proofs.RowLaws.{same_kind_equal}
+use Prim.Native.Nat.{ℕ, ◌<◌}
+use lib.Dec.{T as Holds}
+use Rattle.std.specs.Prelude.{Option, Some, None, Ok, Err, IfOk}
+use Rattle.definition.specs.Base.{any_of, all_of, pairs_of, silence}
 use Rattle.definition.proofs.ClaimLaws.{other_kind}
+use Rattle.definition.proofs.PlanLaws.{tell_number}
 use Rattle.definition.proofs.PoolLaws.{spans_apart}
 use Rattle.definition.specs.Tables.{row_limit, Kind, kinds, mmio, pio, input, host, device, event, lpi, same_kind, Span, Table, used}
 use Rattle.definition.specs.Pools.{at_kind, admit, Claim, rows_of, room, all_unreserved, reserve, mmio_pool, pio_pool, host_pool, input_pool, msi_pool}
 use Rattle.definition.specs.Request.{Use, automatic, fixed}
 use Rattle.definition.specs.Calls.{State as Given, state, pools_of, held_of, given, push_all, same_use}
 use Rattle.tables.specs.Views.{span_of, range_of, input_of, pool_of, pools_view, ranges_view, inputs_view, holders_view, state_view}
-use Rattle.tables.specs.declared.Ranges.{Ranges}
-use Rattle.tables.specs.declared.Inputs.{Inputs}
+use Rattle.tables.specs.Sized.{SizedRanges, SizedInputs}
+use Rattle.tables.specs.declared.PoolRow.{PoolRow}
 use Rattle.tables.specs.declared.RangeRow.{RangeRow}
 use Rattle.tables.specs.declared.InputRow.{InputRow}
 use Rattle.tables.specs.declared.State.{State}
-use Rattle.insert.specs.Answers.{telling, heard, entered_or, admit_any, Told, earlier_of}
-use Rattle.insert.specs.declared.Reply.{Reply}
+use Rattle.insert.specs.Answers.{Reply, refusal_of, number_of, pick, telling, heard, entered_or, admit_any, Told, comes_before, earlier_of}
 use Rattle.insert.proofs.HoldLaws.{told_as}
-use Rattle.insert.proofs.PairLaws.{pair_told, earlier_zero}
+use Rattle.insert.proofs.PairLaws.{pair_told}
 use Rattle.insert.proofs.AdmitLaws.{admit_one, admit_more}
 use Rattle.request.specs.Calls.{use_of, call_of, hold_call}
 use Rattle.request.specs.declared.call.Use.{Use as Named}
@@ -31,173 +30,186 @@ use Rattle.request.specs.declared.call.PoolRange.TheVariants as P
 use Rattle.request.specs.declared.call.Hold.TheVariants as H
 use Rattle.request.specs.declared.call.Call.{Call}
 use Rattle.request.specs.declared.call.Call.TheVariants as C
-use Rattle.adding.specs.Adds.{pick, use_to, held, adds_of, ask_of, input_ask_of, goes_to, range_for, Asked, FitCall}
-use Rattle.tables.specs.declared.Kind.TheVariants as K
-use Rattle.adding.specs.Judged.{judged, verdict_of, same_to, stays_of}
-use Rattle.adding.specs.Looks.{Tells, TellsInput}
-use Rattle.adding.specs.declared.To.{To}
-use Rattle.adding.specs.declared.To.TheVariants as T
-use Rattle.adding.specs.declared.What.{What}
-use Rattle.adding.specs.declared.What.TheVariants as W
-use Rattle.adding.specs.declared.Ask.{Ask}
-use Rattle.adding.specs.declared.InputAsk.{InputAsk}
+use Rattle.adding.specs.Adds.{keep_if, ranges_in, pool_adds, adds_of, FitCall}
+use Rattle.adding.specs.Judged.{judged, verdict_of, for_use, entered_view}
+use Rattle.adding.specs.Looks.{pool_for, Adding}
 use Rattle.adding.specs.declared.Adds.{Adds}
+use Rattle.adding.specs.declared.Adds.TheVariants as A
+use Rattle.adding.specs.declared.Replies.{Replies}
 use Rattle.adding.specs.declared.Verdict.{Verdict}
-use Rattle.adding.proofs.StayLaws.{stays_refused, stays_accepted, stays_says}
 use Rattle.door.specs.Applied.{apply_of}
-use Rattle.door.specs.Kept.{kind_in, held_with, HeldFree, Kept, Ready, AllSee, Decides}
+use Rattle.door.specs.Kept.{kind_in, held_with, HeldFree, Kept, AllTell, Decides}
 use Rattle.door.proofs.KindLaws.{every, same_in}
 use Rattle.door.proofs.GivenLaws.{given_auto, given_fixed}
 use Rattle.door.proofs.AfterLaws.{pool_after, held_after, ranges, pool_state, hold_state}
 use Rattle.door.proofs.ApplyLaws.{serve_pool, serve_hold}
-use Rattle.door.proofs.HoldLaws.{row_in, SizedAt, held_put, held_rests, one_rows}
+use Rattle.door.proofs.HoldLaws.{rows_at, Places, held_put, held_rests, held_free, refused_free}
 
-never : {A : Type 0} → false ≡ true → A
-never e = absurd (true≢false (sym e))
+-- ---- the ranges that a call has for the pools of a use, by kinds
 
-abbrev to_of : Use → To
-to_of automatic = T.Automatic
-to_of fixed = T.Fixed
+abbrev Puts : Named → Adds → (Kind → PoolRow) → List Kind → Type 0
+Puts u q row ks = (o : Named) (k : Kind) → for_use o (ranges_in q (kind_in k)) ≡ keep_if (same_use (use_of o) (use_of u) && any_of (same_kind k) ks) (row k)
 
--- a verdict on pools is for the use that the call names, and for no reservation
-goes_to_use : (u : Named) (v : Use) → same_to (use_to u) (to_of v) ≡ same_use v (use_of u)
-goes_to_use U.Automatic automatic = refl
-goes_to_use U.Automatic fixed = refl
-goes_to_use U.Fixed automatic = refl
-goes_to_use U.Fixed fixed = refl
-
-goes_unheld : (u : Named) → same_to (use_to u) T.Held ≡ false
-goes_unheld U.Automatic = refl
-goes_unheld U.Fixed = refl
-
--- the kinds that a call has a row for
-goes_one : (k j : Kind) → goes_to (W.One (kind_in k)) (kind_in j) ≡ any_of (same_kind j) (k ∷ [])
+puts_one : (u : Named) (j : Kind) (r : PoolRow) → Puts u (A.Range u (kind_in j) r) (λ k. r) (j ∷ [])
 unfolding any_of
-goes_one k j = same_in j k ∙ go (same_kind j k)
+puts_one u j r o k = ap (λ b. for_use o (keep_if b (u, r))) (same_in k j) ∙ go u o (same_kind k j)
   where
-    go : (b : Bool) → b ≡ b || false
-    go true = refl
-    go false = refl
+    go : (u o : Named) (b : Bool) → for_use o (keep_if b (u, r)) ≡ keep_if (same_use (use_of o) (use_of u) && (b || false)) r
+    go U.Automatic U.Automatic true = refl
+    go U.Automatic U.Automatic false = refl
+    go U.Automatic U.Fixed true = refl
+    go U.Automatic U.Fixed false = refl
+    go U.Fixed U.Automatic true = refl
+    go U.Fixed U.Automatic false = refl
+    go U.Fixed U.Fixed true = refl
+    go U.Fixed U.Fixed false = refl
 
-goes_domain : (j : Kind) → goes_to W.Domain (kind_in j) ≡ any_of (same_kind j) (device ∷ event ∷ lpi ∷ [])
+-- the three of an MSI domain
+abbrev three : PoolRow → PoolRow → PoolRow → Kind → PoolRow
+three d e l mmio = d
+three d e l pio = d
+three d e l input = d
+three d e l host = d
+three d e l device = d
+three d e l event = e
+three d e l lpi = l
+
+puts_domain : (u : Named) (d e l : PoolRow) → Puts u (A.Domain u d e l) (three d e l) (device ∷ event ∷ lpi ∷ [])
 unfolding any_of same_kind
-goes_domain = every _ refl refl refl refl refl refl refl
+puts_domain U.Automatic d e l U.Automatic = every _ refl refl refl refl refl refl refl
+puts_domain U.Automatic d e l U.Fixed = every _ refl refl refl refl refl refl refl
+puts_domain U.Fixed d e l U.Automatic = every _ refl refl refl refl refl refl refl
+puts_domain U.Fixed d e l U.Fixed = every _ refl refl refl refl refl refl refl
 
--- the range for the pools of a kind
-abbrev span_for : Adds → Kind → Span
-span_for q k = span_of (range_for q (kind_in k))
+entered_if : (b : Bool) (r : PoolRow) (t : Table Span) → entered_view (keep_if b r) t ≡ pick b (entered_or (span_of r) t) t
+entered_if true r t = refl
+entered_if false r t = refl
 
 -- storing what a verdict has may be done, and leaves S
 abbrev Leaves : State → Given → Verdict → Type 0
 Leaves s S v = HeldFree v s.held × ((t : State) → Kept v s t → state_view t ≡ S)
 
-module _ (s : State) (sized : (k : Kind) → SizedAt s.held k) where
+-- what is known of two answers that are accepted is known of the earlier one
+ok_both : (A B : Type 0) (a b : Reply) → IfOk a (λ given. A) → IfOk b (λ given. B) → IfOk (earlier_of a b) (λ given. A × B)
+unfolding earlier_of
+ok_both A B (Ok x) (Ok y) p q = (p, q)
+ok_both A B (Ok x) (Err y) p q = tt
+ok_both A B (Err x) (Ok y) p q = tt
+ok_both A B (Err x) (Err y) p q = go (comes_before (number_of y) (number_of x))
+  where
+    go : (b : Bool) → IfOk {T = Unit {0}} (pick b (Err y) (Err x)) (λ given. A × B)
+    go true = tt
+    go false = tt
+
+ok_then : (A B : Type 0) (r : Reply) → (A → B) → IfOk r (λ given. A) → IfOk r (λ given. B)
+ok_then A B (Ok x) f p = f p
+ok_then A B (Err y) f p = tt
+
+module _ (s : State) where
+  abbrev still : Adds → Type 0
+  still q = (k : Kind) → holders_view (held_with (judged q (Ok tt)) s.held) k ≡ holders_view s.held k
+
   -- ---- ranges for the pools of a use, one of each kind of ks
 
-  pooled : (u : Named) (q : Adds) (ks : List Kind) (r : Reply) → q.to ≡ use_to u → ((k : Kind) → goes_to q.what (kind_in k) ≡ any_of (same_kind k) ks) → Holds (pairs_of other_kind (ranges (span_for q) ks))
-      → heard r ≡ telling (admit (pools_of (state_view s) (use_of u)) (ranges (span_for q) ks)) → Leaves s (pool_after (use_of u) (ranges (span_for q) ks) (state_view s)) (judged q r)
-  pooled u q ks r to goes apart told = (
-    λ k e. never (sym (unheld k) ∙ e),
-    λ t kept. kept.is ∙ pool_state (state_view s) (use_of u) (span_for q) ks apart (pools_view kept.a kept.f) (holders_view (held_with v s.held)) (heard r)
-        (λ k. held_rests v s.held k (sized k) (unheld k)) told
-        (λ n o k. pools t kept o k (stays_refused v (to_of o) (kind_in k) n))
-        (λ n o k. pools t kept o k (stays_accepted v (to_of o) (kind_in k) n ∙ ap₂ (λ (a b : Bool). a && b) (ap (λ (x : To). same_to x (to_of o)) to ∙ goes_to_use u o) (goes k))),
+  pooled : (u : Named) (q : Adds) (row : Kind → PoolRow) (ks : List Kind) (r : Reply) → Puts u q row ks → HeldFree (judged q (Ok tt)) s.held → still q → Holds (pairs_of other_kind (ranges (λ k. span_of (row k)) ks))
+      → heard r ≡ telling (admit (pools_of (state_view s) (use_of u)) (ranges (λ k. span_of (row k)) ks)) → Leaves s (pool_after (use_of u) (ranges (λ k. span_of (row k)) ks) (state_view s)) (judged q r)
+  pooled u q row ks (Err y) puts free rests apart told = (
+    refused_free q s.held y,
+    λ t kept. kept.is ∙ pool_state (state_view s) (use_of u) (λ k. span_of (row k)) ks apart (pools_view kept.a kept.f) (holders_view (held_with (judged q (Err y)) s.held)) (heard (Err y))
+        (held_rests q s.held y) told (λ n. elim [ automatic ↦ kept.automatic | fixed ↦ kept.fixed ]) (λ n. absurd (tell_number 0 (refusal_of y) n)),
+  )
+  pooled u q row ks (Ok x) puts free rests apart told = (
+    free,
+    λ t kept. kept.is ∙ pool_state (state_view s) (use_of u) (λ k. span_of (row k)) ks apart (pools_view kept.a kept.f) (holders_view (held_with (judged q (Ok x)) s.held)) silence
+        rests told (λ n. absurd (n refl)) (λ n. elim [ automatic ↦ entered U.Automatic kept.automatic | fixed ↦ entered U.Fixed kept.fixed ]),
   )
     where
-      v : Verdict
-      v = judged q r
-
-      unheld : (k : Kind) → stays_of v T.Held (kind_in k) ≡ false
-      unheld k = ap (λ (b : Bool). pick b (pick (goes_to q.what (kind_in k)) (eqb r.number 0) false) false) (ap (λ (x : To). same_to x T.Held) to ∙ goes_unheld u)
-
-      entered : (o : Use) (k : Kind) → Bool → Table Span
-      entered o k b = pick b (entered_or (span_for q k) ((state_view s).pools o k)) ((state_view s).pools o k)
-
-      pools : (t : State) (kept : Kept v s t) (o : Use) (k : Kind) {b : Bool} → stays_of v (to_of o) (kind_in k) ≡ b → pools_view kept.a kept.f o k ≡ entered o k b
-      pools t kept automatic k e = kept.automatic k ∙ ap (entered automatic k) e
-      pools t kept fixed k e = kept.fixed k ∙ ap (entered fixed k) e
+      entered : (o : Named) {p : Kind → Table Span} → ((k : Kind) → p k ≡ entered_view (for_use o (ranges_in q (kind_in k))) ((state_view s).pools (use_of o) k)) → (k : Kind)
+          → p k ≡ pick (same_use (use_of o) (use_of u) && any_of (same_kind k) ks) (entered_or (span_of (row k)) ((state_view s).pools (use_of o) k)) ((state_view s).pools (use_of o) k)
+      entered o kept k = kept k ∙ ap (λ x. entered_view x ((state_view s).pools (use_of o) k)) (puts o k) ∙ entered_if _ (row k) ((state_view s).pools (use_of o) k)
 
   -- ---- rows for the reservations, of each kind one at most
 
-  reserved : (what : What) (row : RangeRow) (w : InputRow) (r : Reply) (cs : List Claim) → ((k : Kind) → rows_of k cs ≡ pick (goes_to what (kind_in k)) (row_in row w k ∷ []) [])
-      → (r.number ≡ 0 → (k : Kind) → goes_to what (kind_in k) ≡ true → (holders_view s.held k).count < row_limit) → heard r ≡ telling (reserve (held_of (state_view s)) cs) → Leaves s (held_after cs (state_view s)) (judged (held what row w) r)
-  reserved what row w r cs rows room told = (
-    free,
-    λ t kept. kept.is ∙ (λ i. state (λ u k. pools t kept u k i) (holders_view (held_with v s.held)) (holders_view s.owners) (heard r))
-        ∙ hold_state (state_view s) cs (holders_view (held_with v s.held)) (heard r) told
-        (λ n k. held_rests v s.held k (sized k) (stays_refused v T.Held (kind_in k) n))
-        (λ n k. held_put v s.held k (sized k) (free k) ∙ ap (λ (b : Bool). push_all (holders_view s.held k) (pick b (row_in row w k ∷ []) [])) (stays_accepted v T.Held (kind_in k) n) ∙ ap (push_all (holders_view s.held k)) (sym (rows k))),
+  reserved : (q : Adds) (r : Reply) (cs : List Claim) → ((u : Named) (k : Kind) → for_use u (ranges_in q (kind_in k)) ≡ None) → ((k : Kind) → rows_of k cs ≡ rows_at q k)
+      → IfOk r (λ given. (k : Kind) → Places q s.held k) → heard r ≡ telling (reserve (held_of (state_view s)) cs) → Leaves s (held_after cs (state_view s)) (judged q r)
+  reserved q (Err y) cs dry rows places told = (
+    refused_free q s.held y,
+    λ t kept. kept.is ∙ (λ i. state (elim [ automatic ↦ λ k. kept.automatic k i | fixed ↦ λ k. kept.fixed k i ]) (holders_view (held_with (judged q (Err y)) s.held)) (holders_view s.owners) (heard (Err y)))
+        ∙ hold_state (state_view s) cs (holders_view (held_with (judged q (Err y)) s.held)) (heard (Err y)) told (λ n. held_rests q s.held y) (λ n. absurd (tell_number 0 (refusal_of y) n)),
+  )
+  reserved q (Ok x) cs dry rows places told = (
+    held_free q s.held places,
+    λ t kept. kept.is ∙ (λ i. state (λ u k. pools t kept u k i) (holders_view (held_with (judged q (Ok x)) s.held)) (holders_view s.owners) silence)
+        ∙ hold_state (state_view s) cs (holders_view (held_with (judged q (Ok x)) s.held)) silence told (λ n. absurd (n refl))
+        (λ n k. held_put q s.held k (places k) ∙ ap (push_all (holders_view s.held k)) (sym (rows k))),
   )
     where
-      v : Verdict
-      v = judged (held what row w) r
+      pools : (t : State) (kept : Kept (judged q (Ok x)) s t) (u : Use) (k : Kind) → pools_view kept.a kept.f u k ≡ (state_view s).pools u k
+      pools t kept automatic k = kept.automatic k ∙ ap (λ o. entered_view o ((state_view s).pools automatic k)) (dry U.Automatic k)
+      pools t kept fixed k = kept.fixed k ∙ ap (λ o. entered_view o ((state_view s).pools fixed k)) (dry U.Fixed k)
 
-      free : HeldFree v s.held
-      free k e = let (g, n) = stays_says v T.Held (kind_in k) e in room n k g
-
-      pools : (t : State) (kept : Kept v s t) (u : Use) (k : Kind) → pools_view kept.a kept.f u k ≡ (state_view s).pools u k
-      pools t kept automatic = kept.automatic
-      pools t kept fixed = kept.fixed
-
-  one_reserved : (k : Kind) (row : RangeRow) (w : InputRow) (r : Reply) → Told k (row_in row w k) (holders_view s.held k) r → (r.number ≡ 0 → (holders_view s.held k).count < row_limit)
-      → Leaves s (held_after (at_kind k (row_in row w k) ∷ []) (state_view s)) (judged (held (W.One (kind_in k)) row w) r)
+  -- a row of one kind, a pair
+  one_reserved : (q : Adds) (k : Kind) (r : Reply) (P : Type 0) {x : _} → ((u : Named) (k : Kind) → for_use u (ranges_in q (kind_in k)) ≡ None) → ((j : Kind) → rows_of j (at_kind k x ∷ []) ≡ rows_at q j)
+      → (P → (j : Kind) → Places q s.held j) → IfOk r (λ given. P) → Told k x (holders_view s.held k) r → Leaves s (held_after (at_kind k x ∷ []) (state_view s)) (judged q r)
   unfolding reserve all_of all_unreserved room
-  one_reserved k row w r told room = reserved (W.One (kind_in k)) row w r (at_kind k (row_in row w k) ∷ []) (one_rows k row w)
-      (λ n j e. subst (λ (i : Kind). (holders_view s.held i).count < row_limit) (sym (same_kind_equal j k (true_T (same_kind j k) (sym (same_in j k) ∙ e)))) (room n)) told.said
+  one_reserved q k r P {x} dry rows places ok told = reserved q r (at_kind k x ∷ []) dry rows (ok_then P ((j : Kind) → Places q s.held j) r places ok) told.said
 
-  pair_reserved : (row : RangeRow) (w : InputRow) (i h : Reply) → Told input (input_of w) (inputs_view s.held.input) i → Told host (range_of row) (ranges_view s.held.host) h → (i.number ≡ 0 → s.held.input.n < row_limit) → (h.number ≡ 0 → s.held.host.n < row_limit)
-      → Leaves s (held_after (at_kind input (input_of w) ∷ at_kind host (range_of row) ∷ []) (state_view s)) (judged (held W.Pair row w) (earlier_of i h))
+  pair_reserved : (w : InputRow) (row : RangeRow) (i h : Reply) → Told input (input_of w) (inputs_view s.held.input) i → Told host (range_of row) (ranges_view s.held.host) h → IfOk i (λ given. SizedInputs s.held.input × (s.held.input.n < row_limit)) → IfOk h (λ given. SizedRanges s.held.host × (s.held.host.n < row_limit))
+      → Leaves s (held_after (at_kind input (input_of w) ∷ at_kind host (range_of row) ∷ []) (state_view s)) (judged (A.Pair w row) (earlier_of i h))
   unfolding rows_of same_kind
-  pair_reserved row w i h i-told h-told i-room h-room = reserved W.Pair row w (earlier_of i h) (at_kind input (input_of w) ∷ at_kind host (range_of row) ∷ []) (every _ refl refl refl refl refl refl refl)
-      (λ n. let (a, b) = earlier_zero i h n in every _ never never (λ e. i-room a) (λ e. h-room b) never never never) (pair_told (held_of (state_view s)) input host (input_of w) (range_of row) refl refl i h i-told.said h-told.said)
+  pair_reserved w row i h i-told h-told i-ok h-ok = reserved (A.Pair w row) (earlier_of i h) (at_kind input (input_of w) ∷ at_kind host (range_of row) ∷ []) (λ u k. refl) (every _ refl refl refl refl refl refl refl)
+      (ok_then _ _ (earlier_of i h) (λ p. every _ tt tt p.0 p.1 tt tt tt) (ok_both _ _ i h i-ok h-ok)) (pair_told (held_of (state_view s)) input host (input_of w) (range_of row) refl refl i h i-told.said h-told.said)
 
 module _ (s : State) (g : Holds (given kinds (state_view s))) where
-  ready : (v : Verdict) → HeldFree v s.held → Ready v s
-  ready v free = record { auto = given_auto s g; fixed = given_fixed s g; free = free }
-
   settled : (c : Call) (v : Verdict) (S : Given) → apply_of (call_of c) (state_view s) ≡ S → Leaves s S v → Decides s c v
-  settled c v S e f = record { ready = ready v f.0; after = λ a b t k. f.1 t k ∙ sym e }
+  settled c v S e f = record { ready = record { auto = given_auto s g; fixed = given_fixed s g; free = f.0 }; after = λ t k. f.1 t k ∙ sym e }
 
   -- what a call's pool answers
-  told : (u : Named) (k : Kind) (t : Ranges) (q : Ask) (r : Reply) → Tells (pool_of s.auto k) (pool_of s.fixed k) t q (use_to u) r → heard r ≡ telling (admit_any q.floor (span_of q.range) (used ((state_view s).pools (use_of u) k)))
-  told U.Automatic k t q r e = e
-  told U.Fixed k t q r e = e
+  told : (u : Named) (k : Kind) (floor : ℕ) (p : PoolRow) (r : Reply) → Adding (pool_for u (pool_of s.auto k) (pool_of s.fixed k)) floor p r → heard r ≡ telling (admit_any floor (span_of p) (used ((state_view s).pools (use_of u) k)))
+  told U.Automatic k floor p r e = e
+  told U.Fixed k floor p r e = e
 
-  told_input : (u : Named) (t : Inputs) (q : InputAsk) (r : Reply) → TellsInput s.auto.input s.fixed.input t q (use_to u) r → heard r ≡ telling (admit_any q.floor (span_of q.range) (used ((state_view s).pools (use_of u) input)))
-  told_input U.Automatic t q r e = e
-  told_input U.Fixed t q r e = e
+  range_pooled : (u : Named) (k : Kind) (p : PoolRow) (r : Reply) → Holds (pairs_of other_kind (at_kind k (span_of p) ∷ [])) → heard r ≡ telling (admit (pools_of (state_view s) (use_of u)) (at_kind k (span_of p) ∷ []))
+      → Leaves s (pool_after (use_of u) (at_kind k (span_of p) ∷ []) (state_view s)) (judged (A.Range u (kind_in k) p) r)
+  range_pooled u k p r apart e = pooled s u (A.Range u (kind_in k) p) (λ j. p) (k ∷ []) r (puts_one u k p) (every _ tt tt tt tt tt tt tt) (every _ refl refl refl refl refl refl refl) apart e
 
-  module _ (m p w j d e l : Reply) where
-    sizes : {q : Adds} → AllSee s q m p w j d e l → (k : Kind) → SizedAt s.held k
-    sizes a = every _ a.mmio.sized a.pio.sized a.input.sized a.host.sized a.device.sized a.event.sized a.lpi.sized
+  abbrev Looking : Call → Replies → Option Adds → Type 0
+  Looking c r (Some q) = AllTell s q r → Decides s c (verdict_of q r)
+  Looking c r None = Unit {0}
 
-    decided : (c : Call) → FitCall c → AllSee s (adds_of c) m p w j d e l → Decides s c (verdict_of (adds_of c) m p w j d e l)
-    decided (C.Pool u (P.Mmio x y)) f a = settled _ _ _ (serve_pool (state_view s) g (use_of u) (mmio_pool x y)) (pooled s (sizes a) u _ (mmio ∷ []) m refl (goes_one mmio) (spans_apart (mmio_pool x y)) (admit_one (pools_of (state_view s) (use_of u)) _ f.0 m (told u mmio _ (ask_of (adds_of (C.Pool u (P.Mmio x y))) K.Mmio) m a.mmio.tells)))
-    decided (C.Pool u (P.Pio x y)) f a = settled _ _ _ (serve_pool (state_view s) g (use_of u) (pio_pool x y)) (pooled s (sizes a) u _ (pio ∷ []) p refl (goes_one pio) (spans_apart (pio_pool x y)) (admit_one (pools_of (state_view s) (use_of u)) _ f.0 p (told u pio _ (ask_of (adds_of (C.Pool u (P.Pio x y))) K.Pio) p a.pio.tells)))
-    decided (C.Pool u (P.Host x y)) f a = settled _ _ _ (serve_pool (state_view s) g (use_of u) (host_pool x y)) (pooled s (sizes a) u _ (host ∷ []) j refl (goes_one host) (spans_apart (host_pool x y)) (admit_one (pools_of (state_view s) (use_of u)) _ f.0 j (told u host _ (ask_of (adds_of (C.Pool u (P.Host x y))) K.Host) j a.host.tells)))
-    decided (C.Pool u (P.Input o x y)) f a = settled _ _ _ (serve_pool (state_view s) g (use_of u) (input_pool o x y)) (pooled s (sizes a) u _ (input ∷ []) w refl (goes_one input) (spans_apart (input_pool o x y)) (admit_one (pools_of (state_view s) (use_of u)) _ f.0 w (told_input u _ (input_ask_of (adds_of (C.Pool u (P.Input o x y)))) w a.input.tells)))
-    decided (C.Pool u (P.Msi o i x y z)) f a =
-        settled _ _ _ (serve_pool (state_view s) g (use_of u) (msi_pool o i x.start.0 x.end.0 y.start.0 y.end.0 z.start.0 z.end.0))
-        (pooled s (sizes a) u _ (device ∷ event ∷ lpi ∷ []) (earlier_of d (earlier_of e l)) refl goes_domain (spans_apart (msi_pool o i x.start.0 x.end.0 y.start.0 y.end.0 z.start.0 z.end.0))
-        (admit_more pools _ f.0 d (told u device _ (ask_of q K.Device) d a.device.tells) _ _ (admit_more pools _ f.1.0 e (told u event _ (ask_of q K.Event) e a.event.tells) _ _ (admit_one pools _ f.1.1.0 l (told u lpi _ (ask_of q K.Lpi) l a.lpi.tells)))))
-      where
-        pools : Kind → List Span
-        pools = pools_of (state_view s) (use_of u)
+  decided : (c : Call) → FitCall c → (r : Replies) → Looking c r (adds_of c)
+  unfolding rows_of same_kind
+  decided (C.Pool u (P.Mmio x y)) f r = λ a. settled _ _ _ (serve_pool (state_view s) g (use_of u) (mmio_pool x y)) (range_pooled u mmio _ r.mmio (spans_apart (mmio_pool x y)) (admit_one (pools_of (state_view s) (use_of u)) _ f.0 r.mmio (told u mmio _ _ r.mmio a.mmio)))
+  decided (C.Pool u (P.Pio x y)) f r = λ a. settled _ _ _ (serve_pool (state_view s) g (use_of u) (pio_pool x y)) (range_pooled u pio _ r.pio (spans_apart (pio_pool x y)) (admit_one (pools_of (state_view s) (use_of u)) _ f.0 r.pio (told u pio _ _ r.pio a.pio)))
+  decided (C.Pool u (P.Host x y)) f r = λ a. settled _ _ _ (serve_pool (state_view s) g (use_of u) (host_pool x y)) (range_pooled u host _ r.host (spans_apart (host_pool x y)) (admit_one (pools_of (state_view s) (use_of u)) _ f.0 r.host (told u host _ _ r.host a.host)))
+  decided (C.Pool u (P.Input o x y)) f r = λ a. settled _ _ _ (serve_pool (state_view s) g (use_of u) (input_pool o x y)) (range_pooled u input _ r.input (spans_apart (input_pool o x y)) (admit_one (pools_of (state_view s) (use_of u)) _ f.0 r.input (told u input _ _ r.input a.input)))
+  decided (C.Pool u (P.Msi o i x y z)) f r = λ a.
+      settled _ _ _ (serve_pool (state_view s) g (use_of u) (msi_pool o i x.start.0 x.end.0 y.start.0 y.end.0 z.start.0 z.end.0))
+      (pooled s u (pool_adds u (P.Msi o i x y z)) (three _ _ _) (device ∷ event ∷ lpi ∷ []) (earlier_of r.device (earlier_of r.event r.lpi)) (puts_domain u _ _ _) (every _ tt tt tt tt tt tt tt) (every _ refl refl refl refl refl refl refl)
+      (spans_apart (msi_pool o i x.start.0 x.end.0 y.start.0 y.end.0 z.start.0 z.end.0))
+      (admit_more pools _ f.0 r.device (told u device _ _ r.device a.device) _ _ (admit_more pools _ f.1.0 r.event (told u event _ _ r.event a.event) _ _ (admit_one pools _ f.1.1.0 r.lpi (told u lpi _ _ r.lpi a.lpi)))))
+    where
+      pools : Kind → List Span
+      pools = pools_of (state_view s) (use_of u)
+  decided (C.Hold o (H.Mmio x y)) f r = λ a. settled _ _ _ (serve_hold (state_view s) g o (hold_call (H.Mmio x y)))
+      (one_reserved s _ mmio r.mmio _ (λ u k. refl) (every _ refl refl refl refl refl refl refl) (λ p. every _ p tt tt tt tt tt tt) a.mmio.1 (told_as mmio _ _ (f.0 refl) r.mmio a.mmio.0))
+  decided (C.Hold o (H.Pio x y)) f r = λ a. settled _ _ _ (serve_hold (state_view s) g o (hold_call (H.Pio x y)))
+      (one_reserved s _ pio r.pio _ (λ u k. refl) (every _ refl refl refl refl refl refl refl) (λ p. every _ tt p tt tt tt tt tt) a.pio.1 (told_as pio _ _ (f.0 refl) r.pio a.pio.0))
+  decided (C.Hold o (H.Host x y)) f r = λ a. settled _ _ _ (serve_hold (state_view s) g o (hold_call (H.Host x y)))
+      (one_reserved s _ host r.host _ (λ u k. refl) (every _ refl refl refl refl refl refl refl) (λ p. every _ tt tt tt p tt tt tt) a.host.1 (told_as host _ _ (f.0 refl) r.host a.host.0))
+  decided (C.Hold o (H.Devices c i x)) f r = λ a. settled _ _ _ (serve_hold (state_view s) g o (hold_call (H.Devices c i x)))
+      (one_reserved s _ device r.device _ (λ u k. refl) (every _ refl refl refl refl refl refl refl) (λ p. every _ tt tt tt tt p tt tt) a.device.1 (told_as device _ _ (f.0 refl) r.device a.device.0))
+  decided (C.Hold o (H.Events c i v x)) f r = λ a. settled _ _ _ (serve_hold (state_view s) g o (hold_call (H.Events c i v x)))
+      (one_reserved s _ event r.event _ (λ u k. refl) (every _ refl refl refl refl refl refl refl) (λ p. every _ tt tt tt tt tt p tt) a.event.1 (told_as event _ _ (f.0 refl) r.event a.event.0))
+  decided (C.Hold o (H.Lpis c x)) f r = λ a. settled _ _ _ (serve_hold (state_view s) g o (hold_call (H.Lpis c x)))
+      (one_reserved s _ lpi r.lpi _ (λ u k. refl) (every _ refl refl refl refl refl refl refl) (λ p. every _ tt tt tt tt tt tt p) a.lpi.1 (told_as lpi _ _ (f.0 refl) r.lpi a.lpi.0))
+  decided (C.Hold o (H.Input c n t x)) f r = λ a. settled _ _ _ (serve_hold (state_view s) g o (hold_call (H.Input c n t x)))
+      (one_reserved s _ input r.input _ (λ u k. refl) (every _ refl refl refl refl refl refl refl) (λ p. every _ tt tt p tt tt tt tt) a.input.1 a.input.0)
+  decided (C.Hold o (H.Pair c n t x)) f r = λ a. settled _ _ _ (serve_hold (state_view s) g o (hold_call (H.Pair c n t x)))
+      (pair_reserved s _ _ r.input r.host a.input.0 (told_as host _ _ (f.1.0 refl) r.host a.host.0) a.input.1 a.host.1)
+  decided C.Start f r = tt
+  decided (C.Want w) f r = tt
+  decided C.Bad f r = tt
 
-        q : Adds
-        q = adds_of (C.Pool u (P.Msi o i x y z))
-    decided (C.Hold o (H.Mmio x y)) f a = settled _ _ _ (serve_hold (state_view s) g o (hold_call (H.Mmio x y))) (one_reserved s (sizes a) mmio _ _ m (told_as mmio _ _ (f.0 refl) m a.mmio.tells.0) a.mmio.tells.1)
-    decided (C.Hold o (H.Pio x y)) f a = settled _ _ _ (serve_hold (state_view s) g o (hold_call (H.Pio x y))) (one_reserved s (sizes a) pio _ _ p (told_as pio _ _ (f.0 refl) p a.pio.tells.0) a.pio.tells.1)
-    decided (C.Hold o (H.Host x y)) f a = settled _ _ _ (serve_hold (state_view s) g o (hold_call (H.Host x y))) (one_reserved s (sizes a) host _ _ j (told_as host _ _ (f.0 refl) j a.host.tells.0) a.host.tells.1)
-    decided (C.Hold o (H.Devices c i x)) f a = settled _ _ _ (serve_hold (state_view s) g o (hold_call (H.Devices c i x))) (one_reserved s (sizes a) device _ _ d (told_as device _ _ (f.0 refl) d a.device.tells.0) a.device.tells.1)
-    decided (C.Hold o (H.Events c i v x)) f a = settled _ _ _ (serve_hold (state_view s) g o (hold_call (H.Events c i v x))) (one_reserved s (sizes a) event _ _ e (told_as event _ _ (f.0 refl) e a.event.tells.0) a.event.tells.1)
-    decided (C.Hold o (H.Lpis c x)) f a = settled _ _ _ (serve_hold (state_view s) g o (hold_call (H.Lpis c x))) (one_reserved s (sizes a) lpi _ _ l (told_as lpi _ _ (f.0 refl) l a.lpi.tells.0) a.lpi.tells.1)
-    decided (C.Hold o (H.Input c n t x)) f a = settled _ _ _ (serve_hold (state_view s) g o (hold_call (H.Input c n t x))) (one_reserved s (sizes a) input _ _ w a.input.tells.0 a.input.tells.1)
-    decided (C.Hold o (H.Pair c n t x)) f a =
-        settled _ _ _ (serve_hold (state_view s) g o (hold_call (H.Pair c n t x))) (pair_reserved s (sizes a) _ _ w j a.input.tells.0 (told_as host _ _ (f.1.0 refl) j a.host.tells.0) a.input.tells.1 a.host.tells.1)
-    decided C.Start f a = record { ready = ready _ (λ k. never); after = λ x y. absurd y }
-    decided (C.Want r) f a = record { ready = ready _ (λ k. never); after = λ x. absurd x }
-    decided C.Bad f a = record { ready = ready _ (λ k. never); after = λ x. absurd x }
-
-  pub decides : (c : Call) (q : Adds) → Asked c q → (m p w j d e l : Reply) → AllSee s q m p w j d e l → Decides s c (verdict_of q m p w j d e l)
-  decides c q k m p w j d e l a = subst (λ (x : Adds). AllSee s x m p w j d e l → Decides s c (verdict_of x m p w j d e l)) (sym k.is) (decided m p w j d e l c k.fit) a
+  pub decides : (c : Call) (q : Adds) → Some q ≡ adds_of c → FitCall c → (r : Replies) → AllTell s q r → Decides s c (verdict_of q r)
+  decides c q e f r a = subst (Looking c r) (sym e) (decided c f r) a

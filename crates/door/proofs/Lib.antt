@@ -6,4 +6,3 @@ pub mod HoldLaws
 pub mod ApplyLaws
 pub mod DecideLaws
 pub mod ServeLaws
-pub mod ToldLaws

@@ -7,6 +7,7 @@ ghost use Rattle.definition.specs.Plan.{lent};
 ghost use Rattle.tables.specs.Views.{state_view};
 ghost use Rattle.flat.specs.Flat.{flat_plan, flat_allocate};
 ghost use Rattle.numbers.specs.Rows.{told};
+ghost use Rattle.numbers.specs.Reading.{code_of};
 ghost use Rattle.numbers.specs.Lent.{call_told, read_told, filled_by};
 ghost use Rattle.flat.specs.Pin.{pinned_numbers};
 ghost use Rattle.registers.specs.Sizing.{registers_into};
@@ -15,8 +16,8 @@ ghost use Rattle.lines.specs.Back.{pins_to};
 ghost use Rattle.export.specs.Export.{state_size, begun, sized_fresh, answered, sized, numbered, counted, sized_read, bytes_told, text_pinned, pin_told, device_sized, size_told};
 
 use inplace::marks::Marks;
-use numbers::back::{filled, tell_read, which};
-use numbers::row::row;
+use insert::Reply;
+use numbers::back::{filled, read};
 use numbers::{ANSWER, tell_five};
 use registers::registers;
 use tables::{POOL_ROWS, ROWS, State, fresh};
@@ -114,16 +115,23 @@ pub extern "C" fn planner_plan(
     1
 }
 
+// The number of an answer: 0, or its refusal's.
+fn code(answer: Reply) -> u64
+    ensures { result ≡ code_of answer }
+{
+    match answer {
+        Ok(()) => 0,
+        Err(refused) => refused.number(),
+    }
+}
+
 // Reading back: the last answer's five numbers (0), or one row of a table (part, kind, row).
 #[unsafe(no_mangle)]
 pub extern "C" fn planner_read(state: &State, size: u64, what: &[u64], out: &mut [u64]) -> u64
     ensures { told result out.new ≡ sized_read size out.old (read_told what.now (state_view state.now) out.old) }
 {
     if size == STATE {
-        let k = which(what);
-        let x = row(state, k);
-        let m = inplace::marks::peek(state);
-        return tell_read(k, m, x, out);
+        return code(read(state, what, out));
     }
     1
 }
@@ -141,8 +149,7 @@ pub extern "C" fn planner_pin(requests: &mut [u64], results: &[u64])
 pub extern "C" fn planner_text(text: &[u8], out: &mut [u8]) -> u64
     ensures { told result out.new ≡ bytes_told (responds_to text.now out.old) }
 {
-    let r = respond(text, out);
-    r.length as u64
+    respond(text, out).unwrap_or(0) as u64
 }
 
 // A plan's text written back with its answers: the pinned text in front of `out`. It answers with how many bytes were written; the five numbers of a `no` line, line first, are
@@ -151,9 +158,13 @@ pub extern "C" fn planner_text(text: &[u8], out: &mut [u8]) -> u64
 pub extern "C" fn planner_pin_text(text: &[u8], out: &mut [u8], answer: &mut [u64]) -> u64
     ensures { text_pinned result out.new answer.new ≡ pin_told (pins_to text.now out.old) answer.old }
 {
-    let w = pin_text(text, out);
-    let _room = tell_five(w.line, w.number, w.namespace, w.owner, w.detail, answer);
-    w.length as u64
+    let written = pin_text(text, out);
+    let five = match written {
+        Ok(_) => [0; ANSWER],
+        Err(no) => [no.line, no.number, no.namespace, no.owner, no.detail],
+    };
+    let _ = tell_five(five, answer);
+    written.unwrap_or(0) as u64
 }
 
 // A PCI device's requests, from the words read from its six base address registers after all ones were written: twelve numbers each, in front of `requests`. It answers
@@ -167,7 +178,10 @@ pub extern "C" fn planner_registers(
 ) -> u64
     ensures { device_sized result requests.new answer.new ≡ size_told (registers_into words.now requester requests.old) answer.old }
 {
-    let s = registers(words, requester, requests);
-    let _room = tell_five(s.number, 0, 0, 0, 0, answer);
-    s.count as u64
+    let (number, count) = match registers(words, requester, requests) {
+        Ok(count) => (0, count),
+        Err(fault) => (fault.number(), 0),
+    };
+    let _ = tell_five([number, 0, 0, 0, 0], answer);
+    count as u64
 }

@@ -1,9 +1,8 @@
-pub mod CopyLaws
+pub mod ReadLaws
 pub mod PinLaws
 pub mod NarrowLaws
 pub mod ChoiceLaws
 pub mod BackLaws
-pub mod FormLaws
 pub mod FlatLaws
 pub mod StoreLaws
 pub mod NumbersLaws

@@ -1,30 +1,17 @@
--- One law for each way out of the code. Assumes nothing.
+-- Writing back: what stays, and one request more. Assumes nothing.
 use mathlib.Core.Path.{◌≡◌, refl, sym, ap, ◌∙◌}
 use mathlib.Core.Bool.{Bool, true, false, not, ◌&&◌}
 use mathlib.Core.List.{List}
 use Prim.Native.Nat.{ℕ, zero, suc, ◌+◌, ◌-◌, ◌*◌, ◌≤◌, ◌<◌}
 use native.Mathlib.Omega.{arith}
 use lib.Dec.{eqb}
-use borrow.Author.Tests.{eq-eqb, ne_eqb}
+use borrow.Author.Tests.{ne_eqb}
 use lib.ListN.{length, get_or, set, length-set}
 use Rattle.definition.specs.Tables.{record_size}
 use Rattle.flat.specs.Flat.{request_size, Form, unknown, mmio, pio, input, host, msi, form_at, number_at, request_at}
-use Rattle.flat.proofs.FormLaws.{form_past}
 use Rattle.flat.specs.Pin.{if_auto, pin_choice_at, pin_form, granted_at, pin_choices, tells_of, own_record, pin_one, pin_from}
 
 -- ---- one choice
-
-pub pin_auto : (p g : ℕ) (rq : List ℕ) → get_or rq p 0 ≡ 0 → pin_choice_at p g rq ≡ set (set rq p 1) (p + 1) g
-unfolding pin_choice_at
-pin_auto p g rq e = rw e
-
-pub pin_stays : (p g : ℕ) (rq : List ℕ) → (get_or rq p 0 ≡ 0 → ⊥) → pin_choice_at p g rq ≡ rq
-unfolding pin_choice_at
-pin_stays p g rq f = go (get_or rq p 0) f
-  where
-    go : (code : ℕ) → (code ≡ 0 → ⊥) → if_auto code (set (set rq p 1) (p + 1) g) rq ≡ rq
-    go zero h = absurd (h refl)
-    go (suc code) h = refl
 
 pub pin_choice_length : (p g : ℕ) (rq : List ℕ) → length (pin_choice_at p g rq) ≡ length rq
 unfolding pin_choice_at
@@ -34,49 +21,9 @@ pin_choice_length p g rq = go (get_or rq p 0)
     go zero = length-set (set rq p 1) (p + 1) g ∙ length-set rq p 1
     go (suc code) = refl
 
--- ---- a request's choices, by its kind's number
+-- ---- a request's choices
 
-pub choices_is : (res : List ℕ) (i : ℕ) (rq : List ℕ) → pin_choices res i rq ≡ pin_form (form_at (get_or rq (request_size * i) 0)) (granted_at res i) (request_size * i) rq
-unfolding pin_choices
-choices_is res i rq =
-    let e : request_size * i + 0 ≡ request_size * i = omega arith in
-    ap (λ (k : ℕ). pin_form (form_at (get_or rq k 0)) (granted_at res i) (request_size * i) rq) e
-
-module _ (res : List ℕ) (i : ℕ) (rq : List ℕ) where
-  abbrev kind : ℕ
-  kind = get_or rq (request_size * i) 0
-
-  abbrev to : ℕ
-  to = request_size * i
-
-  abbrev g : ℕ → ℕ
-  g = granted_at res i
-
-  pub choices_zero : kind ≡ 0 → rq ≡ pin_choices res i rq
-  choices_zero e = sym (choices_is res i rq ∙ ap (λ (k : ℕ). pin_form (form_at k) g to rq) e)
-
-  pub choices_past : 5 < kind → rq ≡ pin_choices res i rq
-  choices_past l = sym (choices_is res i rq ∙ ap (λ (f : Form). pin_form f g to rq) (form_past kind l))
-
-  pub choices_input : kind ≡ 3 → pin_choice_at (to + 6) (g 4) rq ≡ pin_choices res i rq
-  choices_input e = sym (choices_is res i rq ∙ ap (λ (k : ℕ). pin_form (form_at k) g to rq) e)
-
-  pub choices_msi : kind ≡ 5 → pin_choice_at (to + 10) (g 7) (pin_choice_at (to + 8) (g 6) (pin_choice_at (to + 6) (g 5) rq)) ≡ pin_choices res i rq
-  choices_msi e = sym (choices_is res i rq ∙ ap (λ (k : ℕ). pin_form (form_at k) g to rq) e)
-
-  pub choices_plain : (kind ≡ 0 → ⊥) → kind ≤ 5 → (kind ≡ 3 → ⊥) → (kind ≡ 5 → ⊥) → pin_choice_at (to + 6) (g 3) rq ≡ pin_choices res i rq
-  choices_plain n₀ l n₃ n₅ = sym (choices_is res i rq ∙ go kind n₀ l n₃ n₅)
-    where
-      go : (k : ℕ) → (k ≡ 0 → ⊥) → k ≤ 5 → (k ≡ 3 → ⊥) → (k ≡ 5 → ⊥) → pin_form (form_at k) g to rq ≡ pin_choice_at (to + 6) (g 3) rq
-      go zero m₀ h m₃ m₅ = absurd (m₀ refl)
-      go (suc zero) m₀ h m₃ m₅ = refl
-      go (suc (suc zero)) m₀ h m₃ m₅ = refl
-      go (suc (suc (suc zero))) m₀ h m₃ m₅ = absurd (m₃ refl)
-      go (suc (suc (suc (suc zero)))) m₀ h m₃ m₅ = refl
-      go (suc (suc (suc (suc (suc zero))))) m₀ h m₃ m₅ = absurd (m₅ refl)
-      go (suc (suc (suc (suc (suc (suc k)))))) m₀ h m₃ m₅ = absurd (omega arith)
-
-pub form_length : (f : Form) (g : ℕ → ℕ) (p : ℕ) (rq : List ℕ) → length (pin_form f g p rq) ≡ length rq
+form_length : (f : Form) (g : ℕ → ℕ) (p : ℕ) (rq : List ℕ) → length (pin_form f g p rq) ≡ length rq
 form_length unknown g p rq = refl
 form_length mmio g p rq = pin_choice_length (p + 6) (g 3) rq
 form_length pio g p rq = pin_choice_length (p + 6) (g 3) rq
@@ -86,11 +33,11 @@ form_length msi g p rq =
     pin_choice_length (p + 10) (g 7) (pin_choice_at (p + 8) (g 6) (pin_choice_at (p + 6) (g 5) rq)) ∙ pin_choice_length (p + 8) (g 6) (pin_choice_at (p + 6) (g 5) rq)
     ∙ pin_choice_length (p + 6) (g 5) rq
 
-pub choices_length : (res : List ℕ) (i : ℕ) (rq : List ℕ) → length (pin_choices res i rq) ≡ length rq
+choices_length : (res : List ℕ) (i : ℕ) (rq : List ℕ) → length (pin_choices res i rq) ≡ length rq
 unfolding pin_choices
 choices_length res i rq = form_length (form_at (number_at rq i 0)) (granted_at res i) (request_size * i) rq
 
--- ---- whether a record is the request's own, one law for each way out
+-- ---- whether a record is the request's own
 
 -- q and s are the request's requester and slot, as it is read
 module _ (res : List ℕ) (i : ℕ) (rq : List ℕ) (q s : ℕ) (q-is : q ≡ (request_at rq i).requester) (s-is : s ≡ (request_at rq i).slot) where
@@ -113,26 +60,13 @@ module _ (res : List ℕ) (i : ℕ) (rq : List ℕ) (q s : ℕ) (q-is : q ≡ (r
       let b : request_size * i + 0 ≡ request_size * i = omega arith in
       λ t. told (eqb (sym q-is t) 0) (eqb (get_or res (a t) 0) (get_or rq (b t) 0)) (eqb (h 1) (sym q-is t)) (eqb (h 2) (sym s-is t))
 
-  pub asked_by_nobody : q ≡ 0 → false ≡ own_record res i rq
-  asked_by_nobody e = sym (own_is ∙ ap (λ (b : Bool). told b (eqb h₀ k) (eqb (h 1) q) (eqb (h 2) s)) (eq-eqb q 0 e))
-
   pub other_kind_is : (q ≡ 0 → ⊥) → (h₀ ≡ k → ⊥) → false ≡ own_record res i rq
   other_kind_is z n = sym (own_is ∙ (λ t. told (ne_eqb q 0 z t) (ne_eqb h₀ k n t) (eqb (h 1) q) (eqb (h 2) s)))
-
-  pub other_requester : (q ≡ 0 → ⊥) → h₀ ≡ k → (h 1 ≡ q → ⊥) → false ≡ own_record res i rq
-  other_requester z e n = sym (own_is ∙ (λ t. told (ne_eqb q 0 z t) (eq-eqb h₀ k e t) (ne_eqb (h 1) q n t) (eqb (h 2) s)))
-
-  pub by_slot : (q ≡ 0 → ⊥) → h₀ ≡ k → h 1 ≡ q → eqb (h 2) s ≡ own_record res i rq
-  by_slot z e f = sym (own_is ∙ (λ t. told (ne_eqb q 0 z t) (eq-eqb h₀ k e t) (eq-eqb (h 1) q f t) (eqb (h 2) s)))
 
 module _ (res : List ℕ) (i : ℕ) (rq : List ℕ) where
   pub one_own : own_record res i rq ≡ true → pin_choices res i rq ≡ pin_one res i rq
   unfolding pin_one
   one_own e = rw (e, pin_one)
-
-  pub one_stays : own_record res i rq ≡ false → rq ≡ pin_one res i rq
-  unfolding pin_one
-  one_stays e = rw (e, pin_one)
 
   pub one_length : length (pin_one res i rq) ≡ length rq
   unfolding pin_one

@@ -1,2 +1,3 @@
 pub mod Pin
 pub mod Flat
+pub mod Read

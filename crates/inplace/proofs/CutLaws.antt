@@ -3,17 +3,14 @@ use mathlib.Core.Path.{◌≡◌, refl, ap, sym, ◌∙◌}
 use mathlib.Core.Bool.{Bool, true, false, ◌||◌}
 use mathlib.Core.Logic.{◌⊎◌, inl, inr, ⊎_elim}
 use mathlib.Core.List.{List}
-use Prim.Native.Nat.{ℕ, zero, suc, ◌+◌, ◌-◌, ◌≤◌, ◌<◌}
+use Prim.Native.Nat.{ℕ, zero, suc, ◌+◌, ◌-◌, ◌≤◌, ◌<◌, min}
 use native.Mathlib.Omega.{arith}
 use lib.Dec.{leb, eqb}
 use lib.ListN.{get_or, set, length, length-set}
 use lib.Seq.{get_or-set_other}
 use borrow.Author.Tests.{leb-true, leb-false, le-leb, lt-leb, eq-eqb, ne_eqb}
 use Rattle.definition.specs.Tables.{row_limit}
-use Rattle.tables.specs.Views.{ranges, inputs}
-use Rattle.tables.specs.declared.Ranges.{Ranges}
-use Rattle.tables.specs.declared.Inputs.{Inputs}
-use Rattle.inplace.specs.Cut.{goes, placed, closed, lesser, closed_ranges, closed_inputs, close_ranges, close_inputs}
+use Rattle.inplace.specs.Cut.{goes, placed, closed, lesser, Layout, Closes}
 
 -- ---- a count, and at most the rows that there are
 
@@ -36,8 +33,8 @@ lesser_is n = go (leb n row_limit) refl
 pub lesser_within : (n : ℕ) → lesser n ≤ row_limit
 lesser_within n = ⊎_elim (λ p. omega (arith, p.0, p.1)) (λ p. omega (arith, p.1)) (lesser_is n)
 
-pub lesser_most : (n r : ℕ) → r ≡ lesser n → r ≤ row_limit
-lesser_most n r e = omega (arith, e, lesser_within n)
+pub lesser_min : (n : ℕ) → min n row_limit ≡ lesser n
+lesser_min n = ⊎_elim (λ p. omega (arith, p.0, p.1)) (λ p. omega (arith, p.0, p.1)) (lesser_is n)
 
 -- ---- whose rows go
 
@@ -157,20 +154,8 @@ module _ (whose m k : ℕ) (owners : List ℕ) (l : m ≤ k) where
 
 -- ---- a table of either layout
 
-pub record Layout : Type 1 where
-  pub D : Type 0
-  pub owners : D → List ℕ
-  pub counted : ℕ → D → D  -- its count stored
-  pub zeroed : ℕ → D → D  -- row k made zero
-  pub moved : ℕ → ℕ → D → D  -- .. and what it was stored at a place
-  pub turned : ℕ → ℕ → D → ℕ → D  -- after so many rows
-  pub none : (whose m : ℕ) (t : D) → t ≡ turned whose m t 0
-  pub column : (whose m : ℕ) (t : D) (j : ℕ) → owners (turned whose m t j) ≡ closed whose m (owners t) (owners t) j
-  pub zeroing : (whose m : ℕ) (t : D) (j j' k : ℕ) → ((c : List ℕ) → set (closed whose m (owners t) c j) k 0 ≡ closed whose m (owners t) c j') → zeroed k (turned whose m t j) ≡ turned whose m t j'
-  pub moving : (whose m : ℕ) (t : D) (j j' k at : ℕ) → ((c : List ℕ) → set (set (closed whose m (owners t) c j) k 0) at (get_or (closed whose m (owners t) c j) k 0) ≡ closed whose m (owners t) c j') → moved at k (turned whose m t j) ≡ turned whose m t j'
-
 -- the loop's invariant: at row k, with the next place at `at`
-pub record Turned (L : Layout) (whose m : ℕ) (t : L.D) (end at k : ℕ) (next : L.D) : Type 0 where
+pub record Turned {D : Type 0} (L : Layout D) (whose m : ℕ) (t : D) (end at k : ℕ) (next : D) : Type 0 where
   pub from : m ≤ k
   pub most : k - m ≤ end - m
   pub rows : end ≤ row_limit
@@ -178,93 +163,41 @@ pub record Turned (L : Layout) (whose m : ℕ) (t : L.D) (end at k : ℕ) (next 
   pub place : at ≡ placed whose m (L.owners t) (k - m)
   pub table : next ≡ L.turned whose m t (k - m)
 
-module _ (L : Layout) (whose m : ℕ) (t : L.D) (end : ℕ) where
+module _ {D : Type 0} (L : Layout D) (laws : Closes L) (whose m : ℕ) (t : D) (end : ℕ) where
   pub turned_none : end ≤ row_limit → Turned L whose m t end m m t
   unfolding placed
   turned_none l = let p : 0 ≡ m - m = omega arith in
-      record { from = omega arith; most = omega arith; rows = l; room = omega arith; place = ap (placed whose m (L.owners t)) p; table = L.none whose m t ∙ ap (L.turned whose m t) p }
+      record { from = omega arith; most = omega arith; rows = l; room = omega arith; place = ap (placed whose m (L.owners t)) p; table = laws.none whose m t ∙ ap (L.turned whose m t) p }
 
-  module _ (k at : ℕ) (next : L.D) (h : Turned L whose m t end at k next) (l : k < end) where
+  module _ (k at : ℕ) (next : D) (h : Turned L whose m t end at k next) (l : k < end) where
     was : (b : Bool) → goes (get_or (L.owners next) k 0) whose ≡ b → goes (get_or (closed whose m (L.owners t) (L.owners t) (k - m)) k 0) whose ≡ b
-    was b e = ap (λ (c : List ℕ). goes (get_or c k 0) whose) (sym (ap L.owners h.table ∙ L.column whose m t (k - m))) ∙ e
+    was b e = ap (λ (c : List ℕ). goes (get_or c k 0) whose) (sym (ap L.owners h.table ∙ laws.column whose m t (k - m))) ∙ e
 
-    pub turned_gone : (at' : ℕ) (next' : L.D) → goes (get_or (L.owners next) k 0) whose ≡ true → next' ≡ L.zeroed k next → at' ≡ at → Turned L whose m t end at' (k + 1) next'
+    pub turned_gone : (at' : ℕ) (next' : D) → goes (get_or (L.owners next) k 0) whose ≡ true → next' ≡ L.cleared k next → at' ≡ at → Turned L whose m t end at' (k + 1) next'
     turned_gone at' next' e p q = record {
       from = omega (arith, h.from);
       most = omega (arith, h.from, l);
       rows = h.rows;
       room = omega (arith, h.room, q);
       place = q ∙ h.place ∙ place_stays whose m k (L.owners t) h.from (was true e);
-      table = p ∙ ap (L.zeroed k) h.table ∙ L.zeroing whose m t (k - m) (k + 1 - m) k (λ c. turn_gone whose m k (L.owners t) h.from c (was true e));
+      table = p ∙ ap (L.cleared k) h.table ∙ laws.clearing whose m t (k - m) (k + 1 - m) k (λ c. turn_gone whose m k (L.owners t) h.from c (was true e));
     }
 
-    pub turned_kept : (at' : ℕ) (next' : L.D) → goes (get_or (L.owners next) k 0) whose ≡ false → next' ≡ L.moved at k next → at' ≡ at + 1 → Turned L whose m t end at' (k + 1) next'
+    pub turned_kept : (at' : ℕ) (next' : D) → goes (get_or (L.owners next) k 0) whose ≡ false → next' ≡ L.shifted at k next → at' ≡ at + 1 → Turned L whose m t end at' (k + 1) next'
     turned_kept at' next' e p q = record {
       from = omega (arith, h.from);
       most = omega (arith, h.from, l);
       rows = h.rows;
       room = omega (arith, h.room, q);
       place = q ∙ ap (λ (a : ℕ). a + 1) h.place ∙ place_grows whose m k (L.owners t) h.from (was false e);
-      table = p ∙ ap (L.moved at k) h.table ∙ ap (λ (a : ℕ). L.moved a k (L.turned whose m t (k - m))) h.place
-          ∙ L.moving whose m t (k - m) (k + 1 - m) k (placed whose m (L.owners t) (k - m)) (λ c. turn_kept whose m k (L.owners t) h.from c (was false e));
+      table = p ∙ ap (L.shifted at k) h.table ∙ ap (λ (a : ℕ). L.shifted a k (L.turned whose m t (k - m))) h.place
+          ∙ laws.shifting whose m t (k - m) (k + 1 - m) k (placed whose m (L.owners t) (k - m)) (λ c. turn_kept whose m k (L.owners t) h.from c (was false e));
     }
 
   -- what is left: the count is stored last
-  pub turned_all : (n k at : ℕ) (next : L.D) → end ≡ lesser n → Turned L whose m t end at k next → end ≤ k
-      → L.counted at next ≡ L.counted (placed whose m (L.owners t) (lesser n - m)) (L.turned whose m t (lesser n - m))
-  turned_all n k at next e h u =
+  pub turned_all : (k at : ℕ) (next : D) → end ≡ lesser (L.count t) → Turned L whose m t end at k next → end ≤ k → L.counted at next ≡ L.closed whose m t
+  turned_all k at next e h u =
       let d : k - m ≡ end - m = omega (arith, h.most) in
-      let j : k - m ≡ lesser n - m = d ∙ ap (λ (i : ℕ). i - m) e in
-      ap (L.counted at) h.table ∙ ap (λ (a : ℕ). L.counted a (L.turned whose m t (k - m))) h.place ∙ ap (λ (i : ℕ). L.counted (placed whose m (L.owners t) i) (L.turned whose m t i)) j
-
--- ---- ranges
-
-pub no_ranges : (whose m : ℕ) (t : Ranges) → t ≡ closed_ranges t.n whose m t 0
-unfolding closed
-no_ranges whose m t = refl
-
-abbrev pub of_ranges : Layout
-of_ranges = record {
-  D = Ranges;
-  owners = λ t. t.owner;
-  counted = λ n t. ranges n t.controller t.its t.device t.start t.end t.owner;
-  zeroed = λ k t. ranges t.n (set t.controller k 0) (set t.its k 0) (set t.device k 0) (set t.start k 0) (set t.end k 0) (set t.owner k 0);
-  moved = λ at k t.
-      ranges t.n (set (set t.controller k 0) at (get_or t.controller k 0)) (set (set t.its k 0) at (get_or t.its k 0)) (set (set t.device k 0) at (get_or t.device k 0))
-      (set (set t.start k 0) at (get_or t.start k 0)) (set (set t.end k 0) at (get_or t.end k 0)) (set (set t.owner k 0) at (get_or t.owner k 0));
-  turned = λ whose m t. closed_ranges t.n whose m t;
-  none = λ whose m t. no_ranges whose m t;
-  column = λ whose m t j. refl;
-  zeroing = λ whose m t j j' k one i. ranges t.n (one t.controller i) (one t.its i) (one t.device i) (one t.start i) (one t.end i) (one t.owner i);
-  moving = λ whose m t j j' k at one i. ranges t.n (one t.controller i) (one t.its i) (one t.device i) (one t.start i) (one t.end i) (one t.owner i);
-}
-
-pub ranges_closed : (whose m end k at : ℕ) (t next : Ranges) → end ≡ lesser t.n → Turned of_ranges whose m t end at k next → end ≤ k → of_ranges.counted at next ≡ close_ranges whose m t
-unfolding close_ranges
-ranges_closed whose m end k at t next = turned_all of_ranges whose m t end t.n k at next
-
--- ---- inputs
-
-pub no_inputs : (whose m : ℕ) (t : Inputs) → t ≡ closed_inputs t.n whose m t 0
-unfolding closed
-no_inputs whose m t = refl
-
-abbrev pub of_inputs : Layout
-of_inputs = record {
-  D = Inputs;
-  owners = λ t. t.owner;
-  counted = λ n t. inputs n t.controller t.input t.trigger t.sharing t.owner;
-  zeroed = λ k t. inputs t.n (set t.controller k 0) (set t.input k 0) (set t.trigger k 0) (set t.sharing k 0) (set t.owner k 0);
-  moved = λ at k t.
-      inputs t.n (set (set t.controller k 0) at (get_or t.controller k 0)) (set (set t.input k 0) at (get_or t.input k 0)) (set (set t.trigger k 0) at (get_or t.trigger k 0))
-      (set (set t.sharing k 0) at (get_or t.sharing k 0)) (set (set t.owner k 0) at (get_or t.owner k 0));
-  turned = λ whose m t. closed_inputs t.n whose m t;
-  none = λ whose m t. no_inputs whose m t;
-  column = λ whose m t j. refl;
-  zeroing = λ whose m t j j' k one i. inputs t.n (one t.controller i) (one t.input i) (one t.trigger i) (one t.sharing i) (one t.owner i);
-  moving = λ whose m t j j' k at one i. inputs t.n (one t.controller i) (one t.input i) (one t.trigger i) (one t.sharing i) (one t.owner i);
-}
-
-pub inputs_closed : (whose m end k at : ℕ) (t next : Inputs) → end ≡ lesser t.n → Turned of_inputs whose m t end at k next → end ≤ k → of_inputs.counted at next ≡ close_inputs whose m t
-unfolding close_inputs
-inputs_closed whose m end k at t next = turned_all of_inputs whose m t end t.n k at next
+      let j : k - m ≡ lesser (L.count t) - m = d ∙ ap (λ (i : ℕ). i - m) e in
+      ap (L.counted at) h.table ∙ ap (λ (a : ℕ). L.counted a (L.turned whose m t (k - m))) h.place
+      ∙ ap (λ (i : ℕ). L.counted (placed whose m (L.owners t) i) (L.turned whose m t i)) j ∙ laws.all whose m t

@@ -1,4 +1,3 @@
 pub mod CutLaws
 pub mod CloseLaws
 pub mod CutViews
-pub mod FindLaws

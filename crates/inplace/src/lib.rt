@@ -7,102 +7,65 @@ ghost use Rattle.definition.specs.Calls.{sound};
 ghost use Rattle.tables.specs.Views.{state_view};
 ghost use Rattle.request.specs.Asked.{request_of};
 ghost use Rattle.decide.specs.Outcome.{bases_in, after};
-ghost use Rattle.decide.specs.Kept.{AllFree, Finds, kept, answer};
+ghost use Rattle.decide.specs.Kept.{RowsFree, Room, said_in, stored_in, kept, answer};
 
-use decide::{Bases, Granted};
-use request::Request;
-use tables::{Kind, State};
+use choose::Refusal;
+use decide::{Bases, Granted, Rows};
+use lent_table::store::{push_input, push_range};
+use request::{Request, Said};
+use tables::State;
 
-pub mod marks;
+pub mod marks; // marks.rt: what is read of a state, and rows taken out of it
 
-// What the request is granted, and where its rows go. Only the tables that it asks are looked into: the idle looks into the others would be a third of a request.
-pub fn find(s: &State, r: Request) -> Granted
-    requires { T (sound kinds (state_view s.now)) }
-    ensures { Finds s.now (request_of r) result }
+// The five numbers of an answer that names no request.
+pub fn say(s: &mut State, said: Said)
+    ensures { s.new ≡ said_in said s.old }
 {
-    let q = decide::queried(r);
-    if decide::ask::for_range(q, Kind::Mmio) {
-        let seen = lent_table::look::range(
-            &s.auto.mmio,
-            &s.fixed.mmio,
-            &s.owners.mmio,
-            decide::ask::range(q, Kind::Mmio),
-        );
-        return decide::one(q, seen);
-    }
-    if decide::ask::for_range(q, Kind::Pio) {
-        let seen = lent_table::look::range(
-            &s.auto.pio,
-            &s.fixed.pio,
-            &s.owners.pio,
-            decide::ask::range(q, Kind::Pio),
-        );
-        return decide::one(q, seen);
-    }
-    if decide::ask::for_input(q) {
-        let seen = lent_table::look::input(
-            &s.auto.input,
-            &s.fixed.input,
-            &s.owners.input,
-            decide::ask::input(q),
-        );
-        return decide::one(q, seen);
-    }
-    if decide::ask::for_range(q, Kind::Host) {
-        let seen = lent_table::look::range(
-            &s.auto.host,
-            &s.fixed.host,
-            &s.owners.host,
-            decide::ask::range(q, Kind::Host),
-        );
-        return decide::one(q, seen);
-    }
-    let device = lent_table::look::range(
-        &s.auto.device,
-        &s.fixed.device,
-        &s.owners.device,
-        decide::ask::device(q),
-    );
-    let event = lent_table::look::range(
-        &s.auto.event,
-        &s.fixed.event,
-        &s.owners.event,
-        decide::ask::event(q, device),
-    );
-    let lpi = lent_table::look::range(
-        &s.auto.lpi,
-        &s.fixed.lpi,
-        &s.owners.lpi,
-        decide::ask::lpi(q, event),
-    );
-    decide::verdict(q, device, device, device, device, device, event, lpi)
-}
-
-// What was granted, stored: a row at the end of each table that it names, and the five numbers.
-pub fn keep(s: &mut State, g: Granted)
-    requires { AllFree g s.old.owners }
-    ensures { s.new ≡ kept g s.old }
-{
-    lent_table::store::range(&mut s.owners.mmio, decide::put::range(g, Kind::Mmio));
-    lent_table::store::range(&mut s.owners.pio, decide::put::range(g, Kind::Pio));
-    lent_table::store::input(&mut s.owners.input, decide::put::input(g));
-    lent_table::store::range(&mut s.owners.host, decide::put::range(g, Kind::Host));
-    lent_table::store::range(&mut s.owners.device, decide::put::range(g, Kind::Device));
-    lent_table::store::range(&mut s.owners.event, decide::put::range(g, Kind::Event));
-    lent_table::store::range(&mut s.owners.lpi, decide::put::range(g, Kind::Lpi));
-    s.number = g.said.number;
+    s.number = said.number;
     s.index = 0;
-    s.namespace = g.said.namespace;
-    s.owner = g.said.owner;
-    s.detail = g.said.detail;
+    s.namespace = said.namespace;
+    s.owner = said.owner;
+    s.detail = said.detail;
 }
 
-// One request: the state afterwards is the definition's, and the first numbers of the rows are answered.
-pub fn resolve(s: &mut State, r: Request) -> Bases
+// Rows, each at the end of its table.
+pub fn store(s: &mut State, rows: Rows)
+    requires { RowsFree rows s.old.owners }
+    ensures { s.new ≡ stored_in rows s.old }
+{
+    match rows {
+        Rows::Mmio(row) => push_range(&mut s.owners.mmio, row),
+        Rows::Pio(row) => push_range(&mut s.owners.pio, row),
+        Rows::Input(row) => push_input(&mut s.owners.input, row),
+        Rows::Host(row) => push_range(&mut s.owners.host, row),
+        Rows::Msi(three) => {
+            push_range(&mut s.owners.device, three.device);
+            push_range(&mut s.owners.event, three.event);
+            push_range(&mut s.owners.lpi, three.lpi);
+        }
+    }
+}
+
+// What was granted, stored, or why nothing was; and what is said of it.
+pub fn keep(s: &mut State, found: Result<Granted, Refusal>)
+    requires { Room found s.old.owners }
+    ensures { s.new ≡ kept found s.old }
+{
+    match found {
+        Ok(granted) => {
+            store(s, granted.rows);
+            say(s, Said::plain(0));
+        }
+        Err(refusal) => say(s, Said::from(refusal)),
+    }
+}
+
+// One request: the state afterwards is the definition's, and the first numbers of the rows are answered, if it is accepted.
+pub fn resolve(s: &mut State, r: Request) -> Option<Bases>
     requires { T (sound kinds (state_view s.old)) }
     ensures { (state_view s.new ≡ after (state_view s.old) (answer s.old (request_of r))) × (result ≡ bases_in (request_of r).want (answer s.old (request_of r))) }
 {
-    let g = find(s, r);
-    keep(s, g);
-    g.bases
+    let found = decide::find(s, r);
+    keep(s, found);
+    found.ok().map(|granted| granted.bases)
 }

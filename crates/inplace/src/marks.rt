@@ -1,12 +1,14 @@
 // A lent state: the counts and the numbers that are read of it, and rows taken out of its owner tables, in place.
-ghost use Rattle.std.specs.Prelude.{◌≡◌};
-ghost use Rattle.inplace.specs.Cut.{lesser, goes, close_ranges, close_inputs};
-ghost use Rattle.inplace.specs.Marks.{marks_of, reserved_of, taken_out};
+ghost use Rattle.std.specs.Prelude.{◌≡◌, ◌<◌, get_or, map};
+ghost use Rattle.definition.specs.Tables.{row_limit, kinds};
+ghost use Rattle.inplace.specs.Cut.{goes, Layout, Closes, of_ranges, of_inputs, ranges_close, inputs_close};
+ghost use Rattle.inplace.specs.Marks.{counts_in, marks_by, marks_of, reserved_of, taken_out};
 
-use tables::{Inputs, ROWS, Ranges, State};
+use lent_table::store::{set_input, set_range};
+use tables::{Holders, InputRow, Inputs, ROWS, RangeRow, Ranges, State};
 
-// The row counts of seven tables, and the five numbers of the last answer.
-#[derive(Clone, Copy)]
+// The row counts of seven tables, and the five numbers of the last answer: as they stand in the state, read one by one.
+#[derive(Clone, Copy, Debug, PartialEq, Eq)]
 pub struct Marks {
     pub mmio: usize,
     pub pio: usize,
@@ -22,167 +24,179 @@ pub struct Marks {
     pub detail: u64,
 }
 
+impl Marks {
+    // The counts alone, in the order of the kinds.
+    pub fn counts(self) -> [usize; 7]
+        ensures { result ≡ map (counts_in self) kinds }
+    {
+        [
+            self.mmio,
+            self.pio,
+            self.input,
+            self.host,
+            self.device,
+            self.event,
+            self.lpi,
+        ]
+    }
+}
+
 // ---- one table: its rows from `m` on that go are taken out, the others close up, and the places that are left are zero
 
-// The last row that a count names, where the count may be any number.
-pub fn lesser(n: usize) -> usize
-    ensures { result ≡ lesser n }
-{
-    if n <= ROWS {
-        return n;
+// A table whose rows close up where it stands.
+pub trait Rows {
+    ghost layout: { Layout Self };
+
+    fn len(&self) -> usize
+        ensures { result ≡ layout.count self.now };
+
+    fn owner(&self, k: usize) -> u32
+        requires { k < row_limit }
+        ensures { result ≡ get_or (layout.owners self.now) k 0 };
+
+    // Row k is taken out.
+    fn clear(&mut self, k: usize)
+        requires { k < row_limit }
+        ensures { self.new ≡ layout.cleared k self.old };
+
+    // Row k goes to its new place.
+    fn shift(&mut self, k: usize, to: usize)
+        requires row { k < row_limit }
+        requires place { to < row_limit }
+        ensures { self.new ≡ layout.shifted to k self.old };
+
+    fn cut(&mut self, n: usize)
+        ensures { self.new ≡ layout.counted n self.old };
+
+    ghost closes: { Closes layout };
+}
+
+impl Rows for Ranges {
+    ghost layout = { of_ranges };
+
+    ghost closes = { ranges_close };
+
+    fn len(&self) -> usize {
+        self.n
     }
-    ROWS
+
+    fn owner(&self, k: usize) -> u32 {
+        self.owner[k]
+    }
+
+    fn clear(&mut self, k: usize) {
+        set_range(self, k, RangeRow::default());
+    }
+
+    fn shift(&mut self, k: usize, to: usize) {
+        let row = self.row(k);
+        self.clear(k);
+        set_range(self, to, row);
+    }
+
+    fn cut(&mut self, n: usize) {
+        self.n = n;
+    }
+}
+
+impl Rows for Inputs {
+    ghost layout = { of_inputs };
+
+    ghost closes = { inputs_close };
+
+    fn len(&self) -> usize {
+        self.n
+    }
+
+    fn owner(&self, k: usize) -> u32 {
+        self.owner[k]
+    }
+
+    fn clear(&mut self, k: usize) {
+        set_input(self, k, InputRow::default());
+    }
+
+    fn shift(&mut self, k: usize, to: usize) {
+        let row = self.row(k);
+        self.clear(k);
+        set_input(self, to, row);
+    }
+
+    fn cut(&mut self, n: usize) {
+        self.n = n;
+    }
 }
 
 // Whether a row goes: with 0 everybody's do.
+#[tactic(auto, using(crate::proofs::CutLaws::goes_everybody, crate::proofs::CutLaws::goes_one))]
 pub fn goes(owner: u32, whose: u32) -> bool
     ensures { result ≡ goes owner whose }
 {
     whose == 0 || owner == whose
 }
 
-pub fn close_ranges(t: Ranges, m: usize, whose: u32) -> Ranges
-    ensures { result ≡ close_ranges whose m t }
+// A row in front of `m` stays, as a reservation must.
+pub fn close<T: Rows>(t: &mut T, m: usize, whose: u32)
+    ensures { t.new ≡ T.layout.closed whose m t.old }
 {
-    let end = lesser(t.n);
-    let mut next = t;
+    let end = t.len().min(ROWS);
     let mut at = m;
-    let mut k = m; // a row in front of it stays, as a reservation must
-    while k < end {
-        let controller = next.controller[k];
-        let its = next.its[k];
-        let device = next.device[k];
-        let start = next.start[k];
-        let stop = next.end[k];
-        let owner = next.owner[k];
-        next.controller[k] = 0;
-        next.its[k] = 0;
-        next.device[k] = 0;
-        next.start[k] = 0;
-        next.end[k] = 0;
-        next.owner[k] = 0;
-        if !goes(owner, whose) {
-            next.controller[at] = controller;
-            next.its[at] = its;
-            next.device[at] = device;
-            next.start[at] = start;
-            next.end[at] = stop;
-            next.owner[at] = owner;
+    for k in m..end {
+        if goes(t.owner(k), whose) {
+            t.clear(k);
+        } else {
+            t.shift(k, at);
             at += 1;
         }
-        k += 1;
     }
-    next.n = at;
-    next
-}
-
-pub fn close_inputs(t: Inputs, m: usize, whose: u32) -> Inputs
-    ensures { result ≡ close_inputs whose m t }
-{
-    let end = lesser(t.n);
-    let mut next = t;
-    let mut at = m;
-    let mut k = m;
-    while k < end {
-        let controller = next.controller[k];
-        let input = next.input[k];
-        let trigger = next.trigger[k];
-        let sharing = next.sharing[k];
-        let owner = next.owner[k];
-        next.controller[k] = 0;
-        next.input[k] = 0;
-        next.trigger[k] = 0;
-        next.sharing[k] = 0;
-        next.owner[k] = 0;
-        if !goes(owner, whose) {
-            next.controller[at] = controller;
-            next.input[at] = input;
-            next.trigger[at] = trigger;
-            next.sharing[at] = sharing;
-            next.owner[at] = owner;
-            at += 1;
-        }
-        k += 1;
-    }
-    next.n = at;
-    next
+    t.cut(at);
 }
 
 // ---- a whole state
 
-// What is read of a state: no table is copied.
+// What is read of a state, with the counts of its reservation tables or of its owner tables: no table is copied.
+fn read(h: &Holders, s: &State) -> Marks
+    ensures { result ≡ marks_by h.now s.now }
+{
+    Marks {
+        mmio: h.mmio.n,
+        pio: h.pio.n,
+        input: h.input.n,
+        host: h.host.n,
+        device: h.device.n,
+        event: h.event.n,
+        lpi: h.lpi.n,
+        number: s.number,
+        index: s.index,
+        namespace: s.namespace,
+        owner: s.owner,
+        detail: s.detail,
+    }
+}
+
+// .. the owner tables'.
 pub fn peek(s: &State) -> Marks
     ensures { result ≡ marks_of s.now }
 {
-    let mmio = s.owners.mmio.n;
-    let pio = s.owners.pio.n;
-    let input = s.owners.input.n;
-    let host = s.owners.host.n;
-    let device = s.owners.device.n;
-    let event = s.owners.event.n;
-    let lpi = s.owners.lpi.n;
-    let number = s.number;
-    let index = s.index;
-    let namespace = s.namespace;
-    let owner = s.owner;
-    let detail = s.detail;
-    Marks {
-        mmio,
-        pio,
-        input,
-        host,
-        device,
-        event,
-        lpi,
-        number,
-        index,
-        namespace,
-        owner,
-        detail,
-    }
+    read(&s.owners, s)
 }
 
-// What is read of a state whose counts are those of the reservation tables: from there on the owner tables have what was granted.
+// .. the reservation tables': from there on the owner tables have what was granted.
 pub fn reserved(s: &State) -> Marks
     ensures { result ≡ reserved_of s.now }
 {
-    let mmio = s.held.mmio.n;
-    let pio = s.held.pio.n;
-    let input = s.held.input.n;
-    let host = s.held.host.n;
-    let device = s.held.device.n;
-    let event = s.held.event.n;
-    let lpi = s.held.lpi.n;
-    let number = s.number;
-    let index = s.index;
-    let namespace = s.namespace;
-    let owner = s.owner;
-    let detail = s.detail;
-    Marks {
-        mmio,
-        pio,
-        input,
-        host,
-        device,
-        event,
-        lpi,
-        number,
-        index,
-        namespace,
-        owner,
-        detail,
-    }
+    read(&s.held, s)
 }
 
-// Of the rows behind the marks one owner's are taken out of the owner tables, or with 0 all: each table goes out by value, closes up, and is stored back.
+// Of the rows behind the marks one owner's are taken out of the owner tables, or with 0 all: each table closes up where it stands.
 pub fn take_out(s: &mut State, marks: Marks, whose: u32)
     ensures { s.new ≡ taken_out marks whose s.old }
 {
-    s.owners.mmio = close_ranges(s.owners.mmio, marks.mmio, whose);
-    s.owners.pio = close_ranges(s.owners.pio, marks.pio, whose);
-    s.owners.input = close_inputs(s.owners.input, marks.input, whose);
-    s.owners.host = close_ranges(s.owners.host, marks.host, whose);
-    s.owners.device = close_ranges(s.owners.device, marks.device, whose);
-    s.owners.event = close_ranges(s.owners.event, marks.event, whose);
-    s.owners.lpi = close_ranges(s.owners.lpi, marks.lpi, whose);
+    close(&mut s.owners.mmio, marks.mmio, whose);
+    close(&mut s.owners.pio, marks.pio, whose);
+    close(&mut s.owners.input, marks.input, whose);
+    close(&mut s.owners.host, marks.host, whose);
+    close(&mut s.owners.device, marks.device, whose);
+    close(&mut s.owners.event, marks.event, whose);
+    close(&mut s.owners.lpi, marks.lpi, whose);
 }

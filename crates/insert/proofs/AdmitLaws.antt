@@ -7,9 +7,8 @@ use Rattle.definition.specs.Base.{all_of, Answer, accepted, bad_input, empty_ran
 use Rattle.definition.proofs.BaseLaws.{T_true, and_true}
 use Rattle.definition.specs.Tables.{Kind, nature, Span, fits_span, floored}
 use Rattle.definition.specs.Pools.{In, has_place, admit}
-use Rattle.insert.specs.Answers.{telling, heard, admit_any, comes_before, earlier_of}
-use Rattle.insert.specs.declared.Reply.{Reply}
-use Rattle.insert.proofs.TellLaws.{tell_required, reply, replies}
+use Rattle.insert.specs.Answers.{Reply, telling, heard, admit_any, comes_before, earlier_of}
+use Rattle.insert.proofs.TellLaws.{tell_required, sooner, heard_earlier}
 
 -- the turns of one range, and of others beside it
 unfoldable one : Bool → Bool → Bool → Answer (Unit {0})
@@ -18,8 +17,8 @@ one l h r = require l empty_range (require h bad_lpi (require r full (accepted t
 unfoldable more : List (In Span) → Bool → Bool → Bool → Bool → Answer (List (In Span))
 more cs f l h r = require f bad_input (require l empty_range (require h bad_lpi (require r full (accepted cs))))
 
-turns : (cs ds : List (In Span)) (l h r f' l' h' r' : Bool) → heard (earlier_of (reply (one l h r)) (reply (more ds f' l' h' r'))) ≡ telling (more cs f' (l && l') (h && h') (r && r'))
-unfolding one more require earlier_of comes_before
+turns : (cs ds : List (In Span)) (l h r f' l' h' r' : Bool) → sooner (telling (one l h r)) (telling (more ds f' l' h' r')) ≡ telling (more cs f' (l && l') (h && h') (r && r'))
+unfolding one more require sooner comes_before
 turns cs ds false h r false l' h' r' = refl
 turns cs ds false h r true false h' r' = refl
 turns cs ds false h r true true false r' = refl
@@ -50,6 +49,6 @@ module _ (P : Kind → List Span) (c : In Span) (ok : T (fits_span c.kind c.row)
   pub admit_more : (cs : List (In Span)) (b : Reply) → heard b ≡ telling (admit P cs) → heard (earlier_of a b) ≡ telling (admit P (c ∷ cs))
   unfolding admit_any admit all_of floored one more
   admit_more cs b h =
-      (λ i. heard (earlier_of (replies a (admit_any (nature c.kind).floor c.row (P c.kind)) e i) (replies b (admit P cs) h i)))
+      heard_earlier a b ∙ (λ i. sooner (e i) (h i))
       ∙ rw (T_true (fits_span c.kind c.row) ok) (turns (c ∷ cs) cs (ltb c.row.start c.row.end) (leb (nature c.kind).floor c.row.start) (has_place c.row (P c.kind))
       (all_of (λ c. fits_span c.kind c.row) cs) (all_of (λ c. ltb c.row.start c.row.end) cs) (all_of (λ c. floored c.kind c.row.start) cs) (all_of (λ c. has_place c.row (P c.kind)) cs))

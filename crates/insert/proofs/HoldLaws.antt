@@ -13,11 +13,12 @@ use Rattle.definition.specs.Pools.{room, unreserved, all_unreserved, reserve}
 use Rattle.definition.proofs.BaseLaws.{and_l, and_r, and_true, and_false, T_true, T_false, true_T}
 use Rattle.definition.proofs.TableLaws.{used_length}
 use Rattle.tables.specs.Below.{first}
-use Rattle.tables.specs.declared.Hit.TheVariants.{At, Clear}
+use Rattle.std.specs.Prelude.{Some, None, Ok, Err}
 use Rattle.tables.proofs.ListedLaws.{listed_length}
 use Rattle.tables.proofs.TableLaws.{table}
-use Rattle.insert.specs.Answers.{telling, heard, fault_of, reserve_any, Told}
-use Rattle.insert.specs.declared.Reply.{Reply}
+use Rattle.insert.specs.Answers.{Reply, telling, heard, fault_of, reserve_any, Told}
+use Rattle.insert.specs.declared.Refused.{Refused}
+use Rattle.insert.specs.declared.Refused.TheVariants as R
 use Rattle.insert.proofs.FirstLaws.{used_hit, used_clear}
 use Rattle.insert.proofs.TellLaws.{tell_required, tell_unreserved, fault_told, fault_none}
 
@@ -40,7 +41,7 @@ module _ (floor : ℕ) (r : Row) (f : ℕ → Row) (n : ℕ) (few : n ≤ row_li
   count : length rows ≡ n
   count = used_length (table row_limit f n) (omega (arith, listed_length f row_limit))
 
-  pub tell_owner : r.owner ≡ 0 → Tells (record { number = 3; owner = 0 })
+  pub tell_owner : r.owner ≡ 0 → Tells (Err R.BadOwner)
   unfolding reserve_any require
   tell_owner e = rw e
 
@@ -49,23 +50,23 @@ module _ (floor : ℕ) (r : Row) (f : ℕ → Row) (n : ℕ) (few : n ≤ row_li
     unfolding reserve_any require
     owned = rw (lt-ltb 0 r.owner (omega arith))
 
-    pub tell_fault : (fault_of r.start r.end floor ≡ 0 → ⊥) → Tells (record { number = fault_of r.start r.end floor; owner = 0 })
-    tell_fault z = fault_told r.start r.end floor rest z ∙ ap telling (sym owned)
+    pub tell_fault : (y : Refused) → fault_of r.start r.end floor ≡ Err y → Tells (Err y)
+    tell_fault y z = fault_told r.start r.end floor rest y z ∙ ap telling (sym owned)
 
-    module _ (fine : fault_of r.start r.end floor ≡ 0) where
+    module _ (fine : fault_of r.start r.end floor ≡ Ok tt) where
       told : telling rest ≡ telling (reserve_any floor r rows)
       told = ap telling (sym (fault_none r.start r.end floor rest fine) ∙ sym owned)
 
-      pub tell_met : (i : ℕ) → At i ≡ first (λ j. meets r (f j)) n → Tells (record { number = 5; owner = (f i).owner })
+      pub tell_met : (i : ℕ) → Some i ≡ first (λ j. meets r (f j)) n → Tells (Err (R.Overlaps (f i).owner))
       unfolding unreserved
       tell_met i e = sym (rw (used_hit (meets r) row_limit f n few i e)) ∙ told
 
-      module _ (free : Clear ≡ first (λ j. meets r (f j)) n) where
-        pub tell_full : row_limit ≤ n → Tells (record { number = 9; owner = 0 })
+      module _ (free : None ≡ first (λ j. meets r (f j)) n) where
+        pub tell_full : row_limit ≤ n → Tells (Err R.Full)
         unfolding require unreserved
         tell_full l = sym (rw (used_clear (meets r) row_limit f n few free, le-ltb (length rows) row_limit (omega (arith, count)))) ∙ told
 
-        pub tell_taken : n < row_limit → Tells (record { number = 0; owner = 0 })
+        pub tell_taken : n < row_limit → Tells (Ok tt)
         unfolding require unreserved
         tell_taken l = sym (rw (used_clear (meets r) row_limit f n few free, lt-ltb (length rows) row_limit (omega (arith, count)))) ∙ told
 
@@ -81,7 +82,7 @@ module _ (k : Kind) (r : Row) (t : Table Row) (ok : T (fits k r)) where
 
 -- ---- inputs
 
-pub tell_input : (r : Row) (t : Table Row) → fits input r ≡ false → Told input r t (record { number = 2; owner = 0 })
+pub tell_input : (r : Row) (t : Table Row) → fits input r ≡ false → Told input r t (Err R.BadInput)
 unfolding reserve require all_of
 tell_input r t e = record { said = rw e }
 

@@ -42,18 +42,20 @@ module _ (n : ℕ) (t : Pool) (i : ℕ) (r : PoolRow) where
 -- ---- the loop: m is t with its used rows from i on one row up, and row i still there
 
 pub record Shifting (t m : Pool) (i : ℕ) : Type 0 where
+  pub count : m.n ≡ t.n
   pub sized : SizedPool m
   pub low : (k : ℕ) → k ≤ i → pool_at m k ≡ pool_at t k
   pub moved : (k : ℕ) → i ≤ k → k < t.n → pool_at m (k + 1) ≡ pool_at t k
   pub high : (k : ℕ) → t.n < k → pool_at m k ≡ pool_at t k
 
 pub shift_start : (t : Pool) → SizedPool t → Shifting t t t.n
-shift_start t z = record { sized = z; low = λ k h. refl; moved = λ k h l. absurd (omega arith); high = λ k h. refl }
+shift_start t z = record { count = refl; sized = z; low = λ k h. refl; moved = λ k h l. absurd (omega arith); high = λ k h. refl }
 
 module _ (t m : Pool) (i : ℕ) (s : Shifting t m i) (used : i ≤ t.n) (room : t.n < pool_limit) where
   pub shift_step : 0 < i → Shifting t (store_row m.n m i (pool_at m (i - 1))) (i - 1)
   shift_step p =
       record {
+        count = s.count;
         sized = store_sized m.n m i (pool_at m (i - 1)) s.sized;
         low = λ k h. store_other m.n m i (pool_at m (i - 1)) k (omega arith) ∙ s.low k (omega arith);
         moved =
@@ -70,12 +72,12 @@ module _ (t m : Pool) (i : ℕ) (s : Shifting t m i) (used : i ≤ t.n) (room : 
         high = λ k h. store_other m.n m i (pool_at m (i - 1)) k (omega arith) ∙ s.high k h;
       }
 
-  pub shift_done : (r : PoolRow) → Opened t (store_row (t.n + 1) m i r) i r
+  pub shift_done : (r : PoolRow) → Opened t (store_row (m.n + 1) m i r) i r
   shift_done r =
       record {
-        count = refl;
-        low = λ k h. store_other (t.n + 1) m i r k (omega arith) ∙ s.low k (omega arith);
-        here = store_same (t.n + 1) m i r s.sized (omega arith);
-        moved = λ k h l. store_other (t.n + 1) m i r (k + 1) (omega arith) ∙ s.moved k h l;
-        high = λ k h. store_other (t.n + 1) m i r k (omega arith) ∙ s.high k h;
+        count = ap (λ n. n + 1) s.count;
+        low = λ k h. store_other (m.n + 1) m i r k (omega arith) ∙ s.low k (omega arith);
+        here = store_same (m.n + 1) m i r s.sized (omega arith);
+        moved = λ k h l. store_other (m.n + 1) m i r (k + 1) (omega arith) ∙ s.moved k h l;
+        high = λ k h. store_other (m.n + 1) m i r k (omega arith) ∙ s.high k h;
       }

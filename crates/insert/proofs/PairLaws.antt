@@ -1,17 +1,16 @@
 -- Two reservations at once: the answer is the earlier of the two, as the definition has it. Assumes nothing.
-use mathlib.Core.Path.{◌≡◌, refl, ◌∙◌}
-use mathlib.Core.Bool.{Bool, true, false, ◌&&◌}
+use mathlib.Core.Path.{◌≡◌, refl, sym, ◌∙◌}
+use mathlib.Core.Bool.{Bool, true, false, ◌&&◌, true≢false}
 use mathlib.Core.List.{List, [], ◌∷◌}
 use mathlib.Core.Option.{Option, some, none}
-use lib.Dec.{eqb, ltb, leb-zero}
+use lib.Dec.{ltb, leb-zero}
 use lib.ListN.{length}
-use borrow.Author.Tests.{eqb-true, eqb-false}
+use Rattle.std.specs.Prelude.{Ok, Err, is_ok}
 use Rattle.definition.specs.Base.{all_of, first_of, Answer, accepted, bad_input, bad_owner, empty_range, full, require}
 use Rattle.definition.specs.Tables.{row_limit, Kind, nature, Row, meets, fits, floored}
 use Rattle.definition.specs.Pools.{at_kind, Holders, Claim, room, unreserved, all_unreserved, reserve}
-use Rattle.insert.specs.Answers.{telling, heard, reserve_one, pick, comes_before, earlier_of}
-use Rattle.insert.specs.declared.Reply.{Reply}
-use Rattle.insert.proofs.TellLaws.{reply, replies}
+use Rattle.insert.specs.Answers.{Reply, number_of, telling, heard, reserve_one, pick, comes_before, earlier_of}
+use Rattle.insert.proofs.TellLaws.{sooner, heard_earlier}
 
 -- the turns of one row, and of two
 unfoldable one : List Claim → Bool → Bool → Bool → Option Row → Bool → Answer (List Claim)
@@ -24,8 +23,8 @@ two cs f o g m r f' o' g' m' r' =
     (unreserved m (unreserved m' (require (r && (r' && true)) full (accepted cs))))))
 
 turns : (cs ds es : List Claim) (f o g : Bool) (m : Option Row) (r f' o' g' : Bool) (m' : Option Row) (r' : Bool)
-    → heard (earlier_of (reply (one ds f o g m r)) (reply (one es f' o' g' m' r'))) ≡ telling (two cs f o g m r f' o' g' m' r')
-unfolding one two require unreserved earlier_of comes_before
+    → sooner (telling (one ds f o g m r)) (telling (one es f' o' g' m' r')) ≡ telling (two cs f o g m r f' o' g' m' r')
+unfolding one two require unreserved sooner comes_before
 turns cs ds es false o g m r false o' g' m' r' = refl
 turns cs ds es false o g m r true false g' m' r' = refl
 turns cs ds es false o g m r true true false m' r' = refl
@@ -69,18 +68,18 @@ module _ (R : Holders) (j k : Kind) (p q : Row) (j-low : (nature j).floor ≡ 0)
       → heard (earlier_of a b) ≡ telling (reserve R (at_kind j p ∷ at_kind k q ∷ []))
   unfolding reserve all_of all_unreserved room one two floored require
   pair_told a b e h =
-      (λ i. heard (earlier_of (replies a (reserve_one j p (R j)) e i) (replies b (reserve_one k q (R k)) h i)))
+      heard_earlier a b ∙ (λ i. sooner (e i) (h i))
       ∙ rw (j-low, k-low, leb-zero p.start, leb-zero q.start) (turns (at_kind j p ∷ at_kind k q ∷ []) (at_kind j p ∷ []) (at_kind k q ∷ [])
       (fits j p) (ltb 0 p.owner) (ltb p.start p.end) (first_of (meets p) (R j)) (ltb (length (R j)) row_limit)
       (fits k q) (ltb 0 q.owner) (ltb q.start q.end) (first_of (meets q) (R k)) (ltb (length (R k)) row_limit))
 
 -- neither is refused just when the earlier is not
-pub earlier_zero : (a b : Reply) → (earlier_of a b).number ≡ 0 → (a.number ≡ 0) × (b.number ≡ 0)
+pub earlier_ok : (a b : Reply) → is_ok (earlier_of a b) ≡ true → (is_ok a ≡ true) × (is_ok b ≡ true)
 unfolding earlier_of
-earlier_zero a b e = go (eqb a.number 0) refl (eqb b.number 0) refl (comes_before b.number a.number) e
+earlier_ok (Ok u) b e = (refl, e)
+earlier_ok (Err x) (Ok u) e = absurd (true≢false (sym e))
+earlier_ok (Err x) (Err y) e = absurd (go (comes_before (number_of y) (number_of x)) e)
   where
-    go : (x : Bool) → eqb a.number 0 ≡ x → (y : Bool) → eqb b.number 0 ≡ y → (z : Bool) → (pick x b (pick y a (pick z b a))).number ≡ 0 → (a.number ≡ 0) × (b.number ≡ 0)
-    go true p y q z h = (eqb-true a.number 0 p, h)
-    go false p true q z h = absurd (eqb-false a.number 0 p h)
-    go false p false q true h = absurd (eqb-false b.number 0 q h)
-    go false p false q false h = absurd (eqb-false a.number 0 p h)
+    go : (b : Bool) → is_ok {T = Unit {0}} (pick b (Err y) (Err x)) ≡ true → ⊥
+    go true e = true≢false (sym e)
+    go false e = true≢false (sym e)

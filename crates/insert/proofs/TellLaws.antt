@@ -1,16 +1,18 @@
 -- What is told of an answer does not tell what was accepted; what is told of a range by itself. Assumes nothing.
-use mathlib.Core.Path.{◌≡◌, refl}
-use mathlib.Core.Bool.{Bool, true, false}
+use mathlib.Core.Path.{◌≡◌, refl, sym, ap}
+use mathlib.Core.Bool.{Bool, true, false, true≢false}
 use mathlib.Core.Option.{Option, some, none}
 use Prim.Native.Nat.{ℕ, suc}
 use native.Mathlib.Omega.{arith}
-use lib.Dec.{leb, ltb, leb-zero}
+use lib.Dec.{eqb, leb, ltb, leb-zero}
+use Rattle.std.specs.Prelude.{Ok, Err, is_ok}
 use borrow.Author.Tests.{lt-ltb}
-use Rattle.definition.specs.Base.{Refusal, says, empty_range, bad_lpi, Answer, require}
+use Rattle.definition.specs.Base.{Refusal, Said, tell, empty_range, bad_lpi, Answer, require}
 use Rattle.definition.specs.Tables.{Row}
 use Rattle.definition.specs.Pools.{unreserved}
-use Rattle.insert.specs.Answers.{pick, telling, heard, fault_of}
-use Rattle.insert.specs.declared.Reply.{Reply}
+use Rattle.insert.specs.Answers.{Reply, refusal_of, number_of, pick, telling, heard, fault_of, comes_before, earlier_of}
+use Rattle.insert.specs.declared.Refused.{Refused}
+use Rattle.insert.specs.declared.Refused.TheVariants as R
 
 module _ {A B : Type 0} (a : Answer A) (b : Answer B) (e : telling a ≡ telling b) where
   pub tell_required : (t : Bool) (x : Refusal) → telling (require t x a) ≡ telling (require t x b)
@@ -23,38 +25,57 @@ module _ {A B : Type 0} (a : Answer A) (b : Answer B) (e : telling a ≡ telling
   tell_unreserved none = e
   tell_unreserved (some r) = refl
 
--- an answer as a reply
-abbrev pub reply : {A : Type 0} → Answer A → Reply
-reply a = record { number = (telling a).number; owner = (telling a).owner }
+-- ---- two answers, over what is told of them
 
-pub replies : {A : Type 0} (a : Reply) (x : Answer A) → heard a ≡ telling x → a ≡ reply x
-replies a x e = λ i. record { number = (e i).number; owner = (e i).owner }
+unfoldable pub sooner : Said → Said → Said
+sooner x y = pick (eqb x.number 0) y (pick (eqb y.number 0) x (pick (comes_before y.number x.number) y x))
+
+numbered : (y : Refused) → eqb (number_of y) 0 ≡ false
+numbered R.Malformed = refl
+numbered R.BadInput = refl
+numbered R.BadOwner = refl
+numbered R.EmptyRange = refl
+numbered (R.Overlaps o) = refl
+numbered R.Full = refl
+numbered R.Short = refl
+numbered R.BadLpi = refl
+numbered R.NotFound = refl
+
+pub heard_earlier : (a b : Reply) → heard (earlier_of a b) ≡ sooner (heard a) (heard b)
+unfolding earlier_of sooner
+heard_earlier (Ok u) b = refl
+heard_earlier (Err x) (Ok u) = rw (numbered x) refl
+heard_earlier (Err x) (Err y) = rw (numbered x, numbered y) (go (comes_before (number_of y) (number_of x)))
+  where
+    go : (b : Bool) → heard (pick b (Err y) (Err x)) ≡ pick b (tell 0 (refusal_of y)) (tell 0 (refusal_of x))
+    go true = refl
+    go false = refl
 
 -- ---- a range by itself
 
-abbrev by : Bool → Bool → ℕ
-by l h = pick l (pick h 0 12) 4
+abbrev by : Bool → Bool → Reply
+by l h = pick l (pick h (Ok tt) (Err R.BadLpi)) (Err R.EmptyRange)
 
 module _ {A : Type 0} (s e floor : ℕ) (a : Answer A) where
-  pub fault_told : (fault_of s e floor ≡ 0 → ⊥) → says 0 (fault_of s e floor) 0 0 0 ≡ telling (require (ltb s e) empty_range (require (leb floor s) bad_lpi a))
+  pub fault_told : (y : Refused) → fault_of s e floor ≡ Err y → heard (Err y) ≡ telling (require (ltb s e) empty_range (require (leb floor s) bad_lpi a))
   unfolding fault_of require
-  fault_told n = go (ltb s e) (leb floor s) n
+  fault_told y n = go (ltb s e) (leb floor s) n
     where
-      go : (l h : Bool) → (by l h ≡ 0 → ⊥) → says 0 (by l h) 0 0 0 ≡ telling (require l empty_range (require h bad_lpi a))
-      go false h n = refl
-      go true false n = refl
-      go true true n = absurd (n refl)
+      go : (l h : Bool) → by l h ≡ Err y → heard (Err y) ≡ telling (require l empty_range (require h bad_lpi a))
+      go false h n = ap heard (sym n)
+      go true false n = ap heard (sym n)
+      go true true n = absurd (true≢false (ap is_ok n))
 
-  pub fault_none : fault_of s e floor ≡ 0 → require (ltb s e) empty_range (require (leb floor s) bad_lpi a) ≡ a
+  pub fault_none : fault_of s e floor ≡ Ok tt → require (ltb s e) empty_range (require (leb floor s) bad_lpi a) ≡ a
   unfolding fault_of require
   fault_none z = go (ltb s e) (leb floor s) z
     where
-      go : (l h : Bool) → by l h ≡ 0 → require l empty_range (require h bad_lpi a) ≡ a
-      go false h z = absurd (omega arith)
-      go true false z = absurd (omega arith)
+      go : (l h : Bool) → by l h ≡ Ok tt → require l empty_range (require h bad_lpi a) ≡ a
+      go false h z = absurd (true≢false (ap is_ok (sym z)))
+      go true false z = absurd (true≢false (ap is_ok (sym z)))
       go true true z = refl
 
 -- one number that may be any
-pub fault_one : (n : ℕ) → fault_of n (suc n) 0 ≡ 0
+pub fault_one : (n : ℕ) → fault_of n (suc n) 0 ≡ Ok tt
 unfolding fault_of
 fault_one n = rw (lt-ltb n (suc n) (omega arith), leb-zero n)

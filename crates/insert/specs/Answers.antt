@@ -1,10 +1,11 @@
 -- What the calls on one table hand back, in the definition's words. Assumes nothing.
-use Rattle.std.specs.Prelude.{◌≡◌, Bool, true, false, List, [], ◌∷◌, ℕ, eqb, leb, ltb, length}
+use Rattle.std.specs.Prelude.{◌≡◌, Bool, true, false, List, [], ◌∷◌, ℕ, eqb, leb, ltb, length, Result, Ok, Err}
 use Rattle.definition.specs.Tables.{row_limit, Kind, Span, Row, meets, Table, used}
-use Rattle.definition.specs.Base.{first_of, Said, says, silence, tell, bad_owner, empty_range, full, bad_lpi, Answer, accepted, refused, require}
+use Rattle.definition.specs.Base.{first_of, Said, silence, tell, Refusal, malformed, bad_input, bad_owner, empty_range, reserved, full, short, bad_lpi, not_found, Answer, accepted, refused, require}
 use Rattle.definition.specs.Pools.{at_kind, entered, has_place, Claim, unreserved, reserve}
 use Rattle.definition.specs.Calls.{stored}
-use Rattle.insert.specs.declared.Reply.{Reply}
+use Rattle.insert.specs.declared.Refused.{Refused}
+use Rattle.insert.specs.declared.Refused.TheVariants as R
 
 abbrev pub pick : {A : Type 0} → Bool → A → A → A  -- one of two
 pick true x y = x
@@ -15,17 +16,36 @@ abbrev pub telling : {A : Type 0} → Answer A → Said
 telling (accepted given) = silence
 telling (refused y) = tell 0 y
 
--- .. and of a reply
+-- what code answers, and the definition's refusal that it names
+abbrev pub Reply : Type 0
+Reply = Result (Unit {0}) Refused
+
+abbrev pub refusal_of : Refused → Refusal
+refusal_of R.Malformed = malformed
+refusal_of R.BadInput = bad_input
+refusal_of R.BadOwner = bad_owner
+refusal_of R.EmptyRange = empty_range
+refusal_of (R.Overlaps owner) = reserved owner
+refusal_of R.Full = full
+refusal_of R.Short = short
+refusal_of R.BadLpi = bad_lpi
+refusal_of R.NotFound = not_found
+
+abbrev pub number_of : Refused → ℕ
+number_of y = (tell 0 (refusal_of y)).number
+
+-- .. and the five numbers of that
 abbrev pub heard : Reply → Said
-heard a = says 0 a.number 0 a.owner 0
+heard (Ok given) = silence
+heard (Err y) = tell 0 (refusal_of y)
 
 -- a pool table with the range among its rows, where there is a place for it
 abbrev pub entered_or : Span → Table Span → Table Span
 entered_or p t = pick (has_place p (used t)) (stored (entered p (used t))) t
 
 -- what a range answers by itself
-unfoldable pub fault_of : ℕ → ℕ → ℕ → ℕ
-fault_of s e floor = pick (ltb s e) (pick (leb floor s) 0 12) 4
+unfoldable pub fault_of : ℕ → ℕ → ℕ → Reply
+fault_of s e floor = pick (ltb s e) (pick (leb floor s) (Ok tt) (Err R.BadLpi)) (Err R.EmptyRange)
 
 -- what adding a range answers whatever its kind: a kind limits its numbers, says where they start, and decides nothing else
 unfoldable pub admit_any : ℕ → Span → List Span → Answer (Unit {0})
@@ -61,4 +81,6 @@ comes_before m n = pick (eqb n 12) (leb m 4) (pick (eqb m 12) (ltb 4 n) (ltb m n
 
 -- the one whose turn comes first, and a where the two have one number
 unfoldable pub earlier_of : Reply → Reply → Reply
-earlier_of a b = pick (eqb a.number 0) b (pick (eqb b.number 0) a (pick (comes_before b.number a.number) b a))
+earlier_of (Ok given) b = b
+earlier_of (Err x) (Ok given) = Err x
+earlier_of (Err x) (Err y) = pick (comes_before (number_of y) (number_of x)) (Err y) (Err x)

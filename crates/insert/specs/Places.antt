@@ -1,9 +1,8 @@
 -- Where a new pool row goes, and a pool table with a row more in its midst. Assumes nothing.
-use Rattle.std.specs.Prelude.{◌≡◌, Bool, true, false, ◌&&◌, ℕ, ◌+◌, ◌<◌, ◌≤◌, ltb}
-use Rattle.definition.specs.Tables.{Span, same_dom, same_span}
+use Rattle.std.specs.Prelude.{◌≡◌, Bool, ◌&&◌, ℕ, ◌+◌, ◌<◌, ◌≤◌, ltb, Option}
+use Rattle.std.specs.Option.{unwrap_or}
+use Rattle.definition.specs.Tables.{Span, same_dom}
 use Rattle.tables.specs.Views.{pool_at}
-use Rattle.tables.specs.declared.Hit.{Hit}
-use Rattle.tables.specs.declared.Hit.TheVariants.{At, Clear}
 use Rattle.tables.specs.declared.Pool.{Pool}
 use Rattle.tables.specs.declared.PoolRow.{PoolRow}
 
@@ -11,14 +10,8 @@ use Rattle.tables.specs.declared.PoolRow.{PoolRow}
 unfoldable pub before : Span → Span → Bool
 before p x = same_dom p.dom x.dom && ltb p.start x.start
 
--- the exact duplicate, or the row that p goes before
-abbrev pub stops : Bool → Span → Span → Bool
-stops true p x = same_span p x
-stops false p x = before p x
-
-abbrev pub place_of : Hit → ℕ → ℕ
-place_of (At k) n = k
-place_of Clear n = n
+abbrev pub place_of : Option ℕ → ℕ → ℕ
+place_of h n = unwrap_or h n
 
 -- u is t with r at row `at`, each used row from there on one row up, and the other unused rows as they were
 pub record Opened (t u : Pool) (at : ℕ) (r : PoolRow) : Type 0 where

@@ -1,12 +1,13 @@
 // Reservations of controller inputs, one table. After src/resources/pool/wired.rs of axdevice 0.8.5, Apache-2.0, see NOTICE; changed.
-ghost use Rattle.std.specs.Prelude.{◌≡◌, ◌≤◌, ◌<◌};
+ghost use Rattle.std.specs.Prelude.{◌≡◌, ◌≤◌, ◌<◌, IfOk};
 ghost use Rattle.definition.specs.Tables.{row_limit, input as wired, meets};
 ghost use Rattle.tables.specs.Below.{first};
-ghost use Rattle.tables.specs.Views.{inputs, input_of, input_at, inputs_view};
+ghost use Rattle.tables.specs.Views.{input_of, input_at, inputs_view};
+ghost use Rattle.tables.specs.Sized.{SizedInputs};
 ghost use Rattle.insert.specs.Answers.{Told};
 
-use super::{Reply, wide};
-use tables::{Hit, InputRow, ROWS};
+use super::{Refused, Reply};
+use tables::{InputRow, Inputs, ROWS};
 
 const LAST_TRIGGER: u32 = 3;
 
@@ -17,88 +18,35 @@ const SHARED: u32 = 1;
 pub fn same_input(a: InputRow, b: InputRow) -> bool
     ensures { result ≡ meets (input_of a) (input_of b) }
 {
-    if a.input != b.input {
-        return false;
-    }
-    a.controller == b.controller
+    a.input == b.input && a.controller == b.controller
 }
 
-// The first of `n` rows, in table order, on the input of `r`.
-#[tactic(auto, using(tables::proofs::BelowLaws::first_start, tables::proofs::BelowLaws::first_more))]
-pub fn first_input<'a>(
-    n: usize,
-    controller: &'a [u32; ROWS],
-    input: &'a [u64; ROWS],
-    trigger: &'a [u32; ROWS],
-    sharing: &'a [u32; ROWS],
-    owner: &'a [u32; ROWS],
-    r: InputRow,
-) -> Hit
-    requires { n ≤ row_limit }
-    ensures { result ≡ first (λ k. meets (input_of r) (input_of (input_at (inputs n controller.now input.now trigger.now sharing.now owner.now) k))) n }
+// The first used row, in table order, on the input of `r`.
+pub fn first_input(t: &Inputs, r: InputRow) -> Option<usize>
+    requires { t.now.n ≤ row_limit }
+    ensures { result ≡ first (λ k. meets (input_of r) (input_of (input_at t.now k))) t.now.n }
 {
-    let mut k: usize = 0;
-    while k < n {
-        if same_input(
-            r,
-            tables::input_at(k, controller, input, trigger, sharing, owner),
-        ) {
-            return Hit::At(k);
-        }
-        k += 1;
-    }
-    Hit::Clear
+    (0..t.n).find(|&k| same_input(r, t.row(k)))
 }
 
-// What a reservation of `r` beside the first `n` rows answers: 2 for an unknown code, 3, 5 with the owner of the input's row, 9.
+// What a reservation of `r` answers: a code is unknown, nobody owns it, the input has a row, or none is free. (Not one function with the ranges': other codes, and an order of its own.)
 #[tactic(auto, using(crate::proofs::FirstLaws::hit_below))]
-pub fn refuse_input<'a>(
-    n: usize,
-    controller: &'a [u32; ROWS],
-    input: &'a [u64; ROWS],
-    trigger: &'a [u32; ROWS],
-    sharing: &'a [u32; ROWS],
-    owner: &'a [u32; ROWS],
-    r: InputRow,
-) -> Reply
-    requires { n ≤ row_limit }
-    ensures told { Told wired (input_of r) (inputs_view (inputs n controller.now input.now trigger.now sharing.now owner.now)) result }
-    ensures room { result.number ≡ 0 → n < row_limit }
+pub fn refuse_input(t: &Inputs, r: InputRow) -> Reply
+    requires { t.now.n ≤ row_limit }
+    ensures told { Told wired (input_of r) (inputs_view t.now) result }
+    ensures room { IfOk result (λ _. SizedInputs t.now × (t.now.n < row_limit)) }
 {
-    if LAST_TRIGGER < r.trigger {
-        return Reply {
-            number: 2,
-            owner: 0,
-        };
-    }
-    if SHARED < r.sharing {
-        return Reply {
-            number: 2,
-            owner: 0,
-        };
+    if LAST_TRIGGER < r.trigger || SHARED < r.sharing {
+        return Err(Refused::BadInput);
     }
     if r.owner == 0 {
-        return Reply {
-            number: 3,
-            owner: 0,
-        };
+        return Err(Refused::BadOwner);
     }
-    let hit = first_input(n, controller, input, trigger, sharing, owner, r);
-    if let Hit::At(k) = hit {
-        let named = owner[k];
-        return Reply {
-            number: 5,
-            owner: wide(named),
-        };
+    if let Some(k) = first_input(t, r) {
+        return Err(Refused::Overlaps(t.owner[k]));
     }
-    if ROWS <= n {
-        return Reply {
-            number: 9,
-            owner: 0,
-        };
+    if ROWS <= t.n {
+        return Err(Refused::Full);
     }
-    Reply {
-        number: 0,
-        owner: 0,
-    }
+    Ok(())
 }

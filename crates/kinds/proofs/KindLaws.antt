@@ -14,12 +14,11 @@ use Rattle.definition.specs.Request.{automatic, fixed, one, claims, good_request
 use Rattle.definition.specs.Request as R
 use Rattle.definition.specs.Calls.{State, state, push_all, pools_of, owners_of, sound, sound_at, granting, settle, want, serve}
 use Rattle.choose.specs.Told.{told, chosen_in}
-use Rattle.choose.specs.declared.Chosen.{Chosen}
-use Rattle.choose.specs.declared.Chosen.TheVariants.{Stands, Refused}
-use Rattle.kinds.specs.Grants.{row_got}
+use Rattle.std.specs.Prelude.{Ok, Err}
+use Rattle.kinds.specs.Got.{row_got}
 use Rattle.decide.specs.Outcome.{after}
 use Rattle.decide.proofs.AnswerLaws.{claim_of, one_claimed}
-use Rattle.kinds.specs.Kinds.{only_at, tables_at, answer_of, asked, said_by, rows_said}
+use Rattle.kinds.specs.Kinds.{Chosen, only_at, tables_at, answer_of, asked, said_by, rows_said}
 
 pub only_same : {A : Type 0} (k : Kind) (a b : A) → only_at k k a b ≡ a
 only_same k a b = rw (eq-eqb (nature k).number (nature k).number refl, only_at)
@@ -51,8 +50,8 @@ module _ (v : State) (q s : ℕ) (w : R.Want) (n : R.Need) (c : R.Choice) (cl : 
       ∙ ap (require (sound (n.kind ∷ []) v) malformed) sensible
 
 pub rows_said_is : (k : Kind) (n : R.Need) (c : Chosen) (a : Answer (List Claim)) → claim_of k (told n c) ≡ a → rows_said a c
-rows_said_is k n (Stands b e) a h = subst (λ (x : Answer (List Claim)). rows_said x (Stands b e)) h refl
-rows_said_is k n (Refused y) a h = subst (λ (x : Answer (List Claim)). rows_said x (Refused y)) h refl
+rows_said_is k n (Ok run) a h = subst (λ (x : Answer (List Claim)). rows_said x (Ok run)) h refl
+rows_said_is k n (Err y) a h = subst (λ (x : Answer (List Claim)). rows_said x (Err y)) h refl
 
 -- ---- the state afterwards
 
@@ -70,8 +69,8 @@ said_in (accepted r) = silence
 said_in (refused y) = tell 0 y
 
 pub said_told : (n : R.Need) (c : Chosen) → said_by c ≡ said_in (told n c)
-said_told n (Stands b e) = refl
-said_told n (Refused y) = refl
+said_told n (Ok run) = refl
+said_told n (Err y) = refl
 
 only_pushed : (b : Bool) (o o' z : Table Row) (r : Row) → o' ≡ push_all o (r ∷ [])
     → ◌≡◌ {A = Table Row} (elim b [ true ↦ o' | false ↦ z ]) (push_all (elim b [ true ↦ o | false ↦ z ]) (elim b [ true ↦ r ∷ [] | false ↦ [] ]))

@@ -1,5 +1,4 @@
-pub mod ReadyLaws
-pub mod GrantLaws
 pub mod KindLaws
 pub mod SetLaws
 pub mod MsiLaws
+pub mod GrantLaws

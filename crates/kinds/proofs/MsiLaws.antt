@@ -11,36 +11,28 @@ use Rattle.definition.specs.Pools.{Claim, rows_of}
 use Rattle.definition.specs.Request.{automatic, fixed, row_at, good_request, resolve}
 use Rattle.definition.specs.Request as R
 use Rattle.definition.specs.Calls.{State, state, push_all, pools_of, owners_of, sound, sound_at}
-use Rattle.definition.proofs.StateLaws.{Sound, sound_says}
-use Rattle.tables.specs.Views.{ranges_view}
-use Rattle.tables.specs.declared.Ranges.{Ranges}
+use Rattle.definition.proofs.StateLaws.{Sound, SoundPool, sound_says}
+use Rattle.tables.specs.Views.{pool_view, ranges_view}
 use Rattle.sound.proofs.KindLaws.{set_ranges_is}
 use Rattle.choose.specs.Told.{refusal_of}
 use Rattle.msi.specs.Msi.{msi_rows, told_msi, asked_msi}
 use Rattle.msi.specs.declared.Msi.{Msi}
-use Rattle.msi.specs.declared.MsiChosen.{MsiChosen}
-use Rattle.msi.specs.declared.MsiChosen.TheVariants.{Stands, Refused}
+use Rattle.std.specs.Prelude.{Ok, Err}
 use Rattle.decide.specs.Outcome.{after}
+use Rattle.decide.proofs.ReadyLaws.{pool_order}
+use Rattle.msi.specs.Finds.{Ready}
 use Rattle.msi.proofs.ListLaws.{msi_is}
-use Rattle.kinds.specs.Grants.{Ready, claims_got}
-use Rattle.kinds.proofs.ReadyLaws.{ready}
+use Rattle.kinds.specs.Got.{claims_got}
 use Rattle.kinds.specs.declared.RangeTables.{RangeTables}
 use Rattle.kinds.specs.declared.MsiTables.{MsiTables}
-use Rattle.kinds.specs.declared.MsiAnswer.{MsiAnswer}
 use Rattle.kinds.specs.Kinds.{answer_of, asked}
-use Rattle.kinds.specs.Msis.{keeping, set_of, set_msi, among_three, msi_state, three, said_msi, bases_said, MsiServed, ServesMsi}
+use Rattle.kinds.specs.Msis.{MsiChosen, MsiAnswer, keeping, set_of, set_msi, among_three, msi_state, three, said_msi, bases_said, MsiServed, ServesMsi}
 use Rattle.kinds.proofs.KindLaws.{serve_after}
 
 and_parts : (a b c : Bool) → a && (b && c) ≡ true → (a ≡ true) × (b ≡ true) × (c ≡ true)
 and_parts a b c e =
     let t : T (a && (b && c)) = true_T (a && (b && c)) e in
     (T_true a (and_l a (b && c) t), T_true b (and_l b c (and_r a (b && c) t)), T_true c (and_r b c (and_r a (b && c) t)))
-
-pub kept_is : (t x : RangeTables) (o : Ranges) → x ≡ keeping t o → x ≡ keeping t x.owners
-kept_is t x o e = e ∙ ap (keeping t) (sym (ap (λ (y : RangeTables). y.owners) e))
-
-pub owners_is : (t x : RangeTables) (o : Ranges) (v : Table Row) → x ≡ keeping t o → ranges_view o ≡ v → ranges_view x.owners ≡ v
-owners_is t x o v e h = ap (λ (y : RangeTables). ranges_view y.owners) e ∙ h
 
 module _ (t : MsiTables) (i : Said) where
   set_device : sound_at (msi_state t i) device ≡ set_of device t.device
@@ -57,10 +49,13 @@ module _ (t : MsiTables) (i : Said) where
   judged = ap₂ (λ x y. x && y) set_device (ap₂ (λ x y. x && y) set_event (and_true (sound_at (msi_state t i) lpi) ∙ set_lpi))
 
 -- what a passed test gives the choice
+ready : (k : Kind) (t : RangeTables) (v : State) → Sound v k → SoundPool k (pool_view t.auto) → SoundPool k (pool_view t.fixed) → (v.owners k).count ≡ t.owners.n → Ready k t.auto t.fixed t.owners
+ready k t v h s g e = record { auto = pool_order k t.auto s; goods = s.goods; fixed = g.tidied.within; rows = rw (← e) h.owners.tidied.within }
+
 pub record MsiPassed (t : MsiTables) : Type 0 where
-  pub device : Ready device t.device.auto t.device.fixed.n t.device.owners.n
-  pub event : Ready event t.event.auto t.event.fixed.n t.event.owners.n
-  pub lpi : Ready lpi t.lpi.auto t.lpi.fixed.n t.lpi.owners.n
+  pub device : Ready device t.device.auto t.device.fixed t.device.owners
+  pub event : Ready event t.event.auto t.event.fixed t.event.owners
+  pub lpi : Ready lpi t.lpi.auto t.lpi.fixed t.lpi.owners
 
 pub msi_passed : (t : MsiTables) → set_msi t ≡ true → MsiPassed t
 unfolding set_msi
@@ -71,9 +66,9 @@ msi_passed t e =
     let f : Sound v event = sound_says v event (true_T (sound_at v event) (set_event t silence ∙ p.1)) in
     let l : Sound v lpi = sound_says v lpi (true_T (sound_at v lpi) (set_lpi t silence ∙ p.2)) in
     record {
-      device = ready device t.device.auto t.device.fixed v d (d.given.pools automatic) (d.given.pools fixed);
-      event = ready event t.event.auto t.event.fixed v f (f.given.pools automatic) (f.given.pools fixed);
-      lpi = ready lpi t.lpi.auto t.lpi.fixed v l (l.given.pools automatic) (l.given.pools fixed);
+      device = ready device t.device v d (d.given.pools automatic) (d.given.pools fixed) refl;
+      event = ready event t.event v f (f.given.pools automatic) (f.given.pools fixed) refl;
+      lpi = ready lpi t.lpi v l (l.given.pools automatic) (l.given.pools fixed) refl;
     }
 
 -- the state afterwards
@@ -83,7 +78,7 @@ msi_after : (t : MsiTables) (x y z : Table Row) (m : Msi) (c : MsiChosen) (i : S
     → z ≡ push_all (ranges_view t.lpi.owners) (rows_of lpi (claims_got (told_msi m c)))
     → state (msi_state t i).pools (msi_state t i).held (among_three x y z (λ j. (msi_state t i).owners j)) (said_msi c) ≡ after (msi_state t i) (told_msi m c)
 unfolding push_all rows_of same_kind
-msi_after t x y z m (Refused w) i p q r = λ d. state (msi_state t i).pools (msi_state t i).held (λ j. go j d) (tell 0 (refusal_of w))
+msi_after t x y z m (Err w) i p q r = λ d. state (msi_state t i).pools (msi_state t i).held (λ j. go j d) (tell 0 (refusal_of w))
   where
     go : (j : Kind) → among_three x y z (λ j. (msi_state t i).owners j) j ≡ (msi_state t i).owners j
     go mmio = refl
@@ -93,9 +88,9 @@ msi_after t x y z m (Refused w) i p q r = λ d. state (msi_state t i).pools (msi
     go device = p
     go event = q
     go lpi = r
-msi_after t x y z m (Stands d e l) i p q r = λ h. state (msi_state t i).pools (msi_state t i).held (λ j. go j h) silence
+msi_after t x y z m (Ok ids) i p q r = λ h. state (msi_state t i).pools (msi_state t i).held (λ j. go j h) silence
   where
-    go : (j : Kind) → among_three x y z (λ j. (msi_state t i).owners j) j ≡ push_all ((msi_state t i).owners j) (rows_of j (msi_rows m d e l))
+    go : (j : Kind) → among_three x y z (λ j. (msi_state t i).owners j) j ≡ push_all ((msi_state t i).owners j) (rows_of j (msi_rows m ids.device ids.event ids.lpi))
     go mmio = refl
     go pio = refl
     go input = refl
@@ -106,8 +101,8 @@ msi_after t x y z m (Stands d e l) i p q r = λ h. state (msi_state t i).pools (
 
 bases_said_is : (m : Msi) (c : MsiChosen) (a : Answer (List Claim)) → told_msi m c ≡ a → bases_said a c
 unfolding row_at
-bases_said_is m (Stands d e l) a h = subst (λ (x : Answer (List Claim)). bases_said x (Stands d e l)) h (refl, refl, refl)
-bases_said_is m (Refused y) a h = subst (λ (x : Answer (List Claim)). bases_said x (Refused y)) h refl
+bases_said_is m (Ok ids) a h = subst (λ (x : Answer (List Claim)). bases_said x (Ok ids)) h (refl, refl, refl)
+bases_said_is m (Err y) a h = subst (λ (x : Answer (List Claim)). bases_said x (Err y)) h refl
 
 module _ (t : MsiTables) (m : Msi) (r : MsiAnswer) (s : ℕ) where
   abbrev q : R.Request

@@ -30,10 +30,8 @@ use Rattle.decide.specs.Outcome.{after}
 use Rattle.decide.proofs.AnswerLaws.{claim_of}
 use Rattle.decide.proofs.ReadyLaws.{pool_order}
 use Rattle.kinds.specs.declared.RangeTables.{RangeTables}
-use Rattle.kinds.specs.declared.RangeAnswer.{RangeAnswer}
 use Rattle.kinds.specs.declared.InputTables.{InputTables}
-use Rattle.kinds.specs.declared.InputAnswer.{InputAnswer}
-use Rattle.kinds.specs.Kinds.{pool_as, tables_at, range_state, input_state, answer_of, asked, said_by, RangeServed, InputServed, ServesRange, ServesInput}
+use Rattle.kinds.specs.Kinds.{RangeAnswer, InputAnswer, pool_as, tables_at, range_state, input_state, answer_of, asked, said_by, RangeServed, InputServed, ServesRange, ServesInput}
 use Rattle.kinds.proofs.KindLaws.{only_same, sound_alone, kind_answer, rows_said_is, serve_after, said_told, kind_after}
 
 -- ---- what a passed test gives the choice
@@ -68,7 +66,7 @@ same_lists : (b g : Bool) (n : R.Need) (c : R.Choice) (a a' f f' : Table Span) (
     → require b malformed (require g bad_input (chosen_in (used a) (used f) (used o) n c)) ≡ require b malformed (require g bad_input (chosen_in (used a') (used f') (used o') n c))
 same_lists b g n c a a' f f' o o' p q r = λ i. require b malformed (require g bad_input (chosen_in (used (p i)) (used (q i)) (used (r i)) n c))
 
-module _ (t : RangeTables) (m : Need) (c : Choice) (r : RangeAnswer) (q s : ℕ) (w : R.Want) where
+module _ (t : RangeTables) (m : Need) (c : Choice ℕ) (r : RangeAnswer) (q s : ℕ) (w : R.Want) where
   abbrev Kd : Kind
   Kd = kind_of m.kind
 
@@ -102,7 +100,7 @@ module _ (t : RangeTables) (m : Need) (c : Choice) (r : RangeAnswer) (q s : ℕ)
           ∙ ap (after (at_range i)) (answer i)
           ∙ serve_after (Kd ∷ []) (asked q s w) (at_range i)
 
-module _ (t : InputTables) (m : InputNeed) (c : Choice) (r : InputAnswer) (q s : ℕ) (w : R.Want) where
+module _ (t : InputTables) (m : InputNeed) (c : Choice ℕ) (r : InputAnswer) (q s : ℕ) (w : R.Want) where
   abbrev at_input : Said → State
   at_input i = input_state t i
 

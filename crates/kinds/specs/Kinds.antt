@@ -1,11 +1,13 @@
 -- What is promised of the calls of one kind: the definition's answer on the state that has these tables and fresh ones of all other kinds. Assumes nothing.
-use Rattle.std.specs.Prelude.{◌≡◌, Bool, true, false, List, [], ◌∷◌, ℕ, ◌<◌, eqb}
+use Rattle.std.specs.Prelude.{◌≡◌, Bool, true, false, List, [], ◌∷◌, ℕ, ◌<◌, eqb, Result, Ok, Err}
 use Rattle.definition.specs.Tables.{pool_limit, row_limit, Kind, input, nature, Span, Row, Table, used, blank_span, blank_row}
 use Rattle.definition.specs.Base.{malformed, bad_input, Said, silence, tell, Answer, accepted, refused, require}
 use Rattle.definition.specs.Pools.{Claim}
 use Rattle.definition.specs.Request.{Use, automatic, fixed, resolve}
 use Rattle.definition.specs.Request as R
 use Rattle.definition.specs.Calls.{State, state, zeros, push_all, pools_of, owners_of, sound, want, serve}
+use Rattle.tables.specs.declared.Pool.{Pool}
+use Rattle.tables.specs.declared.Ranges.{Ranges}
 use Rattle.tables.specs.Views.{kind_of, pool_view, ranges_view, inputs_view}
 use Rattle.table_tests.specs.Tests.{limits_of}
 use Rattle.sound.specs.Tests.{set_ranges, set_inputs}
@@ -14,14 +16,28 @@ use Rattle.search.specs.declared.Need.{Need}
 use Rattle.choose.specs.Told.{choice_of, refusal_of, told, chosen_in}
 use Rattle.choose.specs.Wired.{input_asked}
 use Rattle.choose.specs.declared.Choice.{Choice}
-use Rattle.choose.specs.declared.Chosen.{Chosen}
-use Rattle.choose.specs.declared.Chosen.TheVariants.{Stands, Refused}
+use Rattle.choose.specs.declared.Refusal.{Refusal}
+use Rattle.choose.specs.declared.Run.{Run}
 use Rattle.choose.specs.declared.wired.InputNeed.{InputNeed}
-use Rattle.kinds.specs.Grants.{row_got}
+use Rattle.kinds.specs.Got.{row_got}
 use Rattle.kinds.specs.declared.RangeTables.{RangeTables}
-use Rattle.kinds.specs.declared.RangeAnswer.{RangeAnswer}
 use Rattle.kinds.specs.declared.InputTables.{InputTables}
-use Rattle.kinds.specs.declared.InputAnswer.{InputAnswer}
+use Rattle.kinds.specs.declared.Answer.{Answer as Answered}
+
+-- the tables of a kind, lent
+pub record LentIs (t : RangeTables) (a f : Pool) (o : Ranges) : Type 0 where
+  pub auto : a ≡ t.auto
+  pub fixed : f ≡ t.fixed
+  pub owners : o ≡ t.owners
+
+abbrev pub Chosen : Type 0
+Chosen = Result Run Refusal
+
+abbrev pub RangeAnswer : Type 0
+RangeAnswer = Answered RangeTables Run
+
+abbrev pub InputAnswer : Type 0
+InputAnswer = Answered InputTables Run
 
 -- ---- a state with tables of one kind
 
@@ -53,15 +69,15 @@ asked q slot wanted = record { requester = q; slot = slot; want = wanted }
 
 -- the five numbers of an answer
 abbrev pub said_by : Chosen → Said
-said_by (Stands b e) = silence
-said_by (Refused z) = tell 0 (refusal_of z)
+said_by (Ok run) = silence
+said_by (Err z) = tell 0 (refusal_of z)
 
 -- the first number of the row that an accepted answer was granted, and its end, say which row it is
 abbrev pub rows_said : Answer (List Claim) → Chosen → Type 0
 rows_said (accepted []) chosen = ⊥
-rows_said (accepted (x ∷ cs)) chosen = chosen ≡ Stands x.row.start x.row.end
-rows_said (refused y) (Stands b e) = ⊥
-rows_said (refused y) (Refused z) = refusal_of z ≡ y
+rows_said (accepted (x ∷ cs)) chosen = chosen ≡ Ok (record { start = x.row.start; end = x.row.end })
+rows_said (refused y) (Ok run) = ⊥
+rows_said (refused y) (Err z) = refusal_of z ≡ y
 
 pub record ServesRange (k : Kind) (t : RangeTables) (q slot : ℕ) (wanted : R.Want) (r : RangeAnswer) : Type 0 where
   pub tables : (i : Said) → range_state k r.tables (said_by r.chosen) ≡ serve (k ∷ []) (want (asked q slot wanted)) (range_state k t i)
@@ -80,7 +96,7 @@ pub record Sense (s a : ℕ) : Type 0 where
 abbrev pub Sensible : Bool → Need → Type 0
 Sensible good n = good ≡ true → Sense n.size n.alignment
 
-pub record RangeServed (t : RangeTables) (good : Bool) (n : Need) (c : Choice) (r : RangeAnswer) : Type 0 where
+pub record RangeServed (t : RangeTables) (good : Bool) (n : Need) (c : Choice ℕ) (r : RangeAnswer) : Type 0 where
   pub answer :
       told (need_of n) r.chosen
       ≡ require (set_ranges (limits_of (kind_of n.kind)) t.auto t.fixed t.held t.owners) malformed
@@ -90,7 +106,7 @@ pub record RangeServed (t : RangeTables) (good : Bool) (n : Need) (c : Choice) (
   pub held : r.tables.held ≡ t.held
   pub owners : ranges_view r.tables.owners ≡ push_all (ranges_view t.owners) (row_got (told (need_of n) r.chosen))
 
-pub record InputServed (t : InputTables) (good : Bool) (n : InputNeed) (c : Choice) (r : InputAnswer) : Type 0 where
+pub record InputServed (t : InputTables) (good : Bool) (n : InputNeed) (c : Choice ℕ) (r : InputAnswer) : Type 0 where
   pub answer :
       told (input_asked n) r.chosen
       ≡ require (set_inputs t.auto t.fixed t.held t.owners) malformed

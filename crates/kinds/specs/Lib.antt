@@ -1,3 +1,3 @@
-pub mod Grants
+pub mod Got
 pub mod Kinds
 pub mod Msis

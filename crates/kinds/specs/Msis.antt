@@ -1,5 +1,5 @@
 -- What is promised of an MSI call over the tables of its three kinds. Assumes nothing.
-use Rattle.std.specs.Prelude.{◌≡◌, Bool, true, ◌&&◌, List, [], ◌∷◌, ℕ, ◌<◌}
+use Rattle.std.specs.Prelude.{◌≡◌, Bool, true, ◌&&◌, List, [], ◌∷◌, ℕ, ◌<◌, Result, Ok, Err}
 use Rattle.definition.specs.Tables.{pool_limit, row_limit, Kind, mmio, pio, input, host, device, event, lpi, blank_span, blank_row}
 use Rattle.definition.specs.Base.{malformed, bad_input, Said, silence, tell, Answer, accepted, refused, require}
 use Rattle.definition.specs.Pools.{Claim, rows_of}
@@ -11,15 +11,21 @@ use Rattle.tables.specs.declared.Ranges.{Ranges}
 use Rattle.table_tests.specs.Tests.{limits_of}
 use Rattle.sound.specs.Tests.{set_ranges}
 use Rattle.choose.specs.Told.{refusal_of}
+use Rattle.choose.specs.declared.Refusal.{Refusal}
 use Rattle.msi.specs.Msi.{part, told_msi, msi_in}
 use Rattle.msi.specs.declared.Msi.{Msi}
-use Rattle.msi.specs.declared.MsiChosen.{MsiChosen}
-use Rattle.msi.specs.declared.MsiChosen.TheVariants.{Stands, Refused}
-use Rattle.kinds.specs.Grants.{claims_got}
+use Rattle.msi.specs.declared.MsiIds.{MsiIds}
+use Rattle.kinds.specs.Got.{claims_got}
 use Rattle.kinds.specs.declared.RangeTables.{RangeTables}
 use Rattle.kinds.specs.declared.MsiTables.{MsiTables}
-use Rattle.kinds.specs.declared.MsiAnswer.{MsiAnswer}
+use Rattle.kinds.specs.declared.Answer.{Answer as Answered}
 use Rattle.kinds.specs.Kinds.{pool_as, answer_of, asked}
+
+abbrev pub MsiChosen : Type 0
+MsiChosen = Result MsiIds Refusal
+
+abbrev pub MsiAnswer : Type 0
+MsiAnswer = Answered MsiTables MsiIds
 
 abbrev pub keeping : RangeTables → Ranges → RangeTables
 keeping t o = record { auto = t.auto; fixed = t.fixed; held = t.held; owners = o }
@@ -52,15 +58,15 @@ abbrev pub three : List Kind
 three = device ∷ event ∷ lpi ∷ []
 
 abbrev pub said_msi : MsiChosen → Said
-said_msi (Stands d e l) = silence
-said_msi (Refused z) = tell 0 (refusal_of z)
+said_msi (Ok ids) = silence
+said_msi (Err z) = tell 0 (refusal_of z)
 
 -- the first numbers of the three rows that an accepted answer was granted; the refusal of a refused one
 abbrev pub bases_said : Answer (List Claim) → MsiChosen → Type 0
-bases_said (accepted cs) (Stands d e l) = (d.0 ≡ base_at 0 cs) × (e.0 ≡ base_at 1 cs) × (l.0 ≡ base_at 2 cs)
-bases_said (accepted cs) (Refused z) = ⊥
-bases_said (refused y) (Stands d e l) = ⊥
-bases_said (refused y) (Refused z) = refusal_of z ≡ y
+bases_said (accepted cs) (Ok ids) = (ids.device.0 ≡ base_at 0 cs) × (ids.event.0 ≡ base_at 1 cs) × (ids.lpi.0 ≡ base_at 2 cs)
+bases_said (accepted cs) (Err z) = ⊥
+bases_said (refused y) (Ok ids) = ⊥
+bases_said (refused y) (Err z) = refusal_of z ≡ y
 
 pub record ServesMsi (t : MsiTables) (q slot : ℕ) (wanted : R.Want) (r : MsiAnswer) : Type 0 where
   pub tables : (i : Said) → msi_state r.tables (said_msi r.chosen) ≡ serve three (want (asked q slot wanted)) (msi_state t i)

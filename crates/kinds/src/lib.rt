@@ -3,24 +3,28 @@
 
 ghost use Rattle.std.specs.Prelude.{◌≡◌, false};
 ghost use Rattle.definition.specs.Tables.{mmio, pio, host, nature};
-ghost use Rattle.definition.specs.Request.{mmio_want, pio_want, input_want, host_want};
+ghost use Rattle.definition.specs.Request.{mmio_want, pio_want, input_want, host_want, good_request};
+ghost use Rattle.request.specs.Asked.{want_of};
 ghost use Rattle.tables.specs.Views.{kind_of};
+ghost use Rattle.sound.specs.Tests.{set_inputs};
 ghost use Rattle.choose.specs.Told.{choice_of};
 ghost use Rattle.choose.specs.Ids.{device_choice, event_choice, lpi_choice};
-ghost use Rattle.kinds.specs.Kinds.{Sensible, RangeServed, InputServed, ServesRange, ServesInput};
-ghost use Rattle.kinds.specs.Msis.{set_msi, keeping, SomeEvents, MsiServed, ServesMsi};
+ghost use Rattle.kinds.specs.Kinds.{asked, LentIs, Sensible, RangeServed, InputServed, ServesRange, ServesInput};
+ghost use Rattle.kinds.specs.Msis.{set_of, set_msi, SomeEvents, MsiServed, ServesMsi};
 ghost use Rattle.definition.specs.Request as R;
 
-use choose::ids::{DeviceChoice, EventChoice, LpiChoice};
 use choose::wired::InputNeed;
-use choose::{Choice, Chosen, Refusal};
-use msi::{Msi, MsiChosen};
-use request::{Request, Want};
+use choose::{Choice, Lent, Refusal, Run};
+use decide::needing;
+use msi::{Msi, MsiIds};
+use request::{Request, Want, good_request};
 use search::Need;
-use tables::{Inputs, Kind, Pool, Ranges};
+use sound::lent::{inputs_set, ranges_set};
+use tables::{DeviceId, EventId, Inputs, Kind, Lpi, Pool, Ranges};
 
-pub mod rows;
+mod grant; // grant.rt: on lent tables of one kind
 
+// The tables of a kind whose rows hold ranges. (A struct of its own: an exported function takes none with a type parameter, and bench/ exports these.)
 #[repr(C)]
 #[derive(Clone, Copy)]
 pub struct RangeTables {
@@ -30,12 +34,7 @@ pub struct RangeTables {
     pub owners: Ranges,
 }
 
-#[derive(Clone, Copy)]
-pub struct RangeAnswer {
-    pub tables: RangeTables,
-    pub chosen: Chosen,
-}
-
+// The tables of inputs.
 #[repr(C)]
 #[derive(Clone, Copy)]
 pub struct InputTables {
@@ -45,73 +44,107 @@ pub struct InputTables {
     pub owners: Inputs,
 }
 
+// The tables of a device, its events and LPIs.
+#[repr(C)]
 #[derive(Clone, Copy)]
-pub struct InputAnswer {
-    pub tables: InputTables,
-    pub chosen: Chosen,
+pub struct MsiTables {
+    pub device: RangeTables,
+    pub event: RangeTables,
+    pub lpi: RangeTables,
 }
 
-// 1, then 2, then the choice, with its row at the end of the owner table.
-pub fn range_answer(t: RangeTables, good: bool, need: Need, choice: Choice) -> RangeAnswer
+// The tables afterwards, and what was chosen, or why nothing was.
+#[derive(Clone, Copy)]
+pub struct Answer<T, C> {
+    pub tables: T,
+    pub chosen: Result<C, Refusal>,
+}
+
+pub type RangeAnswer = Answer<RangeTables, Run>;
+
+pub type InputAnswer = Answer<InputTables, Run>;
+
+pub type MsiAnswer = Answer<MsiTables, MsiIds>;
+
+impl RangeTables {
+    // As a request sees them.
+    fn lent(&self) -> Lent<'_, Ranges>
+        ensures { LentIs self.now result.auto.now result.fixed.now result.owners.now }
+    {
+        Lent {
+            auto: &self.auto,
+            fixed: &self.fixed,
+            owners: &self.owners,
+        }
+    }
+
+    // Whether the tables of a kind of ranges are sound.
+    fn is_sound(&self, kind: Kind) -> bool
+        ensures { result ≡ set_of (kind_of kind) self.now }
+    {
+        ranges_set(kind, &self.auto, &self.fixed, &self.held, &self.owners)
+    }
+}
+
+impl InputTables {
+    // Whether all tables of inputs are sound.
+    fn is_sound(&self) -> bool
+        ensures { result ≡ set_inputs self.now.auto self.now.fixed self.now.held self.now.owners }
+    {
+        inputs_set(&self.auto, &self.fixed, &self.held, &self.owners)
+    }
+}
+
+impl MsiTables {
+    // Whether the tables of all three kinds are sound.
+    #[tactic(auto, unfolding(crate::specs::Msis::set_msi))]
+    fn is_sound(&self) -> bool
+        ensures { result ≡ set_msi self.now }
+    {
+        self.device.is_sound(Kind::Device)
+            && self.event.is_sound(Kind::Event)
+            && self.lpi.is_sound(Kind::Lpi)
+    }
+}
+
+// ---- 1, then 2, then the choice, with its rows at the ends of the owner tables
+
+pub fn range_answer(t: RangeTables, good: bool, need: Need, choice: Choice<u64>) -> RangeAnswer
     requires { ((nature (kind_of need.kind)).wired ≡ false) × (Sensible good need) }
     ensures { RangeServed t good need choice result }
 {
-    let auto = t.auto;
-    let fixed = t.fixed;
-    let held = t.held;
-    let kind = need.kind;
-    if sound::ranges_set(kind, auto, fixed, held, t.owners) {
-        if good {
-            let got = rows::grant_range(t.owners, auto, fixed, need, choice);
-            let owners = got.owners;
-            let chosen = got.chosen;
-            let tables = RangeTables {
-                auto,
-                fixed,
-                held,
-                owners,
-            };
-            return RangeAnswer { tables, chosen };
-        }
-        return RangeAnswer {
-            tables: t,
-            chosen: Chosen::Refused(Refusal::BadInput),
-        };
-    }
-    RangeAnswer {
-        tables: t,
-        chosen: Chosen::Refused(Refusal::Malformed),
-    }
+    let mut tables = t;
+    let chosen = grant::range(&mut tables, good, need, choice);
+    RangeAnswer { tables, chosen }
 }
 
-pub fn input_answer(t: InputTables, good: bool, ask: InputNeed, choice: Choice) -> InputAnswer
+pub fn input_answer(t: InputTables, good: bool, ask: InputNeed, choice: Choice<u64>) -> InputAnswer
     ensures { InputServed t good ask choice result }
 {
-    let auto = t.auto;
-    let fixed = t.fixed;
-    let held = t.held;
-    if sound::inputs_set(auto, fixed, held, t.owners) {
-        if good {
-            let got = rows::grant_input(t.owners, auto, fixed, ask, choice);
-            let owners = got.owners;
-            let chosen = got.chosen;
-            let tables = InputTables {
-                auto,
-                fixed,
-                held,
-                owners,
-            };
-            return InputAnswer { tables, chosen };
-        }
-        return InputAnswer {
-            tables: t,
-            chosen: Chosen::Refused(Refusal::BadInput),
-        };
-    }
-    InputAnswer {
-        tables: t,
-        chosen: Chosen::Refused(Refusal::Malformed),
-    }
+    let mut tables = t;
+    let chosen = grant::input(&mut tables, good, ask, choice);
+    InputAnswer { tables, chosen }
+}
+
+pub fn msi_answer(t: MsiTables, good: bool, ask: Msi) -> MsiAnswer
+    requires { SomeEvents good ask }
+    ensures { MsiServed t good ask result }
+{
+    let mut tables = t;
+    let chosen = grant::msi(&mut tables, good, ask);
+    MsiAnswer { tables, chosen }
+}
+
+// ---- the calls, in 01's form: the numbers of a request one by one, as `Want` has them
+
+fn makes_sense(requester: u32, slot: u32, want: Want) -> bool
+    ensures { result ≡ good_request (asked requester slot (want_of want)) }
+{
+    good_request(Request {
+        requester,
+        slot,
+        want,
+    })
 }
 
 // An MMIO range.
@@ -121,29 +154,17 @@ pub fn allocate_mmio(
     slot: u32,
     size: u64,
     alignment: u64,
-    choice: Choice,
+    choice: Choice<u64>,
 ) -> RangeAnswer
     ensures { ServesRange mmio t requester slot (mmio_want size alignment (choice_of choice)) result }
 {
-    let request = Request {
-        requester,
-        slot,
-        want: Want::Mmio {
-            size,
-            alignment,
-            choice,
-        },
-    };
-    let good = request::good_request(request);
-    let need = Need {
-        kind: Kind::Mmio,
-        controller: 0,
-        its: 0,
-        device: 0,
+    let want = Want::Mmio {
         size,
         alignment,
-        requester,
+        choice,
     };
+    let good = makes_sense(requester, slot, want);
+    let need = needing(Kind::Mmio, size, alignment, requester);
     range_answer(t, good, need, choice)
 }
 
@@ -154,55 +175,36 @@ pub fn allocate_pio(
     slot: u32,
     size: u64,
     alignment: u64,
-    choice: Choice,
+    choice: Choice<u64>,
 ) -> RangeAnswer
     ensures { ServesRange pio t requester slot (pio_want size alignment (choice_of choice)) result }
 {
-    let request = Request {
-        requester,
-        slot,
-        want: Want::Pio {
-            size,
-            alignment,
-            choice,
-        },
-    };
-    let good = request::good_request(request);
-    let need = Need {
-        kind: Kind::Pio,
-        controller: 0,
-        its: 0,
-        device: 0,
+    let want = Want::Pio {
         size,
         alignment,
-        requester,
+        choice,
     };
+    let good = makes_sense(requester, slot, want);
+    let need = needing(Kind::Pio, size, alignment, requester);
     range_answer(t, good, need, choice)
 }
 
 // A host IRQ.
-pub fn allocate_host_irq(t: RangeTables, requester: u32, slot: u32, choice: Choice) -> RangeAnswer
+pub fn allocate_host_irq(
+    t: RangeTables,
+    requester: u32,
+    slot: u32,
+    choice: Choice<u64>,
+) -> RangeAnswer
     ensures { ServesRange host t requester slot (host_want (choice_of choice)) result }
 {
-    let request = Request {
-        requester,
-        slot,
-        want: Want::Host { choice },
-    };
-    let good = request::good_request(request);
-    let need = Need {
-        kind: Kind::Host,
-        controller: 0,
-        its: 0,
-        device: 0,
-        size: 1,
-        alignment: 1,
-        requester,
-    };
+    let want = Want::Host { choice };
+    let good = makes_sense(requester, slot, want);
+    let need = needing(Kind::Host, 1, 1, requester);
     range_answer(t, good, need, choice)
 }
 
-// An input of a controller.
+// An input of a controller. (Its numbers come one by one, as docs/PROMISES.md has the request of each kind.)
 pub fn allocate_wired(
     t: InputTables,
     requester: u32,
@@ -210,21 +212,17 @@ pub fn allocate_wired(
     controller: u32,
     trigger: u32,
     sharing: u32,
-    choice: Choice,
+    choice: Choice<u64>,
 ) -> InputAnswer
     ensures { ServesInput t requester slot (input_want controller trigger sharing (choice_of choice)) result }
 {
-    let request = Request {
-        requester,
-        slot,
-        want: Want::Input {
-            controller,
-            trigger,
-            sharing,
-            choice,
-        },
+    let want = Want::Input {
+        controller,
+        trigger,
+        sharing,
+        choice,
     };
-    let good = request::good_request(request);
+    let good = makes_sense(requester, slot, want);
     let ask = InputNeed {
         controller,
         trigger,
@@ -234,93 +232,7 @@ pub fn allocate_wired(
     input_answer(t, good, ask, choice)
 }
 
-#[repr(C)]
-#[derive(Clone, Copy)]
-pub struct MsiTables {
-    pub device: RangeTables,
-    pub event: RangeTables,
-    pub lpi: RangeTables,
-}
-
-#[derive(Clone, Copy)]
-pub struct MsiAnswer {
-    pub tables: MsiTables,
-    pub chosen: MsiChosen,
-}
-
-// Whether the tables of all three kinds are sound.
-#[tactic(auto, unfolding(crate::specs::Msis::set_msi))]
-pub fn msi_set(t: MsiTables) -> bool
-    ensures { result ≡ set_msi t }
-{
-    if !sound::ranges_set(
-        Kind::Device,
-        t.device.auto,
-        t.device.fixed,
-        t.device.held,
-        t.device.owners,
-    ) {
-        return false;
-    }
-    if !sound::ranges_set(
-        Kind::Event,
-        t.event.auto,
-        t.event.fixed,
-        t.event.held,
-        t.event.owners,
-    ) {
-        return false;
-    }
-    sound::ranges_set(Kind::Lpi, t.lpi.auto, t.lpi.fixed, t.lpi.held, t.lpi.owners)
-}
-
-// The tables with other owner rows.
-pub fn with_owners(t: RangeTables, owners: Ranges) -> RangeTables
-    ensures { result ≡ keeping t owners }
-{
-    let mut next = t;
-    next.owners = owners;
-    next
-}
-
-// 1, then 2, then the choice, with its rows at the ends of the three owner tables.
-pub fn msi_answer(t: MsiTables, good: bool, ask: Msi) -> MsiAnswer
-    requires { SomeEvents good ask }
-    ensures { MsiServed t good ask result }
-{
-    if msi_set(t) {
-        if good {
-            let got = rows::grant_msi(
-                t.device.owners,
-                t.event.owners,
-                t.lpi.owners,
-                t.device.auto,
-                t.device.fixed,
-                t.event.auto,
-                t.event.fixed,
-                t.lpi.auto,
-                t.lpi.fixed,
-                ask,
-            );
-            let device = with_owners(t.device, got.devices);
-            let event = with_owners(t.event, got.events);
-            let lpi = with_owners(t.lpi, got.lpis);
-            let chosen = got.chosen;
-            let tables = MsiTables { device, event, lpi };
-            return MsiAnswer { tables, chosen };
-        }
-        return MsiAnswer {
-            tables: t,
-            chosen: MsiChosen::Refused(Refusal::BadInput),
-        };
-    }
-    MsiAnswer {
-        tables: t,
-        chosen: MsiChosen::Refused(Refusal::Malformed),
-    }
-}
-
-// A device, a run of its events, and a run of LPIs.
+// A device, a run of its events, and a run of LPIs. (One by one, as above.)
 pub fn allocate_msi(
     t: MsiTables,
     requester: u32,
@@ -328,25 +240,21 @@ pub fn allocate_msi(
     controller: u32,
     its: u32,
     count: u32,
-    device: DeviceChoice,
-    event: EventChoice,
-    lpi: LpiChoice,
+    device: Choice<DeviceId>,
+    event: Choice<EventId>,
+    lpi: Choice<Lpi>,
 ) -> MsiAnswer
     ensures { ServesMsi t requester slot (R.msi_want controller its count (device_choice device) (event_choice event) (lpi_choice lpi)) result }
 {
-    let request = Request {
-        requester,
-        slot,
-        want: Want::Msi {
-            controller,
-            its,
-            count,
-            device,
-            event,
-            lpi,
-        },
+    let want = Want::Msi {
+        controller,
+        its,
+        count,
+        device,
+        event,
+        lpi,
     };
-    let good = request::good_request(request);
+    let good = makes_sense(requester, slot, want);
     let ask = Msi {
         controller,
         its,

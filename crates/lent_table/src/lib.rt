@@ -1,5 +1,4 @@
-// A lent table of one kind: looked into, and appended to, where it stands.
+// A lent table of one kind, appended to where it stands.
 #![tactic(auto)]
 
-pub mod look;
-pub mod store;
+pub mod store; // store.rt: a row more, or none

@@ -1,83 +1,99 @@
 -- Laws of forms: one turn of the code that reads the fields behind a kind's word, and what a row that was read is good for. Assumes nothing.
-use mathlib.Core.Path.{◌≡◌, refl, sym, ◌∙◌, ap, fun_ext}
+use mathlib.Core.Path.{◌≡◌, refl, sym, ◌∙◌, ap}
 use mathlib.Core.Bool.{Bool, true, false, ◌&&◌}
-use mathlib.Core.List.{List, [], ◌∷◌, ◌++◌}
+use mathlib.Core.List.{List, map, [], ◌∷◌, ◌++◌}
 use mathlib.Core.Option.{Option, none, some}
-use Prim.Native.Nat.{ℕ, zero, suc, ◌+◌, ◌-◌, ◌<◌, ◌≤◌}
+use Prim.Native.Nat.{ℕ, suc, ◌+◌, ◌-◌, ◌<◌, ◌≤◌}
 use native.Mathlib.Omega.{arith}
 use native.Mathlib.Numerals.{add-one}
-use lib.Dec.{eqb, leb}
-use lib.ListN.{length, take, drop, get_or, set, replicate, drop_of_length-le}
-use lib.Seq.{sets, drop-cons, sets-eq, get_or-drop}
-use borrow.Author.Tests.{leb-true}
+use lib.Dec.{eqb, leb, ltb}
+use lib.ListN.{length, take, drop, get_or, set, length-set, drop_of_length-le}
+use Rattle.std.proofs.Common.{append_assoc, append-nil}
+use lib.Seq.{drop-cons}
+use borrow.Author.Tests.{leb-true, ltb-true, ne_eqb}
 use Rattle.definition.specs.Base.{all_of}
-use Rattle.lines.specs.declared.form.Row.{Row}
-use Rattle.lines.specs.Base.{bytes, tab, same, split, pick, when, ◌and_then◌, ◌or_else◌}
+use Rattle.std.specs.Prelude.{None, Some, IfSome}
+use Rattle.std.specs.Prelude as code
+use Rattle.std.proofs.Math.Seq.{take_all}
+use Rattle.std.proofs.lemmas.List.{take_more_set}
+use Rattle.lines.specs.Base.{bytes, tab, same, split, pick, when, ◌and_then◌}
 use Rattle.lines.specs.Numbers.{digit, value_from, plain, number}
-use Rattle.lines.specs.Forms.{entry, numbers, form, ◌gives◌}
-use Rattle.lines.specs.Code.{first, row_size, row_from, row_of}
+use Rattle.lines.specs.declared.form.Field.{Field}
+use Rattle.lines.specs.declared.form.Field.TheVariants.{UpTo, Auto}
+use Rattle.lines.specs.Forms.{the_auto, entry, numbers}
+use Rattle.lines.specs.Code.{first, field_says, field_code, numbers_by, Within, row_from, row_of}
 use Rattle.lines.proofs.PartLaws.{part_last, part_next, part_first, split_some}
 
 -- ---- one field more
 
-module _ (n : List ℕ) (i m : ℕ) (ms f : List ℕ) (fs : List (List ℕ)) where
-  row_stop : entry m f ≡ none → row_from n i (numbers (m ∷ ms) (f ∷ fs)) ≡ row_of none
-  unfolding numbers ◌and_then◌ row_from row_of
-  row_stop e = rw (e, ◌and_then◌)
+module _ {A : Type 0} (says : A → List ℕ → Option ℕ) where
+  -- fields read from the front: all of them
+  pub row_starts : (v : List ℕ) (o : Option (List ℕ)) → row_of o ≡ row_from v 0 o
+  row_starts v none = refl
+  row_starts v (some ns) = refl
 
-  row_more : (v : ℕ) → entry m f ≡ some v → row_from n i (numbers (m ∷ ms) (f ∷ fs)) ≡ row_from (set n i v) (suc i) (numbers ms fs)
-  unfolding numbers ◌and_then◌ row_from
-  row_more v e = rw (e, ◌and_then◌) (go (numbers ms fs))
-    where
-      go : (o : Option (List ℕ)) → row_from n i (o and_then λ ns. some (v ∷ ns)) ≡ row_from (set n i v) (suc i) o
-      go none = refl
-      go (some ns) = refl
+  module _ (n : List ℕ) (i : ℕ) (x : A) (xs : List A) (f : List ℕ) (fs : List (List ℕ)) where
+    row_stop : says x f ≡ none → row_from n i (numbers_by says (x ∷ xs) (f ∷ fs)) ≡ None
+    unfolding numbers_by ◌and_then◌
+    row_stop e = rw (e, ◌and_then◌)
 
--- ---- as the code reads: the field from `at` to e, the form's place i
+    row_more : (v : ℕ) → says x f ≡ some v → i < length n → row_from n i (numbers_by says (x ∷ xs) (f ∷ fs)) ≡ row_from (set n i v) (i + 1) (numbers_by says xs fs)
+    unfolding numbers_by ◌and_then◌
+    row_more v e l = rw (e, ◌and_then◌) (go (numbers_by says xs fs))
+      where
+        go : (o : Option (List ℕ)) → row_from n i (o and_then λ ns. some (v ∷ ns)) ≡ row_from (set n i v) (i + 1) o
+        go none = refl
+        go (some ns) = ap (λ (l : List ℕ). Some l) (sym (ap (λ (l : List ℕ). l ++ ns) (take_more_set n i v l) ∙ append_assoc (take i n) (v ∷ []) ns))
 
-module _ (rest most n : List ℕ) (at e i : ℕ) (inside : at ≤ length rest) (end : e ≡ at + first tab (drop at rest)) (here : i < length most) where
-  abbrev now_field : Option ℕ
-  now_field = entry (get_or most i 0) (take (e - at) (drop at rest))
+  -- ---- as the code reads: the field from `at` to e, the form's place i
 
-  pub read_stop : now_field ≡ none → row_from n i (numbers (drop i most) (split tab (drop at rest))) ≡ row_of none
-  read_stop h =
-      let (fs, q) = part_first tab rest at e inside end in
-      rw (q, drop-cons most i 0 here) (row_stop n i (get_or most i 0) (drop (suc i) most) (take (e - at) (drop at rest)) fs h)
+  module _ (rest : List ℕ) (form : List A) (n : List ℕ) (d : A) (at e i : ℕ) (inside : at ≤ length rest) (end : e ≡ at + first tab (drop at rest)) (turn : i < length form) where
+    abbrev x : A
+    x = get_or form i d
 
-  pub read_next : (v : ℕ) → now_field ≡ some v → e < length rest
-      → row_from n i (numbers (drop i most) (split tab (drop at rest))) ≡ row_from (set n i v) (i + 1) (numbers (drop (i + 1) most) (split tab (drop (e + 1) rest)))
-  read_next v h l =
-      rw (part_next tab rest at e inside end l, drop-cons most i 0 here, add-one i)
-      (row_more n i (get_or most i 0) (drop (suc i) most) (take (e - at) (drop at rest)) (split tab (drop (e + 1) rest)) v h)
+    here : drop i form ≡ x ∷ drop (i + 1) form
+    here = rw (drop-cons form i d turn, add-one)
 
-  read_last : (v : ℕ) → now_field ≡ some v → length rest ≤ e
-      → row_from n i (numbers (drop i most) (split tab (drop at rest))) ≡ row_from (set n i v) (suc i) (numbers (drop (suc i) most) [])
-  read_last v h l =
-      rw (part_last tab rest at e inside end l, drop-cons most i 0 here)
-      (row_more n i (get_or most i 0) (drop (suc i) most) (take (e - at) (drop at rest)) [] v h)
+    abbrev now_field : Option ℕ
+    now_field = says x (take (e - at) (drop at rest))
 
-  -- the last field is the form's last
-  pub read_end : (v : ℕ) → now_field ≡ some v → length rest ≤ e → length most ≤ i + 1
-      → row_from n i (numbers (drop i most) (split tab (drop at rest))) ≡ record { good = true; n = set n i v }
-  unfolding numbers row_from
-  read_end v h l k = read_last v h l ∙ rw (drop_of_length-le most {i = suc i} (omega arith))
+    pub read_stop : now_field ≡ none → row_from n i (numbers_by says (drop i form) (split tab (drop at rest))) ≡ None
+    read_stop h =
+        let (fs, q) = part_first tab rest at e inside end in
+        rw (q, here) (row_stop n i x (drop (i + 1) form) (take (e - at) (drop at rest)) fs h)
 
-  -- .. or the form asks for more
-  pub read_short : (v : ℕ) → now_field ≡ some v → length rest ≤ e → i + 1 < length most
-      → row_from n i (numbers (drop i most) (split tab (drop at rest))) ≡ row_of none
-  unfolding numbers row_from row_of
-  read_short v h l k = read_last v h l ∙ rw (drop-cons most (suc i) 0 (omega arith))
+    pub read_next : (v : ℕ) → now_field ≡ some v → i < length n → e < length rest
+        → row_from n i (numbers_by says (drop i form) (split tab (drop at rest))) ≡ row_from (set n i v) (i + 1) (numbers_by says (drop (i + 1) form) (split tab (drop (e + 1) rest)))
+    read_next v h k l =
+        rw (part_next tab rest at e inside end l, here)
+        (row_more n i x (drop (i + 1) form) (take (e - at) (drop at rest)) (split tab (drop (e + 1) rest)) v h k)
 
--- fields are left where the form ends
-pub read_over : (most n xs : List ℕ) (i : ℕ) → length most ≤ i → row_from n i (numbers (drop i most) (split tab xs)) ≡ row_of none
-unfolding numbers row_from row_of
-read_over most n xs i l =
-    let (p, ps, e) = split_some tab xs in
-    rw (drop_of_length-le most {i = i} l, e)
+    read_last : (v : ℕ) → now_field ≡ some v → i < length n → length rest ≤ e
+        → row_from n i (numbers_by says (drop i form) (split tab (drop at rest))) ≡ row_from (set n i v) (i + 1) (numbers_by says (drop (i + 1) form) [])
+    read_last v h k l =
+        rw (part_last tab rest at e inside end l, here)
+        (row_more n i x (drop (i + 1) form) (take (e - at) (drop at rest)) [] v h k)
 
-pub row_starts : (o : Option (List ℕ)) → row_of o ≡ row_from (replicate row_size 0) 0 o
-unfolding row_of
-row_starts o = refl
+    -- the last field is the form's last
+    pub read_end : (v : ℕ) → now_field ≡ some v → length n ≡ i + 1 → length rest ≤ e → length form ≤ i + 1
+        → row_from n i (numbers_by says (drop i form) (split tab (drop at rest))) ≡ Some (set n i v)
+    unfolding numbers_by
+    read_end v h w l k =
+        read_last v h (omega arith) l
+        ∙ rw (drop_of_length-le form {i = i + 1} k, append-nil, take_all (i + 1) (set n i v) (omega (arith, length-set n i v)))
+
+    -- .. or the form asks for more
+    pub read_short : (v : ℕ) → now_field ≡ some v → i < length n → length rest ≤ e → i + 1 < length form
+        → row_from n i (numbers_by says (drop i form) (split tab (drop at rest))) ≡ None
+    unfolding numbers_by
+    read_short v h w l k = read_last v h w l ∙ rw (drop-cons form (i + 1) d k)
+
+  -- fields are left where the form ends
+  pub read_over : (form : List A) (n xs : List ℕ) (i : ℕ) → length form ≤ i → row_from n i (numbers_by says (drop i form) (split tab xs)) ≡ None
+  unfolding numbers_by
+  read_over form n xs i l =
+      let (p, ps, e) = split_some tab xs in
+      rw (drop_of_length-le form {i = i} l, e)
 
 -- ---- the numbers that were read keep to the form
 
@@ -107,85 +123,51 @@ entry_within m f v e = go (eqb m 0) e
     go true q = let (s, z) = when_some (same f (bytes "auto")) (some 0) v q in let w : 0 ≡ v = cc in omega arith
     go false q = number_within m f v q
 
--- as many numbers as the form has, none above the form's
-record Kept (ms ns : List ℕ) : Type 0 where
-  count : length ns ≡ length ms
-  within : (i : ℕ) → get_or ns i 0 ≤ get_or ms i 0
+-- .. so do those of the code's fields
+field_within : (x : Field) (f : List ℕ) (v : ℕ) → field_says x f ≡ some v → v ≤ field_code x
+field_within (UpTo m) f v e = number_within m f v e
+field_within Auto f v e = let (s, z) = when_some (same f (bytes "auto")) (some 0) v e in let w : 0 ≡ v = cc in omega arith
 
-kept_more : (m v : ℕ) (ms ns : List ℕ) → v ≤ m → Kept ms ns → Kept (m ∷ ms) (v ∷ ns)
-kept_more m v ms ns l k = record { count = ap suc k.count; within = go }
-  where
-    go : (i : ℕ) → get_or (v ∷ ns) i 0 ≤ get_or (m ∷ ms) i 0
-    go zero = l
-    go (suc i) = k.within i
+within_more : (i v : ℕ) (xs : List Field) (ns : List ℕ) → Within i xs ns → Within (suc i) xs (v ∷ ns)
+within_more i v [] ns w = tt
+within_more i v (x ∷ xs) ns (p, q) = (p, within_more (suc i) v xs ns q)
 
-numbers_kept : (ms : List ℕ) (fs : List (List ℕ)) (ns : List ℕ) → numbers ms fs ≡ some ns → Kept ms ns
-unfolding numbers ◌and_then◌
-numbers_kept [] [] ns e = let q : [] ≡ ns = cc in rw (sym q) (record { count = refl; within = λ i. omega arith })
-numbers_kept [] (f ∷ fs) ns e = absurd (let z : ◌≡◌ {A = ℕ} 0 1 = cc in omega arith)
-numbers_kept (m ∷ ms) [] ns e = absurd (let z : ◌≡◌ {A = ℕ} 0 1 = cc in omega arith)
-numbers_kept (m ∷ ms) (f ∷ fs) ns e = first_of (numbers_kept ms fs) (entry m f) refl e
+row_within : (form : List Field) (fs : List (List ℕ)) (ns : List ℕ) → Some ns ≡ row_of (numbers_by field_says form fs) → Within 0 form ns
+unfolding numbers_by ◌and_then◌
+row_within [] fs ns e = tt
+row_within (x ∷ xs) [] ns e = absurd (let z : ◌≡◌ {A = ℕ} 0 1 = cc in omega arith)
+row_within (x ∷ xs) (f ∷ fs) ns e = first_of (row_within xs fs) (field_says x f) refl e
   where
-    rest_of : (v : ℕ) → v ≤ m → (o : Option (List ℕ)) → ((l : List ℕ) → o ≡ some l → Kept ms l) → (o and_then λ l. some (v ∷ l)) ≡ some ns → Kept (m ∷ ms) ns
+    rest_of : (v : ℕ) → v ≤ field_code x → (o : Option (List ℕ)) → ((l : List ℕ) → Some l ≡ row_of o → Within 0 xs l) → Some ns ≡ row_of (o and_then λ l. some (v ∷ l)) → Within 0 (x ∷ xs) ns
     rest_of v l none below q = absurd (let z : ◌≡◌ {A = ℕ} 0 1 = cc in omega arith)
-    rest_of v l (some xs) below q = let p : v ∷ xs ≡ ns = cc in rw (sym p) (kept_more m v ms xs l (below xs refl))
+    rest_of v l (some rs) below q = let p : v ∷ rs ≡ ns = cc in rw (sym p) (l, within_more 0 v xs rs (below rs refl))
 
-    first_of : ((l : List ℕ) → numbers ms fs ≡ some l → Kept ms l) → (o : Option ℕ) → entry m f ≡ o → (o and_then λ n. numbers ms fs and_then λ l. some (n ∷ l)) ≡ some ns → Kept (m ∷ ms) ns
+    first_of : ((l : List ℕ) → Some l ≡ row_of (numbers_by field_says xs fs) → Within 0 xs l) → (o : Option ℕ) → field_says x f ≡ o → Some ns ≡ row_of (o and_then λ n. numbers_by field_says xs fs and_then λ l. some (n ∷ l)) → Within 0 (x ∷ xs) ns
     first_of below none p q = absurd (let z : ◌≡◌ {A = ℕ} 0 1 = cc in omega arith)
-    first_of below (some v) p q = rest_of v (entry_within m f v p) (numbers ms fs) below q
+    first_of below (some v) p q = rest_of v (field_within x f v p) (numbers_by field_says xs fs) below q
 
--- ---- a row that was read, and what the code makes of it
+pub row_kept : (form : List Field) (fs : List (List ℕ)) (r : code.Option (List ℕ)) → r ≡ row_of (numbers_by field_says form fs) → IfSome r (λ ns. Within 0 form ns)
+row_kept form fs None e = tt
+row_kept form fs (Some ns) e = row_within form fs ns e
 
-zeros_default : (k i : ℕ) → ◌≡◌ {A = ℕ} (get_or (replicate k 0) i 0) 0
-zeros_default zero i = refl
-zeros_default (suc k) zero = refl
-zeros_default (suc k) (suc i) = zeros_default k i
+-- ---- the code's fields say what a form of the table says: none is a number up to 0, which stands for `auto` there
 
-zeros_behind : (ns zs : List ℕ) → ((j : ℕ) → get_or zs j 0 ≡ 0) → (i : ℕ) → get_or (ns ++ zs) i 0 ≡ get_or ns i 0
-zeros_behind [] zs z i = z i
-zeros_behind (n ∷ ns) zs z zero = refl
-zeros_behind (n ∷ ns) zs z (suc i) = zeros_behind ns zs z i
+unfoldable pub counts : Field → Bool
+counts (UpTo m) = ltb 0 m
+counts Auto = true
 
--- a row has the numbers at its front and zeros behind them
-row_at : (ns : List ℕ) → length ns ≤ row_size → (i : ℕ) → get_or (sets (replicate row_size 0) 0 ns) i 0 ≡ get_or ns i 0
-row_at ns l i =
-    let z : 0 + length ns ≡ length ns = omega arith in
-    rw (sets-eq ns (replicate row_size 0) 0 (omega arith), z)
-    (zeros_behind ns (drop (length ns) (replicate row_size 0)) (λ j. get_or-drop (length ns) (replicate row_size 0) j 0 ∙ zeros_default row_size (length ns + j)) i)
+field_coded : (x : Field) (f : List ℕ) → counts x ≡ true → field_says x f ≡ entry (field_code x) f
+unfolding counts entry
+field_coded (UpTo m) f e =
+    let above : 0 < m = ltb-true 0 m e in
+    rw (ne_eqb m the_auto (λ z. omega arith))
+field_coded Auto f e = refl
 
--- what a good row tells of the form
-record Told (ms : List ℕ) (o : Option (List ℕ)) (r : Row) : Type 0 where
-  ns : List ℕ
-  is : o ≡ some ns
-  as_read : (i : ℕ) → get_or ns i 0 ≡ get_or r.n i 0
-  within : (i : ℕ) → get_or r.n i 0 ≤ get_or ms i 0
-
-told_by_is : (ms : List ℕ) (o : Option (List ℕ)) (r : Row) → length ms ≤ row_size → ((l : List ℕ) → o ≡ some l → Kept ms l) → r ≡ row_of o → r.good ≡ true → Told ms o r
-unfolding row_of row_from
-told_by_is ms none r fits kept e g = absurd (let q : r.good ≡ false = ap (λ (x : Row). x.good) e in let z : ◌≡◌ {A = ℕ} 0 1 = cc in omega arith)
-told_by_is ms (some ns) r fits kept e g =
-    let k : Kept ms ns = kept ns refl in
-    let n : r.n ≡ sets (replicate row_size 0) 0 ns = ap (λ (x : Row). x.n) e in
-    let at : (i : ℕ) → get_or r.n i 0 ≡ get_or ns i 0 = λ i. ap (λ (x : List ℕ). get_or x i 0) n ∙ row_at ns (omega (arith, k.count)) i in
-    record { ns = ns; is = refl; as_read = λ i. sym (at i); within = λ i. omega (arith, at i, k.within i) }
-
-none_by : (o : Option (List ℕ)) (r : Row) → r ≡ row_of o → r.good ≡ false → o ≡ none
-unfolding row_of row_from
-none_by none r e g = refl
-none_by (some ns) r e g = absurd (let q : r.good ≡ true = ap (λ (x : Row). x.good) e in let z : ◌≡◌ {A = ℕ} 0 1 = cc in omega arith)
-
-module _ (w ms k : List ℕ) (fs : List (List ℕ)) (r : Row) (fits : length ms ≤ row_size) (is : r ≡ row_of (form w ms k fs)) where
-  told : r.good ≡ true → Told ms (form w ms k fs) r
-  unfolding form
-  told g = told_by_is ms (form w ms k fs) r fits (λ l e. numbers_kept ms fs l (when_some (same k w) (numbers ms fs) l e).1) is g
-
-  pub row_within : r.good ≡ true → (i : ℕ) → get_or r.n i 0 ≤ get_or ms i 0
-  row_within g = (told g).within
-
-  pub row_here : {A : Type 0} (f : (ℕ → ℕ) → A) (o : Option A) → r.good ≡ true → ((form w ms k fs gives f) or_else o) ≡ some (f (λ i. get_or r.n i 0))
-  unfolding ◌gives◌ ◌or_else◌
-  row_here {A} f o g = let t = told g in rw (t.is, ◌gives◌, ◌or_else◌) (ap (λ (n : ℕ → ℕ). some (f n)) (fun_ext t.as_read))
-
-  pub row_past : {A : Type 0} (f : (ℕ → ℕ) → A) (o : Option A) → r.good ≡ false → ((form w ms k fs gives f) or_else o) ≡ o
-  unfolding ◌gives◌ ◌or_else◌
-  row_past {A} f o g = rw (none_by (form w ms k fs) r is g, ◌gives◌, ◌or_else◌)
+pub numbers_coded : (form : List Field) (fs : List (List ℕ)) → all_of counts form ≡ true → numbers_by field_says form fs ≡ numbers (map field_code form) fs
+unfolding all_of numbers_by numbers
+numbers_coded [] [] e = refl
+numbers_coded [] (f ∷ fs) e = refl
+numbers_coded (x ∷ xs) [] e = refl
+numbers_coded (x ∷ xs) (f ∷ fs) e =
+    let (p, q) = and_both (counts x) (all_of counts xs) e in
+    rw (field_coded x f p, numbers_coded xs fs q)

@@ -1,5 +1,5 @@
 -- Laws of parts: one turn of the code that looks for a byte or compares bytes, and what a first part is. Assumes nothing.
-use mathlib.Core.Path.{◌≡◌, refl, sym, ◌∙◌, ap, subst}
+use mathlib.Core.Path.{◌≡◌, refl, sym, ◌∙◌, ap}
 use mathlib.Core.Bool.{Bool, true, false, ◌&&◌}
 use mathlib.Core.List.{List, [], ◌∷◌}
 use Prim.Native.Nat.{ℕ, suc, ◌+◌, ◌-◌, ◌<◌, ◌≤◌}
@@ -7,58 +7,48 @@ use native.Mathlib.Omega.{arith}
 use native.Mathlib.Numerals.{add-one}
 use native.Mathlib.Decide.{dec_lt}
 use lib.Dec.{eqb}
-use lib.ListN.{length, take, drop, get_or, length-drop, drop_of_length-le}
-use lib.Seq.{drop-cons, take_all, drop-drop, length-take-le}
+use lib.ListN.{length, take, drop, length-drop}
+use lib.Seq.{take_all, drop-drop}
 use borrow.Author.Tests.{eq-eqb, ne_eqb}
+use Rattle.std.specs.Prelude.{Option, None, Some, MatchOption, unwrap_or, ◌≢◌}
+use Rattle.std.specs.Str.{bytes_eq}
+use Rattle.std.specs.List.{AllWithin, HoldsAt}
+use Rattle.std.proofs.lemmas.Iterator.{index_from_first}
 use Rattle.lines.specs.Base.{pick, same, grow, split}
 use Rattle.lines.specs.Code.{first}
 
-and_false : (a b : Bool) → b ≡ false → (a && b) ≡ false
-and_false true b e = e
-and_false false b e = refl
-
 -- ---- the same bytes
 
--- lists of different lengths differ
-pub same_length : (a b : List ℕ) → (length a ≡ length b → ⊥) → same a b ≡ false
+-- what `==` says of slices
+pub same_bytes : (a b : List ℕ) → bytes_eq a b ≡ same a b
 unfolding same
-same_length [] [] h = absurd (h refl)
-same_length [] (y ∷ ys) h = refl
-same_length (x ∷ xs) [] h = refl
-same_length (x ∷ xs) (y ∷ ys) h = and_false (eqb x y) (same xs ys) (same_length xs ys (λ e. h (ap suc e)))
+same_bytes [] [] = refl
+same_bytes [] (y ∷ ys) = refl
+same_bytes (x ∷ xs) [] = refl
+same_bytes (x ∷ xs) (y ∷ ys) = ap (λ (t : Bool). eqb x y && t) (same_bytes xs ys)
 
--- the first i bytes are alike: what is left decides
-module _ (a b : List ℕ) (i : ℕ) (la : i < length a) (lb : i < length b) where
-  pub same_more : get_or a i 0 ≡ get_or b i 0 → same (drop i a) (drop i b) ≡ same (drop (i + 1) a) (drop (i + 1) b)
-  unfolding same
-  same_more e = rw (add-one, drop-cons a i 0 la, drop-cons b i 0 lb, eq-eqb (get_or a i 0) (get_or b i 0) e)
-
-  pub same_stop : (get_or a i 0 ≡ get_or b i 0 → ⊥) → same (drop i a) (drop i b) ≡ false
-  unfolding same
-  same_stop e = rw (drop-cons a i 0 la, drop-cons b i 0 lb, ne_eqb (get_or a i 0) (get_or b i 0) e)
-
-pub same_end : (a b : List ℕ) (i : ℕ) → length a ≤ i → length b ≤ i → same (drop i a) (drop i b) ≡ true
-unfolding same
-same_end a b i la lb = rw (drop_of_length-le a {i = i} la, drop_of_length-le b {i = i} lb)
+-- .. as the code asks, whether a is the literal b, which is lent as s
+pub same_says : (a b s : List ℕ) (t : Bool) → s ≡ b → t ≡ bytes_eq a s → same a b ≡ t
+same_says a b s t e h = sym (same_bytes a b) ∙ sym (rw e at h)
 
 -- ---- the place of the first c
 
-module _ (c : ℕ) (s : List ℕ) (i : ℕ) where
-  pub first_here : i < length s → get_or s i 0 ≡ c → first c (drop i s) ≡ 0
-  unfolding first
-  first_here l e = rw (drop-cons s i 0 l, eq-eqb (get_or s i 0) c e)
+-- what `position` says of it
+module _ (c : ℕ) where
+  abbrev FirstAt : List ℕ → Option ℕ → Type 0
+  FirstAt s r = MatchOption r (AllWithin (λ x. x ≢ c) s 0 (length s)) (λ i. (i < length s) × HoldsAt (λ x. x ≡ c) s i × AllWithin (λ x. x ≢ c) s 0 i)
 
-  pub first_past : i < length s → (get_or s i 0 ≡ c → ⊥) → first c (drop i s) ≡ suc (first c (drop (i + 1) s))
+  pub first_found : (s : List ℕ) (r : Option ℕ) → FirstAt s r → unwrap_or r (length s) ≡ first c s
   unfolding first
-  first_past l e = rw (drop-cons s i 0 l, ne_eqb (get_or s i 0) c e, add-one)
+  first_found s r h = sym (index_from_first (first c) (λ x. x ≡ c) (λ x. x ≢ c) refl (λ x xs e. rw (eq-eqb x c e)) (λ x xs n. rw (ne_eqb x c n, add-one)) s r h)
 
-  pub first_end : length s ≤ i → first c (drop i s) ≡ 0
-  unfolding first
-  first_end l = rw (drop_of_length-le s {i = i} l)
-
--- one byte that is not c is passed
-pub first_skips : (c : ℕ) (s : List ℕ) (j k : ℕ) → k ≡ j + 1 → j < length s → (get_or s j 0 ≡ c → ⊥) → j + first c (drop j s) ≡ k + first c (drop k s)
-first_skips c s j k e l n = subst (λ (m : ℕ). j + first c (drop j s) ≡ m + first c (drop m s)) (sym e) (omega (arith, first_past c s j l n))
+  -- .. from a place on
+  pub first_from : (s : List ℕ) (at : ℕ) → at ≤ length s → (r : Option ℕ) → FirstAt (take (length s - at) (drop at s)) r → unwrap_or r (length s - at) ≡ first c (drop at s)
+  first_from s at inside r h =
+      let rest : List ℕ = take (length s - at) (drop at s) in
+      let whole : rest ≡ drop at s = take_all (length s - at) (drop at s) (omega (arith, length-drop at s)) in
+      let size : length rest ≡ length s - at = rw whole (length-drop at s) in
+      rw (size, whole) at (first_found rest r h)
 
 pub first_within : (c : ℕ) (s : List ℕ) → first c s ≤ length s
 unfolding first
@@ -94,6 +84,17 @@ split_first c (x ∷ xs) l = go (split_first c xs) (eqb x c) l
     go below true h = refl
     go below false h = rw (below (omega arith), grow)
 
+-- .. as `position` finds it
+module _ (c : ℕ) (s : List ℕ) where
+  pub cut_none : FirstAt c s None → split c s ≡ s ∷ []
+  cut_none h = split_last c s (omega (arith, first_found c s None h))
+
+  pub cut_some : (e : ℕ) → FirstAt c s (Some e) → split c s ≡ take e s ∷ split c (take (length s - (e + 1)) (drop (e + 1) s))
+  cut_some e h =
+      let found : e ≡ first c s = first_found c s (Some e) h in
+      let behind : take (length s - (e + 1)) (drop (e + 1) s) ≡ drop (e + 1) s = take_all (length s - (e + 1)) (drop (e + 1) s) (omega (arith, length-drop (e + 1) s)) in
+      rw (behind, add-one, found) (split_first c s (omega arith))
+
 -- .. as the code finds it: the part that starts at `at` ends at e
 module _ (c : ℕ) (s : List ℕ) (at e : ℕ) (inside : at ≤ length s) (end : e ≡ at + first c (drop at s)) where
   width : e - at ≡ first c (drop at s)
@@ -125,18 +126,3 @@ split_some c (x ∷ xs) = go (eqb x c) (split c xs)
     go true qs = ([], qs, refl)
     go false [] = (x ∷ [], [], refl)
     go false (q ∷ qs) = (x ∷ q, qs, refl)
-
--- the part that starts the text
-module _ (c : ℕ) (s : List ℕ) (e : ℕ) (end : e ≡ 0 + first c (drop 0 s)) where
-  from_zero : e - 0 ≡ e
-  from_zero = omega arith
-
-  pub head_last : length s ≤ e → split c s ≡ take e s ∷ []
-  head_last h = part_last c s 0 e (omega arith) end h ∙ rw from_zero
-
-  pub head_next : e < length s → split c s ≡ take e s ∷ split c (drop (e + 1) s)
-  head_next h = part_next c s 0 e (omega arith) end h ∙ rw from_zero
-
--- a part has its own length
-pub part_length : (c : ℕ) (s : List ℕ) (e : ℕ) → e ≡ 0 + first c (drop 0 s) → e ≡ length (take e s)
-part_length c s e end = sym (length-take-le e s (omega (arith, first_within c s)))

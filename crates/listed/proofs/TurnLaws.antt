@@ -1,17 +1,23 @@
--- A turn that is answered, over the part of the results that begins at its own record. Assumes nothing.
-use mathlib.Core.Path.{◌≡◌, ap, ap₂, ◌∙◌}
-use mathlib.Core.List.{List, [], ◌++◌, append-nil}
-use Prim.Native.Nat.{ℕ, ◌*◌, ◌/◌, ◌-◌, ◌<◌}
-use native.Mathlib.Omega.{arith}
-use lib.ListN.{length, take, drop, length-drop, drop_of_length-le}
-use lib.Seq.{take_all}
+-- A turn that is skipped, and one that is answered, over the part of the results that begins at its own record. Assumes nothing.
+use Rattle.std.proofs.Common.{◌≡◌, ℕ, ◌*◌, ◌/◌, ◌-◌, ◌<◌, ◌≤◌, ◌&&◌, List, [], ◌++◌, length, take, drop, ltb, ap, ap₂, ◌∙◌, arith, le-ltb, length-drop}
+use Rattle.std.proofs.Math.Bool.{and-false}
+use Rattle.std.proofs.Math.ListN.{drop_of_length-le}
+use Rattle.std.proofs.lemmas.List.{append-nil, take_all}
 use borrow.Rule.Slice.PartMut.{put_mid}
 use Rattle.definition.specs.Tables.{record_size, kinds}
 use Rattle.definition.specs.Request.{Request}
 use Rattle.definition.specs.Calls.{State}
 use Rattle.definition.specs.Plan.{Lent, lent, allocate_into}
-use Rattle.plan.specs.Steps.{numbered, answered, turned}
-use Rattle.plan.proofs.StepLaws.{turned_answers}
+use Rattle.plan.specs.Steps.{clear, numbered, answered, turned}
+use Rattle.plan.proofs.StepLaws.{not_clear, turned_skips, turned_answers}
+
+-- behind a refusal nothing is done
+pub refused_skips : (i : ℕ) (r : Request) (s : State) (out : List ℕ) → (s.said.number ≡ 0 → ⊥) → lent s out ≡ turned i r s out
+refused_skips i r s out f = turned_skips i r s out (ap (λ b. b && ltb i (length out / record_size)) (not_clear s f))
+
+-- .. and nothing where there is no room
+pub roomless_skips : (i : ℕ) (r : Request) (s : State) (out : List ℕ) → length out / record_size ≤ i → lent s out ≡ turned i r s out
+roomless_skips i r s out l = turned_skips i r s out (ap (λ b. clear s && b) (le-ltb i (length out / record_size) l) ∙ and-false (clear s))
 
 -- the part of the list from its own record on is lent and handed back
 pub part_answers : (i : ℕ) (r : Request) (s : State) (out : List ℕ) (t t' : State) (ys : List ℕ) → s.said.number ≡ 0 → i < length out / record_size

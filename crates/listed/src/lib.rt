@@ -12,30 +12,24 @@ use request::Request;
 use tables::{RECORD, State};
 
 // A refusal names its request.
-pub fn number(t: State, i: usize) -> State
+pub fn number(mut t: State, i: usize) -> State
     ensures { state_view result ≡ numbered i (state_view t) }
 {
-    if t.number == 0 {
-        return t;
+    if t.number != 0 {
+        t.index = i as u64;
     }
-    let mut next = t;
-    next.index = i as u64;
-    next
+    t
 }
 
 // One request in its turn: after a refusal nothing is done; else it is lent the part of the results that begins at its own record.
 pub fn turn(s: State, r: Request, i: usize, results: &mut [u64]) -> State
     ensures { lent (state_view result) results.new ≡ turned i (request_of r) (state_view s) results.old }
 {
-    if s.number == 0 {
-        if i < results.len() / RECORD {
-            let to = RECORD * i;
-            let t = allocation::allocate_into(s, r, &mut results[to..]);
-            return number(t, i);
-        }
+    if s.number != 0 || results.len() / RECORD <= i {
         return s;
     }
-    s
+    let t = allocation::allocate_into(s, r, &mut results[RECORD * i..]);
+    number(t, i)
 }
 
 // The thin reader: request i of the list in its turn.
@@ -43,6 +37,5 @@ pub fn one(s: State, requests: &[Request], i: usize, results: &mut [u64]) -> Sta
     requires { i < length requests.now }
     ensures { lent (state_view result) results.new ≡ turned i (request_of (get_or requests.now i nobody)) (state_view s) results.old }
 {
-    let r = plan::list::read(requests, i);
-    turn(s, r, i, results)
+    turn(s, plan::list::read(requests, i), i, results)
 }

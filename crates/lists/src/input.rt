@@ -1,187 +1,130 @@
 // The tables and the requests of the cases.
 use crate::lending::MOST;
 use choose::Choice;
-use choose::ids::{DeviceChoice, EventChoice, LpiChoice};
-use pool::{Call, Devices, Events, Hold, Lpis, PoolRange, Use};
+use pool::{Call, Hold, Ids, PoolRange, Use};
 use request::{Request, Want};
 use tables::{DeviceId, EventId, Lpi, ROWS, State};
 
 // The request that is in conflict stands here.
 pub const CONFLICT: usize = 64;
 
-const CALLS: u64 = 12;
+// What is wrong with a case: nothing, a request that asks for what an earlier one has, an owner table with one row more than it can have.
+#[derive(Clone, Copy, PartialEq, Eq)]
+pub enum Flaw {
+    Nothing,
+    Conflict,
+    Damaged,
+}
 
 // A pool of MSI numbers, all three from and to the same: from where LPIs start.
 pub fn domain(from: u32, to: u32) -> PoolRange {
-    let d = Devices {
-        start: DeviceId(from),
-        end: DeviceId(to),
-    };
-    let e = Events {
-        start: EventId(from),
-        end: EventId(to),
-    };
-    let l = Lpis {
-        start: Lpi(from),
-        end: Lpi(to),
-    };
-    PoolRange::Msi(1, 2, d, e, l)
+    PoolRange::Msi(
+        1,
+        2,
+        Ids {
+            start: DeviceId(from),
+            end: DeviceId(to),
+        },
+        Ids {
+            start: EventId(from),
+            end: EventId(to),
+        },
+        Ids {
+            start: Lpi(from),
+            end: Lpi(to),
+        },
+    )
 }
 
-// The pools that automatic requests search.
-pub fn automatic(i: u64) -> PoolRange {
-    if i == 0 {
-        return PoolRange::Mmio(0, 2147483648);
-    }
-    if i == 1 {
-        return PoolRange::Pio(0, 32752);
-    }
-    if i == 2 {
-        return PoolRange::Input(1, 0, 4096);
-    }
-    if i == 3 {
-        return PoolRange::Host(0, 4096);
-    }
-    domain(8192, 12288)
+// The calls that make the tables: the pools that automatic requests search, those that fixed requests are allowed in, one reservation, start.
+pub fn calls() -> [Call; 12] {
+    [
+        Call::Pool(Use::Automatic, PoolRange::Mmio(0, 2147483648)),
+        Call::Pool(Use::Automatic, PoolRange::Pio(0, 32752)),
+        Call::Pool(Use::Automatic, PoolRange::Input(1, 0, 4096)),
+        Call::Pool(Use::Automatic, PoolRange::Host(0, 4096)),
+        Call::Pool(Use::Automatic, domain(8192, 12288)),
+        Call::Pool(Use::Fixed, PoolRange::Mmio(2147483648, 4294967296)),
+        Call::Pool(Use::Fixed, PoolRange::Pio(40960, 65535)),
+        Call::Pool(Use::Fixed, PoolRange::Input(1, 4096, 8192)),
+        Call::Pool(Use::Fixed, PoolRange::Host(4096, 8192)),
+        Call::Pool(Use::Fixed, domain(12288, 16384)),
+        Call::Hold(7, Hold::Mmio(0, 4096)),
+        Call::Start,
+    ]
 }
 
-// Those that fixed requests are allowed in.
-pub fn fixed(i: u64) -> PoolRange {
-    if i == 0 {
-        return PoolRange::Mmio(2147483648, 4294967296);
-    }
-    if i == 1 {
-        return PoolRange::Pio(40960, 65535);
-    }
-    if i == 2 {
-        return PoolRange::Input(1, 4096, 8192);
-    }
-    if i == 3 {
-        return PoolRange::Host(4096, 8192);
-    }
-    domain(12288, 16384)
-}
-
-// The calls that make the tables: five pools and five, one reservation, start.
-pub fn call(i: u64) -> Call {
-    if i < 5 {
-        let p = automatic(i);
-        return Call::Pool(Use::Automatic, p);
-    }
-    if i < 10 {
-        let p = fixed(i - 5);
-        return Call::Pool(Use::Fixed, p);
-    }
-    if i == 10 {
-        return Call::Hold(7, Hold::Mmio(0, 4096));
-    }
-    Call::Start
-}
-
-pub fn tables() -> State {
+// The state as it is handed in.
+pub fn state(flaw: Flaw) -> State {
     let mut s = tables::fresh();
-    let mut i: u64 = 0;
-    while i < CALLS {
-        let c = call(i);
+    for c in calls() {
         s = pool::serve(s, c);
-        i += 1;
+    }
+    if flaw == Flaw::Damaged {
+        s.owners.host.n = ROWS + 1;
     }
     s
 }
 
-// One owner row more than a table has.
-pub fn damaged(s: State) -> State {
-    let mut t = s;
-    let mut owners = t.owners;
-    let mut host = owners.host;
-    host.n = ROWS + 1;
-    owners.host = host;
-    t.owners = owners;
-    t
-}
-
 // Five kinds in turn, five automatic and five fixed alternating.
-pub fn chosen(turn: u32, n: u64) -> Choice {
+pub fn chosen<T: Copy>(turn: u32, n: T) -> Choice<T> {
     if turn / 5 % 2 == 0 {
-        return Choice::Auto;
+        Choice::Auto
+    } else {
+        Choice::Fixed(n)
     }
-    Choice::Fixed(n)
 }
 
 // A device, its events and LPIs, all from one number on.
 pub fn msi(turn: u32, n: u32) -> Want {
-    if turn / 5 % 2 == 0 {
-        return Want::Msi {
-            controller: 1,
-            its: 2,
-            count: 4,
-            device: DeviceChoice::Auto,
-            event: EventChoice::Auto,
-            lpi: LpiChoice::Auto,
-        };
-    }
     Want::Msi {
         controller: 1,
         its: 2,
         count: 4,
-        device: DeviceChoice::Fixed(DeviceId(n)),
-        event: EventChoice::Fixed(EventId(n)),
-        lpi: LpiChoice::Fixed(Lpi(n)),
+        device: chosen(turn, DeviceId(n)),
+        event: chosen(turn, EventId(n)),
+        lpi: chosen(turn, Lpi(n)),
     }
 }
 
 pub fn want(turn: u32) -> Want {
     let k = turn as u64;
-    let kind = turn % 5;
-    if kind == 0 {
-        return Want::Mmio {
+    match turn % 5 {
+        0 => Want::Mmio {
             size: 4096,
             alignment: 4096,
             choice: chosen(turn, 2147483648 + 4096 * k),
-        };
-    }
-    if kind == 1 {
-        return Want::Pio {
+        },
+        1 => Want::Pio {
             size: 16,
             alignment: 16,
             choice: chosen(turn, 40960 + 16 * k),
-        };
-    }
-    if kind == 2 {
-        return Want::Input {
+        },
+        2 => Want::Input {
             controller: 1,
             trigger: 1,
             sharing: 0,
             choice: chosen(turn, 4096 + k),
-        };
-    }
-    if kind == 3 {
-        return Want::Host {
+        },
+        3 => Want::Host {
             choice: chosen(turn, 4096 + k),
-        };
+        },
+        _ => msi(turn, 12288 + 4 * (turn % 1000)),
     }
-    msi(turn, 12288 + 4 * (turn % 1000))
 }
 
 pub fn request(turn: u32) -> Request {
-    let want = want(turn);
     Request {
         requester: turn % 1000 + 1,
         slot: turn,
-        want,
+        want: want(turn),
     }
 }
 
 // All requests; the one in conflict asks for what an earlier one has.
-pub fn requests(conflict: bool) -> [Request; MOST] {
-    let first = request(0);
-    let mut list = [first; MOST];
-    let mut turn: usize = 0;
-    while turn < MOST {
-        list[turn] = request(turn as u32);
-        turn += 1;
-    }
-    if conflict {
+pub fn requests(flaw: Flaw) -> [Request; MOST] {
+    let mut list: [Request; MOST] = std::array::from_fn(|turn| request(turn as u32));
+    if flaw == Flaw::Conflict {
         list[CONFLICT] = request(5);
     }
     list

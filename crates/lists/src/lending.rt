@@ -13,18 +13,17 @@ use tables::{PLAN, State};
 pub const MOST: usize = PLAN + 1;
 
 // The first n requests planned, on a state by value.
-pub fn place(s: State, list: [Request; MOST], n: usize, results: &mut [u64]) -> State
+pub fn place(mut s: State, list: [Request; MOST], n: usize, results: &mut [u64]) -> State
     requires { n ≤ most }
     ensures { lent (state_view result) results.new ≡ plan (map request_of (take n list)) (state_view s) results.old }
 {
-    let mut t = s;
-    plan::list::plan_in(&mut t, &list[..n], results);
-    t
+    plan::list::plan_in(&mut s, &list[..n], results);
+    s
 }
 
 // The filled part of the same plan.
 pub fn filled<'a>(
-    s: State,
+    mut s: State,
     list: [Request; MOST],
     n: usize,
     results: &'a mut [u64],
@@ -32,6 +31,5 @@ pub fn filled<'a>(
     requires { n ≤ most }
     ensures { result.now ≡ filled (map request_of (take n list)) (state_view s) results.old }
 {
-    let mut t = s;
-    plan::list::plan(&mut t, &list[..n], results)
+    plan::list::plan(&mut s, &list[..n], results)
 }

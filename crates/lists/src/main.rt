@@ -5,147 +5,119 @@ mod expected;
 mod input;
 pub mod lending;
 
+use crate::input::{CONFLICT, Flaw};
 use crate::lending::MOST;
 use std::io;
-use tables::{PLAN, RECORD, State};
+use tables::{PLAN, RECORD};
 
 // Numbers of results: of the longest plan, and of one request more.
 const ALL: usize = RECORD * PLAN;
 
 const MORE: usize = RECORD * MOST;
 
-// A plan and its answer: n requests, of which one may be in conflict, room for so many numbers, the owner tables damaged or not.
+// A plan and its answer: n requests, what is wrong with them or with the tables, room for so many numbers; the five numbers of the answer, and how many requests are accepted.
 #[derive(Clone, Copy)]
 pub struct Case {
     pub n: usize,
+    pub flaw: Flaw,
     pub room: usize,
-    pub conflict: bool,
-    pub damaged: bool,
-    pub number: u64,
+    pub answer: [u64; 5],
     pub accepted: usize,
 }
 
-const CASES: u64 = 8;
+// The longest plan.
+const LONGEST: Case = Case {
+    n: PLAN,
+    flaw: Flaw::Nothing,
+    room: ALL,
+    answer: [0; 5],
+    accepted: PLAN,
+};
 
-// 0 the longest plan, 1 one of eight, 2 none, 3 a refusal in the middle, 4 one number of results too few, 5 one request too many, 6 the same with too few results, 7 unsound tables.
-pub fn case_at(k: u64) -> Case {
-    let mut c = Case {
-        n: PLAN,
-        room: ALL,
-        conflict: false,
-        damaged: false,
-        number: 0,
-        accepted: PLAN,
-    };
-    if k == 0 {
-        return c;
-    }
-    if k == 1 {
-        c.n = 8;
-        c.accepted = 8;
-        return c;
-    }
-    if k == 2 {
-        c.n = 0;
-        c.room = 0;
-        c.accepted = 0;
-        return c;
-    }
-    if k == 3 {
-        c.conflict = true;
-        c.number = 8;
-        c.accepted = input::CONFLICT;
-        return c;
-    }
-    c.accepted = 0;
-    c.number = 11;
-    if k == 4 {
-        c.room = ALL - 1;
-        return c;
-    }
-    if k == 5 {
-        c.n = MOST;
-        c.room = MORE;
-        return c;
-    }
-    if k == 6 {
-        c.n = MOST;
-        return c;
-    }
-    c.damaged = true;
-    c.number = 1;
-    c
-}
+// A plan that is refused with 11, and writes nothing.
+const SHORT: Case = Case {
+    answer: [11, 0, 0, 0, 0],
+    accepted: 0,
+    ..LONGEST
+};
 
-// The state as it is handed in.
-pub fn given(c: Case) -> State {
-    let s = input::tables();
-    if c.damaged {
-        return input::damaged(s);
-    }
-    s
-}
+const CASES: [Case; 8] = [
+    LONGEST,
+    // one of eight
+    Case {
+        n: 8,
+        accepted: 8,
+        ..LONGEST
+    },
+    // none
+    Case {
+        n: 0,
+        room: 0,
+        accepted: 0,
+        ..LONGEST
+    },
+    // a refusal in the middle
+    Case {
+        flaw: Flaw::Conflict,
+        answer: [8, CONFLICT as u64, 1, 6, 1],
+        accepted: CONFLICT,
+        ..LONGEST
+    },
+    // one number of results too few
+    Case {
+        room: ALL - 1,
+        ..SHORT
+    },
+    // one request too many
+    Case {
+        n: MOST,
+        room: MORE,
+        ..SHORT
+    },
+    // the same with too few results
+    Case { n: MOST, ..SHORT },
+    // unsound tables
+    Case {
+        flaw: Flaw::Damaged,
+        answer: [1, 0, 0, 0, 0],
+        ..SHORT
+    },
+];
 
 // The plan on the state lent, over results that begin as nines.
-pub fn in_place(c: Case, out: &mut [u64]) -> bool {
-    if MOST < c.n {
+pub fn in_place(c: Case) -> bool {
+    if MOST < c.n || MORE < c.room {
         return false;
     }
-    if out.len() < c.room {
-        return false;
-    }
-    let room = c.room;
-    let list = input::requests(c.conflict);
-    let s = given(c);
-    let t = lending::place(s, list, c.n, &mut out[..room]);
-    if !expected::answer(t, c.number, c.accepted) {
-        return false;
-    }
-    if !expected::owners(t, c.number, c.accepted, c.damaged) {
-        return false;
-    }
-    expected::records(out, c.accepted)
-}
-
-// The filled part that is handed back.
-pub fn part(c: Case, out: &mut [u64]) -> bool {
-    if MOST < c.n {
-        return false;
-    }
-    if out.len() < c.room {
-        return false;
-    }
-    let room = c.room;
-    let list = input::requests(c.conflict);
-    let s = given(c);
-    let front = lending::filled(s, list, c.n, &mut out[..room]);
-    expected::front(front, c.accepted)
-}
-
-pub fn tried(c: Case) -> bool {
     let mut out = [9u64; MORE];
-    in_place(c, &mut out)
+    let list = input::requests(c.flaw);
+    let t = lending::place(input::state(c.flaw), list, c.n, &mut out[..c.room]);
+    expected::answer(&t) == c.answer
+        && expected::owners(&t, c)
+        && out == expected::results(c.accepted)
 }
 
-pub fn handed(c: Case) -> bool {
+// The filled part that is handed back: these records and nothing else.
+pub fn part(c: Case) -> bool {
+    if MOST < c.n || MORE < c.room || MOST < c.accepted {
+        return false;
+    }
     let mut out = [9u64; MORE];
-    part(c, &mut out)
+    let list = input::requests(c.flaw);
+    let front = lending::filled(input::state(c.flaw), list, c.n, &mut out[..c.room]);
+    front[..] == expected::results(c.accepted)[..RECORD * c.accepted]
 }
 
 fn main(rt: HostRuntime) -> io::Result<()> {
-    let mut k: u64 = 0;
-    while k < CASES {
-        let c = case_at(k);
-        if tried(c) {
-            if handed(c) {
-                println!(rt; "{k} passed")?;
-            } else {
-                println!(rt; "{k} plan failed")?;
-            }
+    for (k, c) in CASES.iter().enumerate() {
+        let said = if !in_place(*c) {
+            "plan_in failed"
+        } else if !part(*c) {
+            "plan failed"
         } else {
-            println!(rt; "{k} plan_in failed")?;
-        }
-        k += 1;
+            "passed"
+        };
+        println!(rt; "{k} {said}")?;
     }
     Ok(())
 }

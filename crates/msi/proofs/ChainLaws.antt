@@ -1,13 +1,14 @@
 -- The ways out of an MSI request: each refusal in its turn, and room last. Assumes nothing.
 use mathlib.Core.Path.{◌≡◌, refl, sym, ◌∙◌}
 use mathlib.Core.Bool.{Bool, true, false, ◌&&◌}
+use mathlib.Core.List.{List}
 use Prim.Native.Nat.{ℕ}
 use lib.Dec.{ltb}
 use lib.ListN.{length}
 use Rattle.definition.specs.Base.{all_of, full, accepted, refused, require}
 use Rattle.definition.specs.Tables.{row_limit}
 use Rattle.definition.specs.Base as F
-use Rattle.definition.specs.Pools.{Holders, room}
+use Rattle.definition.specs.Pools.{Holders, Claim, room}
 use Rattle.definition.specs.Request.{Need, row_at, auto, at, automatic, fixed, Pools, place, claims}
 use Rattle.definition.specs.Request as R
 use Rattle.tables.specs.declared.DeviceId.{DeviceId}
@@ -17,7 +18,7 @@ use Rattle.search.specs.Asks.{need_of}
 use Rattle.choose.specs.Told.{place_in}
 use Rattle.choose.specs.Ids.{device_choice, event_choice, lpi_choice}
 use Rattle.msi.specs.declared.Msi.{Msi}
-use Rattle.msi.specs.Msi.{Part, place_part, device_need, event_need, lpi_need, msi_rows, told_msi, pick_room, with_room, msi_pools, msi_holders, msi_in}
+use Rattle.msi.specs.Msi.{Part, place_part, device_need, event_need, lpi_need, msi_rows, all_room, msi_pools, msi_holders, msi_in}
 
 -- `place` reads the lists of the need's kind alone
 pub place_in_is : (P : Pools) (S : Holders) (n : Need) (c : R.Choice) → place P S n c ≡ place_in (P automatic n.kind) (P fixed n.kind) (S n.kind) n c
@@ -25,12 +26,12 @@ unfolding place
 place_in_is P S n auto = refl
 place_in_is P S n (at b) = refl
 
-room_is : (m : Msi) (x : DeviceId) (z : EventId) (v : Lpi) (p q r : Bool) → told_msi m (pick_room (p && (q && r)) x z v) ≡ require (p && (q && (r && true))) full (accepted (msi_rows m x z v))
+room_is : (cs : List Claim) (p q r w : Bool) → p && (q && r) ≡ w → require w full (accepted cs) ≡ require (p && (q && (r && true))) full (accepted cs)
 unfolding require
-room_is m x z v true true true = refl
-room_is m x z v true true false = refl
-room_is m x z v true false r = refl
-room_is m x z v false q r = refl
+room_is cs true true true w e = rw (← e) refl
+room_is cs true true false w e = rw (← e) refl
+room_is cs true false r w e = rw (← e) refl
+room_is cs false q r w e = rw (← e) refl
 
 module _ (d e l : Part) (m : Msi) where
   abbrev P : Pools
@@ -56,9 +57,9 @@ module _ (d e l : Part) (m : Msi) where
       unfolding claims row_at
       no_lpi y g = rw (place_in_is P S (need_of (device_need m)) (device_choice m.device), ← h, place_in_is P S (need_of (event_need m x)) (event_choice m.event), ← k, place_in_is P S (need_of (lpi_need m)) (lpi_choice m.lpi), ← g)
 
-      pub all_three : (v : Lpi) (dn en ln : ℕ) → accepted (row_at (need_of (lpi_need m)) v.0) ≡ place_part l (need_of (lpi_need m)) (lpi_choice m.lpi)
-          → length d.rows ≡ dn → length e.rows ≡ en → length l.rows ≡ ln → told_msi m (with_room x z v dn en ln) ≡ msi_in d e l m
+      pub all_three : (v : Lpi) (dn en ln : ℕ) (w : Bool) → accepted (row_at (need_of (lpi_need m)) v.0) ≡ place_part l (need_of (lpi_need m)) (lpi_choice m.lpi)
+          → length d.rows ≡ dn → length e.rows ≡ en → length l.rows ≡ ln → all_room dn en ln ≡ w → require w full (accepted (msi_rows m x z v)) ≡ msi_in d e l m
       unfolding claims row_at room all_of
-      all_three v dn en ln g a b c =
+      all_three v dn en ln w g a b c h' =
           rw (place_in_is P S (need_of (device_need m)) (device_choice m.device), ← h, place_in_is P S (need_of (event_need m x)) (event_choice m.event), ← k, place_in_is P S (need_of (lpi_need m)) (lpi_choice m.lpi), ← g, a, b, c)
-          (room_is m x z v (ltb dn row_limit) (ltb en row_limit) (ltb ln row_limit))
+          (room_is (msi_rows m x z v) (ltb dn row_limit) (ltb en row_limit) (ltb ln row_limit) w h')

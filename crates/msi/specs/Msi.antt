@@ -1,5 +1,5 @@
 -- What an MSI request asks of its three tables, what comes of their answers, and the definition's answer over the lists of the three kinds. Assumes nothing.
-use Rattle.std.specs.Prelude.{Bool, true, false, ◌&&◌, List, [], ◌∷◌, ℕ, ◌+◌, ◌^◌, ltb}
+use Rattle.std.specs.Prelude.{Bool, true, false, ◌&&◌, List, [], ◌∷◌, ℕ, ◌+◌, ◌^◌, ltb, Result, Ok, Err}
 use Rattle.definition.specs.Base.{full, Answer, accepted, refused, require, ◌then◌}
 use Rattle.definition.specs.Tables.{row_limit, mmio, pio, input, host, device, event, lpi, Span, Row, used}
 use Rattle.definition.specs.Pools.{at_kind, Holders, Claim, room}
@@ -17,18 +17,9 @@ use Rattle.tables.specs.declared.Kind.TheVariants as K
 use Rattle.search.specs.declared.Need.{Need}
 use Rattle.choose.specs.Told.{refusal_of, place_in}
 use Rattle.choose.specs.Ids.{device_choice, event_choice, lpi_choice}
-use Rattle.choose.specs.declared.Refusal.TheVariants.{Full}
-use Rattle.choose.specs.declared.Chosen.{Chosen}
-use Rattle.choose.specs.declared.Chosen.TheVariants as C
+use Rattle.choose.specs.declared.Refusal.{Refusal}
 use Rattle.msi.specs.declared.Msi.{Msi}
-use Rattle.msi.specs.declared.DeviceChosen.{DeviceChosen}
-use Rattle.msi.specs.declared.DeviceChosen.TheVariants as D'
-use Rattle.msi.specs.declared.EventChosen.{EventChosen}
-use Rattle.msi.specs.declared.EventChosen.TheVariants as E'
-use Rattle.msi.specs.declared.LpiChosen.{LpiChosen}
-use Rattle.msi.specs.declared.LpiChosen.TheVariants as L'
-use Rattle.msi.specs.declared.MsiChosen.{MsiChosen}
-use Rattle.msi.specs.declared.MsiChosen.TheVariants.{Stands, Refused}
+use Rattle.msi.specs.declared.MsiIds.{MsiIds}
 use Rattle.msi.specs.declared.MsiRows.{MsiRows}
 
 -- ---- what each table is asked
@@ -52,37 +43,11 @@ if_fits false b = 0
 abbrev pub narrowed : ℕ → ℕ
 narrowed b = if_fits (ltb b (2 ^ 32)) b
 
-abbrev pub device_in : Chosen → DeviceChosen
-device_in (C.Stands b end) = D'.Stands (record { 0 = narrowed b })
-device_in (C.Refused y) = D'.Refused y
-
-abbrev pub event_in : Chosen → EventChosen
-event_in (C.Stands b end) = E'.Stands (record { 0 = narrowed b })
-event_in (C.Refused y) = E'.Refused y
-
-abbrev pub lpi_in : Chosen → LpiChosen
-lpi_in (C.Stands b end) = L'.Stands (record { 0 = narrowed b })
-lpi_in (C.Refused y) = L'.Refused y
-
 -- ---- what comes of all three
 
 -- each of the three tables has a free row
 abbrev pub all_room : ℕ → ℕ → ℕ → Bool
 all_room dn en ln = ltb dn row_limit && (ltb en row_limit && ltb ln row_limit)
-
-abbrev pub pick_room : Bool → DeviceId → EventId → Lpi → MsiChosen
-pick_room true d e l = Stands d e l
-pick_room false d e l = Refused Full
-
-abbrev pub with_room : DeviceId → EventId → Lpi → ℕ → ℕ → ℕ → MsiChosen
-with_room d e l dn en ln = pick_room (all_room dn en ln) d e l
-
--- each refusal in its turn, and room last
-abbrev pub chained : DeviceChosen → EventChosen → LpiChosen → ℕ → ℕ → ℕ → MsiChosen
-chained (D'.Refused y) second third dn en ln = Refused y
-chained (D'.Stands d) (E'.Refused y) third dn en ln = Refused y
-chained (D'.Stands d) (E'.Stands e) (L'.Refused y) dn en ln = Refused y
-chained (D'.Stands d) (E'.Stands e) (L'.Stands l) dn en ln = with_room d e l dn en ln
 
 -- the row of a need from a number on
 abbrev pub row_from : Need → ℕ → RangeRow
@@ -97,9 +62,9 @@ abbrev pub msi_rows : Msi → DeviceId → EventId → Lpi → List Claim
 msi_rows m d e l =
     at_kind device (row_at (need_of (device_need m)) d.0) ∷ at_kind event (row_at (need_of (event_need m d)) e.0) ∷ at_kind lpi (row_at (need_of (lpi_need m)) l.0) ∷ []
 
-abbrev pub told_msi : Msi → MsiChosen → Answer (List Claim)
-told_msi m (Stands d e l) = accepted (msi_rows m d e l)
-told_msi m (Refused y) = refused (refusal_of y)
+abbrev pub told_msi : Msi → Result MsiIds Refusal → Answer (List Claim)
+told_msi m (Ok ids) = accepted (msi_rows m ids.device ids.event ids.lpi)
+told_msi m (Err y) = refused (refusal_of y)
 
 -- the used rows of one kind's tables
 pub record Part : Type 0 where

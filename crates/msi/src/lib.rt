@@ -1,55 +1,41 @@
-// An MSI request: a device, then a run of its events, then a run of LPIs. What each of the three tables is asked, what its answer means, and what comes of all three. No table is read or changed here.
+// An MSI request: a device, then a run of its events, then a run of LPIs. What each of the three tables is asked, and what comes of all three: tables are lent, and nothing is changed here.
 #![tactic(auto)]
 
-ghost use Rattle.std.specs.Prelude.{◌≡◌, ◌≤◌};
-ghost use Rattle.msi.specs.Msi.{device_need, event_need, lpi_need, narrowed, device_in, event_in, lpi_in, with_room, chained, row_from, rows_of};
+ghost use Rattle.std.specs.Prelude.{◌≡◌, ◌≤◌, ◌<◌, IfOk};
+ghost use Rattle.msi.specs.Msi.{device_need, event_need, lpi_need, narrowed, row_from, rows_of};
+ghost use Rattle.tables.specs.Sized.{SizedRanges};
+ghost use Rattle.msi.specs.Finds.{Ready, Found, RoomIs};
+ghost use Rattle.definition.specs.Tables.{device as devices_kind, event as events_kind, lpi as lpis_kind};
 
-use choose::ids::{DeviceChoice, EventChoice, LpiChoice};
-use choose::{Chosen, Refusal};
+use choose::range::place;
+use choose::{Choice, Lent, Refusal, Run};
 use search::Need;
-use tables::{DeviceId, EventId, Kind, Lpi, ROWS, RangeRow};
+use tables::{DeviceId, EventId, Id, Kind, Lpi, RangeRow, Ranges};
 
 const TOP_32: u64 = 4294967295;
 
 // What an MSI request asks: `count` events of one device of an ITS, and as many LPIs of its controller.
-#[derive(Clone, Copy)]
+#[derive(Clone, Copy, Debug, PartialEq, Eq)]
 pub struct Msi {
     pub controller: u32,
     pub its: u32,
     pub count: u32,
     pub requester: u32,
-    pub device: DeviceChoice,
-    pub event: EventChoice,
-    pub lpi: LpiChoice,
+    pub device: Choice<DeviceId>,
+    pub event: Choice<EventId>,
+    pub lpi: Choice<Lpi>,
 }
 
-#[derive(Clone, Copy)]
-pub enum DeviceChosen {
-    Stands(DeviceId),
-    Refused(Refusal),
-}
-
-#[derive(Clone, Copy)]
-pub enum EventChosen {
-    Stands(EventId),
-    Refused(Refusal),
-}
-
-#[derive(Clone, Copy)]
-pub enum LpiChosen {
-    Stands(Lpi),
-    Refused(Refusal),
-}
-
-// The three first numbers that are granted, or why they are not.
-#[derive(Clone, Copy)]
-pub enum MsiChosen {
-    Stands(DeviceId, EventId, Lpi),
-    Refused(Refusal),
+// The three first numbers that are granted.
+#[derive(Clone, Copy, Debug, PartialEq, Eq)]
+pub struct MsiIds {
+    pub device: DeviceId,
+    pub event: EventId,
+    pub lpi: Lpi,
 }
 
 // The row of each of the three tables.
-#[derive(Clone, Copy)]
+#[derive(Clone, Copy, Debug, PartialEq, Eq)]
 pub struct MsiRows {
     pub device: RangeRow,
     pub event: RangeRow,
@@ -82,7 +68,7 @@ pub fn event_need(m: Msi, device: DeviceId) -> Need
         controller: m.controller,
         its: m.its,
         device: device.0,
-        size: m.count as u64,
+        size: u64::from(m.count),
         alignment: 1,
         requester: m.requester,
     }
@@ -97,7 +83,7 @@ pub fn lpi_need(m: Msi) -> Need
         controller: m.controller,
         its: 0,
         device: 0,
-        size: m.count as u64,
+        size: u64::from(m.count),
         alignment: 1,
         requester: m.requester,
     }
@@ -109,100 +95,69 @@ pub fn lpi_need(m: Msi) -> Need
 pub fn narrow(b: u64) -> u32
     ensures { result ≡ narrowed b }
 {
-    if b <= TOP_32 {
-        return b as u32;
-    }
-    0
+    if b <= TOP_32 { b as u32 } else { 0 }
 }
 
-pub fn device(c: Chosen) -> DeviceChosen
-    ensures { result ≡ device_in c }
+// The first number of a run.
+pub fn first_of<T: Id>(run: Run) -> T
+    ensures { result ≡ T.of (narrowed run.start) }
 {
-    match c {
-        Chosen::Refused(y) => DeviceChosen::Refused(y),
-        Chosen::Stands(b, _) => {
-            let number = narrow(b);
-            DeviceChosen::Stands(DeviceId(number))
-        }
-    }
-}
-
-pub fn event(c: Chosen) -> EventChosen
-    ensures { result ≡ event_in c }
-{
-    match c {
-        Chosen::Refused(y) => EventChosen::Refused(y),
-        Chosen::Stands(b, _) => {
-            let number = narrow(b);
-            EventChosen::Stands(EventId(number))
-        }
-    }
-}
-
-pub fn lpi(c: Chosen) -> LpiChosen
-    ensures { result ≡ lpi_in c }
-{
-    match c {
-        Chosen::Refused(y) => LpiChosen::Refused(y),
-        Chosen::Stands(b, _) => {
-            let number = narrow(b);
-            LpiChosen::Stands(Lpi(number))
-        }
-    }
+    T::new(narrow(run.start))
 }
 
 // ---- what comes of all three
 
 // What stands if each of the three tables has a free row: 9 comes last.
 pub fn with_room(
-    device: DeviceId,
-    event: EventId,
-    lpi: Lpi,
-    dn: usize,
-    en: usize,
-    ln: usize,
-) -> MsiChosen
-    ensures { result ≡ with_room device event lpi dn en ln }
+    ids: MsiIds,
+    devices: &Ranges,
+    events: &Ranges,
+    lpis: &Ranges,
+) -> Result<MsiIds, Refusal>
+    ensures room { RoomIs ids devices.now.n events.now.n lpis.now.n result }
+    ensures devices { SizedRanges devices.now }
+    ensures events { SizedRanges events.now }
+    ensures lpis { SizedRanges lpis.now }
 {
-    if dn < ROWS {
-        if en < ROWS {
-            if ln < ROWS {
-                return MsiChosen::Stands(device, event, lpi);
-            }
-        }
+    let device = devices.has_room();
+    let event = events.has_room();
+    let lpi = lpis.has_room();
+    if device && event && lpi {
+        Ok(ids)
+    } else {
+        Err(Refusal::Full)
     }
-    MsiChosen::Refused(Refusal::Full)
 }
 
 // The refusal of the device, then of its events, then of the LPIs, then Full. Behind a refusal nothing is looked at.
-pub fn chain(
-    first: DeviceChosen,
-    second: EventChosen,
-    third: LpiChosen,
-    dn: usize,
-    en: usize,
-    ln: usize,
-) -> MsiChosen
-    ensures { result ≡ chained first second third dn en ln }
+pub fn find(
+    devices: Lent<'_, Ranges>,
+    events: Lent<'_, Ranges>,
+    lpis: Lent<'_, Ranges>,
+    m: Msi,
+) -> Result<MsiIds, Refusal>
+    requires devices { Ready devices_kind devices.auto.now devices.fixed.now devices.owners.now }
+    requires events { Ready events_kind events.auto.now events.fixed.now events.owners.now }
+    requires lpis { Ready lpis_kind lpis.auto.now lpis.fixed.now lpis.owners.now }
+    requires some { 0 < m.count }
+    ensures found { Found devices.entry.auto.now devices.entry.fixed.now devices.entry.owners.now events.entry.auto.now events.entry.fixed.now events.entry.owners.now lpis.entry.auto.now lpis.entry.fixed.now lpis.entry.owners.now m result }
+    ensures sized { IfOk result (λ _. SizedRanges devices.entry.owners.now × (SizedRanges events.entry.owners.now × SizedRanges lpis.entry.owners.now)) }
 {
-    match first {
-        DeviceChosen::Refused(y) => MsiChosen::Refused(y),
-        DeviceChosen::Stands(device) => match second {
-            EventChosen::Refused(y) => MsiChosen::Refused(y),
-            EventChosen::Stands(event) => match third {
-                LpiChosen::Refused(y) => MsiChosen::Refused(y),
-                LpiChosen::Stands(lpi) => with_room(device, event, lpi, dn, en, ln),
-            },
-        },
-    }
+    let device: DeviceId = first_of(place(devices, device_need(m), m.device.plain())?);
+    let event: EventId = first_of(place(events, event_need(m, device), m.event.plain())?);
+    let lpi: Lpi = first_of(place(lpis, lpi_need(m), m.lpi.plain())?);
+    let ids = MsiIds { device, event, lpi };
+    with_room(ids, devices.owners, events.owners, lpis.owners)
 }
+
+// ---- the rows to be stored
 
 // The row of a need, from a number on.
 pub fn row(n: Need, start: u32) -> RangeRow
     requires { n.size ≤ 4294967295 }
     ensures { result ≡ row_from n start }
 {
-    let start = start as u64;
+    let start = u64::from(start);
     RangeRow {
         controller: n.controller,
         its: n.its,
@@ -213,16 +168,13 @@ pub fn row(n: Need, start: u32) -> RangeRow
     }
 }
 
-// The rows to be stored: the device, its run of events, and the run of LPIs.
-pub fn rows(m: Msi, device: DeviceId, event: EventId, lpi: Lpi) -> MsiRows
-    ensures { result ≡ rows_of m device event lpi }
+// The device, its run of events, and the run of LPIs.
+pub fn rows(m: Msi, ids: MsiIds) -> MsiRows
+    ensures { result ≡ rows_of m ids.device ids.event ids.lpi }
 {
-    let first = row(device_need(m), device.0);
-    let second = row(event_need(m, device), event.0);
-    let third = row(lpi_need(m), lpi.0);
     MsiRows {
-        device: first,
-        event: second,
-        lpi: third,
+        device: row(device_need(m), ids.device.0),
+        event: row(event_need(m, ids.device), ids.event.0),
+        lpi: row(lpi_need(m), ids.lpi.0),
     }
 }

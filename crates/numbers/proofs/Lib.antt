@@ -1,7 +1,5 @@
-pub mod NarrowLaws
-pub mod SizeLaws
-pub mod CallLaws
 pub mod ReadLaws
+pub mod AskedLaws
 pub mod LentLaws
-pub mod ServeLaws
 pub mod FoundLaws
+pub mod CallLaws

@@ -1,69 +1,58 @@
 // What is read back of a state: which part of it a list of numbers asks for, and what was found, told into a lent list; and what an exported plan answers with.
-ghost use Rattle.std.specs.Prelude.{◌≡◌};
+ghost use Rattle.std.specs.Prelude.{◌≡◌, Ok};
+ghost use Rattle.tables.specs.Views.{state_view};
 ghost use Rattle.numbers.specs.Rows.{told};
-ghost use Rattle.numbers.specs.Lent.{filled_by};
-ghost use Rattle.numbers.specs.Back.{enough, which_in, found_of, found_told, read_by};
+ghost use Rattle.numbers.specs.Lent.{filled_by, read_told};
+ghost use Rattle.numbers.specs.Back.{which_in, found_of, found_told, read_by};
+ghost use Rattle.numbers.specs.Reading.{code_of};
 
-use super::row::{Found, Which};
-use super::{number, tell};
+use super::row::{Numbers, Which, row};
+use super::{number, put, tell};
 use flat::REQUEST;
-use inplace::marks::Marks;
-use tables::{PLAN, RECORD};
+use inplace::marks::{Marks, peek};
+use insert::{Refused, Reply};
+use tables::{PLAN, RECORD, State};
 
-// As many numbers as what is read takes: the last answer one, a row three.
-#[tactic(auto, using(crate::proofs::FoundLaws::enough_one, crate::proofs::FoundLaws::enough_three))]
-fn is_enough(part: u64, long: usize) -> bool
-    ensures { result ≡ enough part long }
-{
-    if part == 0 {
-        return 0 < long;
-    }
-    3 <= long
-}
-
-#[tactic(auto, using(crate::proofs::FoundLaws::which_is))]
-pub fn which(what: &[u64]) -> Which
+// What is asked for: the last answer takes one number, a row three.
+#[tactic(auto)]
+pub fn which(what: &[u64]) -> Result<Which, Refused>
     ensures { result ≡ which_in what.now }
 {
     let part = number(what, 0);
-    let kind = number(what, 1);
-    let row = number(what, 2);
-    let whole = is_enough(part, what.len());
-    Which {
-        whole,
-        part,
-        kind,
-        row,
+    let least = if part == 0 { 1 } else { 3 };
+    if what.len() < least {
+        return Err(Refused::Short);
     }
+    let (kind, row) = (number(what, 1), number(what, 2));
+    Ok(Which { part, kind, row })
 }
 
 // A row into a lent list: 2 where no table has it, 11 where the list is too short.
-#[tactic(auto, using(crate::proofs::FoundLaws::found_none, crate::proofs::FoundLaws::found_short, crate::proofs::FoundLaws::found_written))]
-fn tell_row(x: Found, out: &mut [u64]) -> u64
-    ensures { told result out.new ≡ found_told (found_of x) out.old }
+#[tactic(auto, using(crate::proofs::FoundLaws::put_row))]
+fn tell_row(found: Option<Numbers>, out: &mut [u64]) -> Reply
+    ensures { told (code_of result) out.new ≡ found_told (found_of found) out.old }
 {
-    if !x.there {
-        return 2;
-    }
-    if out.len() < RECORD {
-        return 11;
-    }
-    allocation::write_record(out, x.numbers);
-    0
+    put(&found.ok_or(Refused::BadInput)?, out)
 }
 
 // What was read, told: the last answer, or the row.
-#[tactic(auto, using(crate::proofs::FoundLaws::read_short, crate::proofs::FoundLaws::read_answer, crate::proofs::FoundLaws::read_row))]
-pub fn tell_read(k: Which, m: Marks, x: Found, out: &mut [u64]) -> u64
-    ensures { told result out.new ≡ read_by k m (found_of x) out.old }
+pub fn tell_read(k: Which, m: Marks, x: Option<Numbers>, out: &mut [u64]) -> Reply
+    ensures { told (code_of result) out.new ≡ read_by (Ok k) m (found_of x) out.old }
 {
-    if !k.whole {
-        return 11;
-    }
     if k.part == 0 {
-        return tell(m, out);
+        tell(m, out)
+    } else {
+        tell_row(x, out)
     }
-    tell_row(x, out)
+}
+
+// Reading back, from the numbers that say what.
+#[tactic(auto, using(crate::proofs::FoundLaws::read_short, crate::proofs::FoundLaws::read_whole))]
+pub fn read(s: &State, what: &[u64], out: &mut [u64]) -> Reply
+    ensures { told (code_of result) out.new ≡ read_told what.now (state_view s.now) out.old }
+{
+    let k = which(what)?;
+    tell_read(k, peek(s), row(s, k), out)
 }
 
 // How many numbers of its results a plan has filled: nine a request, of all its requests or of those before the refused one.
@@ -72,11 +61,10 @@ pub fn filled(number: u64, index: u64, long: usize) -> u64
     ensures { result ≡ filled_by number index long }
 {
     if number == 0 {
-        let n = long / REQUEST;
-        return RECORD as u64 * n as u64;
+        (RECORD * (long / REQUEST)) as u64
+    } else if index <= PLAN as u64 {
+        RECORD as u64 * index
+    } else {
+        0
     }
-    if (PLAN as u64) < index {
-        return 0;
-    }
-    RECORD as u64 * index
 }

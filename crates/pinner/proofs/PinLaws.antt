@@ -1,5 +1,6 @@
 -- What stands in front of the buffer is the definition's answer to the bytes read: the pinned text, or the line `no`. Assumes nothing.
-use mathlib.Core.Path.{◌≡◌, refl, sym, ap, subst, ◌∙◌}
+use mathlib.Core.Path.{◌≡◌, refl, sym, ap, ap₂, subst, ◌∙◌}
+use Rattle.std.proofs.Common.{Ok, Err}
 use mathlib.Core.Logic.{◌⊎◌, inl, inr}
 use mathlib.Core.Bool.{Bool, true, false}
 use mathlib.Core.List.{List, [], ◌++◌, map}
@@ -7,7 +8,7 @@ use Prim.Native.Nat.{ℕ, ◌+◌, ◌≤◌, ◌<◌}
 use native.Mathlib.Omega.{arith}
 use lib.Dec.{leb}
 use lib.ListN.{length, take, drop, get_or, length-append}
-use lib.Seq.{sets-eq, take_at}
+use lib.Seq.{take_at}
 use borrow.Author.Tests.{eqb-false, le-leb, leb-true}
 use Rattle.definition.specs.Base.{says}
 use Rattle.definition.proofs.BaseLaws.{and_false}
@@ -20,9 +21,12 @@ use Rattle.lines.specs.Text.{Sofar, accepts, overlong, ended}
 use Rattle.lines.specs.Back.{back, Pinned, pinning, pinned_by, pins_to, pinned_output, pin_output}
 use Rattle.lines.proofs.FeedLaws.{ended_long}
 use Rattle.lines.proofs.Longest.{no_length}
-use Rattle.writers.specs.Put.{Put}
-use Rattle.write_back.specs.Answer.{answer_of}
-use Rattle.write_back.specs.declared.Written.{Written}
+use Rattle.writers.specs.declared.put.Page.{Page}
+use Rattle.writers.specs.declared.output.Refused.{Refused as R}
+use Rattle.writers.specs.Put.{Room, Puts}
+use Rattle.writers.specs.Refuses.{refused_line}
+use Rattle.writers.proofs.PutLaws.{put_exact, puts_length}
+use Rattle.write_back.specs.Answer.{numbers_of, answer_of}
 
 -- ---- texts longer than the longest are answered alike
 
@@ -39,9 +43,9 @@ alike_pin a b l m = over a l ∙ sym (over b m)
 abbrev no_of : List ℕ → List ℕ
 no_of five = line_with (bytes "no") (map digits five)
 
-pub no_line_of : (w : Written) → no_line w.line (says 0 w.number w.namespace w.owner w.detail) ≡ no_of (answer_of w)
+pub no_line_of : (x : R) → refused_line x ≡ no_of (numbers_of x)
 unfolding no_line
-no_line_of w = refl
+no_line_of x = refl
 
 abbrev Wrote : List ℕ → List ℕ → Pinned → Type 0
 Wrote text out p = (get_or p.answer 1 0 ≡ 0) × (pin_output text ≡ back text) × (p ≡ pinning p.answer (length (back text)) (written (back text) out))
@@ -65,42 +69,40 @@ cases text out room = go (accepts (ended text).said) refl
 
 -- ---- what stands in front of the buffer
 
-module _ (text out : List ℕ) (w : Written) (out' : List ℕ) (room : text_limit ≤ length out) (is : pinning (answer_of w) w.length out' ≡ pins_to text out) where
-  same : Wrote text out (pinning (answer_of w) w.length out') ⊎ Refused text out (pinning (answer_of w) w.length out')
-  same = subst (λ p. Wrote text out p ⊎ Refused text out p) (sym is) (cases text out room)
-
+module _ (text out out' : List ℕ) (room : text_limit ≤ length out) where
   -- written: the pinned text
-  module _ (e : w.number ≡ 0) where
-    wrote : Wrote text out (pinning (answer_of w) w.length out')
-    wrote = elim same [ inl k ↦ k | inr k ↦ absurd (k.0 e) ]
+  module _ (n : ℕ) (is : pinning (answer_of (Ok n)) n out' ≡ pins_to text out) where
+    wrote : Wrote text out (pinning (answer_of (Ok n)) n out')
+    wrote = elim (subst (λ p. Wrote text out p ⊎ Refused text out p) (sym is) (cases text out room)) [ inl k ↦ k | inr k ↦ absurd (k.0 refl) ]
 
-    pub wrote_inside : w.length ≤ length out'
+    pub wrote_inside : n ≤ length out'
     wrote_inside =
-        let n : w.length ≡ length (back text) = ap (λ (p : Pinned). p.bytes) wrote.2 in
+        let e : n ≡ length (back text) = ap (λ (p : Pinned). p.bytes) wrote.2 in
         let b : out' ≡ written (back text) out = ap (λ (p : Pinned). p.buffer) wrote.2 in
-        omega (arith, n, ap length b, length-append (back text) (drop (length (back text)) out))
+        omega (arith, e, ap length b, length-append (back text) (drop (length (back text)) out))
 
-    pub wrote_front : take w.length out' ≡ pin_output text
+    pub wrote_front : take n out' ≡ pin_output text
     wrote_front =
         ap (λ (p : Pinned). take p.bytes p.buffer) wrote.2 ∙ take_at (back text) (drop (length (back text)) out) (length (back text)) refl ∙ sym wrote.1
 
   -- refused: there is room for the line `no`, and it stands in front
-  module _ (f : w.number ≡ 0 → ⊥) where
-    refused : Refused text out (pinning (answer_of w) w.length out')
-    refused = elim same [ inl k ↦ absurd (f k.0) | inr k ↦ k ]
+  module _ (x : R) (f : x.number ≡ 0 → ⊥) (is : pinning (answer_of (Err x)) 0 out' ≡ pins_to text out) where
+    refused : Refused text out (pinning (numbers_of x) 0 out')
+    refused = elim (subst (λ p. Wrote text out p ⊎ Refused text out p) (sym is) (cases text out room)) [ inl k ↦ absurd (f k.0) | inr k ↦ k ]
 
-    abbrev no : List ℕ
-    no = no_line w.line (says 0 w.number w.namespace w.owner w.detail)
+    module _ (p : Page) (e₁ : p.out.now ≡ out') (e₂ : p.at ≡ 0) where
+      pub no_room : Room p (refused_line x)
+      no_room = omega (arith, ap length e₁, e₂, ap length refused.2, room, no_length x.line (says 0 x.number x.namespace x.owner x.detail))
 
-    pub no_fits : 0 + length no ≤ length out'
-    no_fits = omega (arith, ap length refused.2, room, no_length w.line (says 0 w.number w.namespace w.owner w.detail))
+      module _ (q : Page) (a : Puts p (refused_line x) q) (out'' : List ℕ) (same : out'' ≡ q.out.now) where
+        buffer_is : out'' ≡ take p.at p.out.now ++ refused_line x ++ drop (p.at + length (refused_line x)) p.out.now
+        buffer_is = same ∙ put_exact p.out.now p.at (refused_line x) q.at q.out.now a.put no_room
 
-    module _ (r : ℕ) (out'' : List ℕ) (p : Put out' 0 no r out'') where
-      buffer_is : out'' ≡ no ++ drop (0 + length no) out'
-      buffer_is = p.1 ∙ sets-eq no out' 0 no_fits
+        pub no_inside : q.at ≤ length out''
+        no_inside = omega (arith, ap length same, puts_length p (refused_line x) q a, a.put.0, no_room)
 
-      pub no_inside : r ≤ length out''
-      no_inside = omega (arith, p.0, ap length buffer_is, length-append no (drop (0 + length no) out'))
-
-      pub no_front : take r out'' ≡ pin_output text
-      no_front = ap (λ b. take r b) buffer_is ∙ take_at no (drop (0 + length no) out') r (omega (arith, p.0)) ∙ no_line_of w ∙ sym refused.1
+        pub no_front : take q.at out'' ≡ pin_output text
+        no_front =
+            let z : q.at ≡ length (refused_line x) = omega (arith, a.put.0, e₂) in
+            ap₂ take z (buffer_is ∙ ap (λ n. take n p.out.now ++ refused_line x ++ drop (p.at + length (refused_line x)) p.out.now) e₂)
+            ∙ take_at (refused_line x) (drop (p.at + length (refused_line x)) p.out.now) (length (refused_line x)) refl ∙ no_line_of x ∙ sym refused.1

@@ -1,7 +1,6 @@
 -- A refusal cuts the owner tables back, and nothing else does. Assumes nothing.
 use mathlib.Core.Path.{◌≡◌, sym, ap, ◌∙◌}
-use mathlib.Core.Bool.{Bool, true, false, not}
-use lib.Dec.{T, eqb}
+use mathlib.Core.Bool.{Bool, true, false}
 use Rattle.definition.specs.Calls as C
 use Rattle.tables.specs.Views.{state_view}
 use Rattle.tables.specs.declared.State.{State}
@@ -11,27 +10,20 @@ use Rattle.inplace.specs.Marks.{marks_of, counts_in, taken_out}
 use Rattle.inplace.specs.declared.marks.Marks.{Marks}
 use Rattle.inplace.proofs.CutViews.{counts_view, cut_back_view}
 use Rattle.plan.specs.Turns.{back_to}
+use Rattle.plan.proofs.StepLaws.{is_clear_is, not_clear}
 use Rattle.plan.proofs.InPlaceLaws.{cut_back}
 
 abbrev cut_if : Marks → C.State → Bool → C.State
 cut_if m t b = elim b as (λ _. C.State) [ true ↦ t | false ↦ cutting (counts_in m) t ]
 
-is_true : (b : Bool) → T b → b ≡ true
-is_true true t = λ _. true
-is_true false t = absurd t
-
-is_false : (b : Bool) → T (not b) → b ≡ false
-is_false true t = absurd t
-is_false false t = λ _. false
-
-module _ (m : Marks) (h : State) (y : Bool) (e : y ≡ eqb h.number 0) where
-  pub back_quiet : T y → state_view h ≡ back_to m (state_view h)
+module _ (m : Marks) (h : State) where
+  pub back_quiet : h.number ≡ 0 → state_view h ≡ back_to m (state_view h)
   unfolding back_to
-  back_quiet t = sym (ap (cut_if m (state_view h)) (sym e ∙ is_true y t))
+  back_quiet e = sym (ap (cut_if m (state_view h)) (is_clear_is (state_view h) e))
 
-  pub back_cut : T (not y) → state_view (taken_out m 0 h) ≡ back_to m (state_view h)
+  pub back_cut : (h.number ≡ 0 → ⊥) → state_view (taken_out m 0 h) ≡ back_to m (state_view h)
   unfolding back_to
-  back_cut t = cut_back_view m h ∙ sym (ap (cut_if m (state_view h)) (sym e ∙ is_false y t))
+  back_cut f = cut_back_view m h ∙ sym (ap (cut_if m (state_view h)) (not_clear (state_view h) f))
 
 -- ---- the counts that were marked are the tables' own
 

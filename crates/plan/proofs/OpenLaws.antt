@@ -1,39 +1,23 @@
 -- What is judged before the first request is what the definition says of the tables. Assumes nothing.
-use mathlib.Core.Path.{◌≡◌, refl, sym, ap, subst, ◌∙◌}
+use mathlib.Core.Path.{◌≡◌, refl, sym, ap, ◌∙◌}
 use mathlib.Core.Bool.{Bool, true, false}
 use Prim.Native.Nat.{ℕ}
-use Rattle.definition.proofs.BaseLaws.{true_T}
 use Rattle.definition.specs.Base.{malformed, short, silence, Said, tell}
 use Rattle.definition.specs.Tables.{kinds}
 use Rattle.definition.specs.Calls.{sound, saying}
 use Rattle.definition.specs.Calls as C
 use Rattle.definition.proofs.PlanLaws.{tell_number}
 use Rattle.tables.specs.Views.{state_view}
-use Rattle.tables.specs.declared.Holders.{Holders}
 use Rattle.tables.specs.declared.State.{State}
 use Rattle.request.specs.Asked.{said_of}
-use Rattle.lent_table.specs.Store.{Free}
-use Rattle.decide.specs.Kept.{AllFree, kept}
-use Rattle.decide.specs.declared.Rows.{Rows}
-use Rattle.decide.specs.declared.Rows.TheVariants.{Nothing}
-use Rattle.decide.specs.declared.Granted.{Granted}
+use Rattle.std.specs.Prelude.{Result}
+use Rattle.choose.specs.declared.Refusal.{Refusal}
+use Rattle.request.specs.declared.Said.{Said as Numbers}
+use Rattle.decide.specs.Kept.{said_in}
 use Rattle.plan.specs.Steps.{clear, opened}
 use Rattle.plan.proofs.StepLaws.{not_clear, opened_unsound, opened_short, opened_clear}
-use Rattle.plan.specs.Turns.{fits_in, judged_of, Opens, turns_in, turns_after}
+use Rattle.plan.specs.Turns.{fits_in, judged_of, judged_said, turns_of, Judges, turns_in, turns_after}
 use Rattle.plan.proofs.JudgeLaws.{judged_clear, judged_short, judged_unsound, turns_all, turns_short, turns_unsound}
-
--- ---- nothing is stored
-
-stays : (n : ℕ) → Free n false
-stays n e = absurd (true_T false e)
-
-pub free_none : (g : Granted) (h : Holders) → g.rows ≡ Nothing → AllFree g h
-free_none g h e =
-    subst (λ (r : Rows). AllFree (record { rows = r; bases = g.bases; said = g.said }) h) (sym e)
-    (record { mmio = stays _; pio = stays _; input = stays _; host = stays _; device = stays _; event = stays _; lpi = stays _ })
-
-pub kept_none : (g : Granted) (s : State) → g.rows ≡ Nothing → state_view (kept g s) ≡ saying (said_of g.said) (state_view s)
-kept_none g s e = ap (λ (r : Rows). state_view (kept (record { rows = r; bases = g.bases; said = g.said }) s)) e
 
 -- ---- what is said, and how many turns follow
 
@@ -58,9 +42,9 @@ module _ (n room : ℕ) (s : C.State) where
     sym (turns_all true n room refl u) ∙ turning (saying silence s) (opened_clear n room s e u) true refl,
   )
 
-module _ (n room : ℕ) (h : State) (b : Bool) (e : b ≡ sound kinds (state_view h)) where
-  pub open_state : (g : Granted) → Opens b n room g → state_view (kept g h) ≡ opened n room (state_view h)
-  open_state g o = kept_none g h o.nothing ∙ ap (λ (w : Said). saying w (state_view h)) o.said ∙ (opens_as n room (state_view h) b (sym e) (fits_in n room) refl).0
+module _ (n room : ℕ) (h : State) (b : Bool) (e : b ≡ sound kinds (state_view h)) (r : Result (Unit {0}) Refusal) (j : Judges b n room r) where
+  pub open_state : (w : Numbers) → said_of w ≡ judged_said r → state_view (said_in w h) ≡ opened n room (state_view h)
+  open_state w u = ap (λ (x : Said). saying x (state_view h)) (u ∙ j.said) ∙ (opens_as n room (state_view h) b (sym e) (fits_in n room) refl).0
 
-  pub open_turns : (d : State) → state_view d ≡ opened n room (state_view h) → turns_in b n room ≡ turns_after n (state_view d)
-  open_turns d u = (opens_as n room (state_view h) b (sym e) (fits_in n room) refl).1 ∙ ap (turns_after n) (sym u)
+  pub open_turns : (d : State) → state_view d ≡ opened n room (state_view h) → turns_of r n ≡ turns_after n (state_view d)
+  open_turns d u = j.turns ∙ (opens_as n room (state_view h) b (sym e) (fits_in n room) refl).1 ∙ ap (turns_after n) (sym u)

@@ -18,6 +18,7 @@ use Rattle.tables.specs.declared.State.{State}
 use Rattle.request.specs.Asked.{request_of}
 use Rattle.request.specs.declared.Request.{Request}
 use Rattle.decide.specs.Outcome.{bases_in, after}
+use Rattle.std.specs.Prelude.{Option}
 use Rattle.decide.specs.declared.Bases.{Bases}
 use Rattle.plan.specs.Steps.{clear, Steady, indexed, index_for, turned, written_at}
 use Rattle.plan.proofs.StepLaws.{written_is, turned_skips}
@@ -43,13 +44,13 @@ module _ (h : State) (r : Request) (i : ℕ) (ys : List ℕ) where
   abbrev pub Ready : Type 0
   Ready = (clear (state_view h) ≡ true) × (ltb i (length ys / record_size) ≡ true)
 
-  abbrev pub Answered : State → Bases → Type 0
+  abbrev pub Answered : State → Option Bases → Type 0
   Answered d e = (state_view d ≡ after (state_view h) answer_to) × (e ≡ bases_in (request_of r).want answer_to)
 
-  abbrev pub Index : Bases → ℕ → Type 0
+  abbrev pub Index : Option Bases → ℕ → Type 0
   Index e x = x ≡ index_for e i
 
-  abbrev pub Wrote : Bases → List ℕ → Type 0
+  abbrev pub Wrote : Option Bases → List ℕ → Type 0
   Wrote e zs = zs ≡ written_at i r e ys
 
   abbrev pub Done : State → List ℕ → Type 0
@@ -63,6 +64,6 @@ module _ (h : State) (r : Request) (i : ℕ) (ys : List ℕ) where
   pub left_alone : (y : Bool) → Went y → T (not y) → Done h ys
   left_alone y e t = turned_skips i (request_of r) (state_view h) ys (sym e ∙ not_T y t)
 
-  pub answered_in_place : Steady (state_view h) → Ready → (d : State) (e : Bases) (x : ℕ) (zs : List ℕ) → Answered d e → Index e x → Wrote e zs → Done (with_index x d) zs
+  pub answered_in_place : Steady (state_view h) → Ready → (d : State) (e : Option Bases) (x : ℕ) (zs : List ℕ) → Answered d e → Index e x → Wrote e zs → Done (with_index x d) zs
   answered_in_place steady (c, l) d e x zs (s, b) j w =
-      ap₂ lent (ap₂ (λ (n : ℕ) (u : C.State). saying (indexed n u.said) u) (j ∙ ap (λ (f : Bases). index_for f i) b) s) (w ∙ ap (λ (f : Bases). written_at i r f ys) b ∙ written_is i r answer_to ys) ∙ turned_in_place i (request_of r) (state_view h) ys c l (steady c)
+      ap₂ lent (ap₂ (λ (n : ℕ) (u : C.State). saying (indexed n u.said) u) (j ∙ ap (λ (f : Option Bases). index_for f i) b) s) (w ∙ ap (λ (f : Option Bases). written_at i r f ys) b ∙ written_is i r answer_to ys) ∙ turned_in_place i (request_of r) (state_view h) ys c l (steady c)

@@ -1,5 +1,5 @@
 -- A plan as steps over requests that come one by one. That they make the definition's plan is the law `steps_plan`. Assumes nothing.
-use Rattle.std.specs.Prelude.{◌≡◌, Bool, true, false, ◌&&◌, List, [], ◌∷◌, ◌++◌, ℕ, ◌+◌, ◌*◌, ◌/◌, T, leb, ltb, eqb, length, take, drop}
+use Rattle.std.specs.Prelude.{◌≡◌, Bool, true, false, ◌&&◌, List, [], ◌∷◌, ◌++◌, ℕ, ◌+◌, ◌*◌, ◌/◌, T, leb, ltb, eqb, length, take, drop, Option, Some, None}
 use Rattle.definition.specs.Tables.{plan_limit, record_size, kinds}
 use Rattle.definition.specs.Base.{malformed, short, Said, says, silence, Answer, accepted, refused, require}
 use Rattle.definition.specs.Request.{Request}
@@ -8,7 +8,7 @@ use Rattle.definition.specs.Pools.{Claim}
 use Rattle.definition.specs.Plan.{Lent, lent, allocate_into, grant, record_of_grant, written}
 use Rattle.request.specs.declared.Request as R
 use Rattle.decide.specs.declared.Bases.{Bases}
-use Rattle.allocation.specs.Records.{list_of, record_in}
+use Rattle.allocation.specs.Records.{record_in}
 
 -- no request was refused so far
 abbrev pub clear : State → Bool
@@ -53,12 +53,14 @@ recorded i r (refused y) out = out
 
 -- ---- the parts of a turn, as the code has them
 
-abbrev pub index_for : Bases → ℕ → ℕ
-index_for b i = elim b.accepted [ true ↦ 0 | false ↦ i ]
+abbrev pub index_for : Option Bases → ℕ → ℕ
+index_for (Some b) i = 0
+index_for None i = i
 
 -- the record of an accepted request in its place, and no other number changed: law `written_is` ties it to what the answer writes
-abbrev pub written_at : ℕ → R.Request → Bases → List ℕ → List ℕ
-written_at i r b out = elim b.accepted [ true ↦ put_from (record_size * i) (list_of (record_in r b)) out | false ↦ out ]
+abbrev pub written_at : ℕ → R.Request → Option Bases → List ℕ → List ℕ
+written_at i r (Some b) out = put_from (record_size * i) (record_in r b) out
+written_at i r None out = out
 
 -- after the last: a refusal puts the tables back as they were at the start
 abbrev pub settled : State → State → State

@@ -1,13 +1,12 @@
 -- The parts of a plan in place, as the code has them: what is judged first, how many turns are taken, and how a refusal puts the tables back. That they make the definition's plan is the law `plan-in-place`. Assumes nothing.
-use Rattle.std.specs.Prelude.{◌≡◌, Bool, true, false, ◌&&◌, ℕ, ◌+◌, ◌*◌, ◌/◌, ◌≤◌, leb, eqb}
+use Rattle.std.specs.Prelude.{◌≡◌, Bool, true, false, ◌&&◌, ℕ, ◌+◌, ◌*◌, ◌/◌, ◌≤◌, leb, eqb, Result, Ok, Err}
 use Rattle.definition.specs.Tables.{plan_limit, record_size}
 use Rattle.definition.specs.Base.{malformed, short, Said, silence, tell}
 use Rattle.definition.specs.Calls.{State}
 use Rattle.flat.specs.Flat.{request_size}
-use Rattle.request.specs.Asked.{said_of}
+use Rattle.choose.specs.Told.{refusal_of}
+use Rattle.choose.specs.declared.Refusal.{Refusal}
 use Rattle.plan.specs.Steps.{clear}
-use Rattle.decide.specs.declared.Rows.TheVariants.{Nothing}
-use Rattle.decide.specs.declared.Granted.{Granted}
 use Rattle.definition.specs.Cut.{cutting}
 use Rattle.inplace.specs.Marks.{counts_in}
 use Rattle.inplace.specs.declared.marks.Marks.{Marks}
@@ -20,13 +19,22 @@ fits_in n room = leb n plan_limit && leb (record_size * n) room
 unfoldable pub judged_of : Bool → ℕ → ℕ → Said
 judged_of sound n room = elim sound [ false ↦ tell 0 malformed | true ↦ elim (fits_in n room) [ false ↦ tell 0 short | true ↦ silence ] ]
 
--- nothing is stored, and that is said
-pub record Opens (sound : Bool) (n room : ℕ) (g : Granted) : Type 0 where
-  pub nothing : g.rows ≡ Nothing
-  pub said : said_of g.said ≡ judged_of sound n room
+-- the numbers of what was judged
+abbrev pub judged_said : Result (Unit {0}) Refusal → Said
+judged_said (Ok _) = silence
+judged_said (Err y) = tell 0 (refusal_of y)
+
+-- all have their turn, or none
+abbrev pub turns_of : Result (Unit {0}) Refusal → ℕ → ℕ
+turns_of (Ok _) n = n
+turns_of (Err y) n = 0
 
 unfoldable pub turns_in : Bool → ℕ → ℕ → ℕ
 turns_in sound n room = elim sound [ false ↦ 0 | true ↦ elim (fits_in n room) [ false ↦ 0 | true ↦ n ] ]
+
+pub record Judges (sound : Bool) (n room : ℕ) (r : Result (Unit {0}) Refusal) : Type 0 where
+  pub said : judged_said r ≡ judged_of sound n room
+  pub turns : turns_of r n ≡ turns_in sound n room
 
 -- .. told by the state that the opening leaves
 abbrev pub turns_after : ℕ → State → ℕ

@@ -9,10 +9,7 @@ use tables::RECORD;
 pub fn accepted(number: u64, index: u64, n: usize) -> usize
     ensures { result ≡ accepted_of number index n }
 {
-    if number == 0 {
-        return n;
-    }
-    index as usize
+    if number == 0 { n } else { index as usize }
 }
 
 // The part of the list that holds their records. It is the caller's own memory: it begins where the list begins.

@@ -6,16 +6,9 @@ ghost use Rattle.request.specs.Asked.{request_of};
 ghost use Rattle.plan.specs.Front.{filled};
 ghost use Rattle.plan.specs.Nobody.{nobody};
 
-use super::{open, settle, turn};
+use super::{open, settle, turn, turns};
 use request::Request;
 use tables::State;
-
-// How many requests a list of so many structs holds.
-pub fn count(long: usize) -> usize
-    ensures { result ≡ long }
-{
-    long
-}
 
 // The thin reader.
 pub fn read(requests: &[Request], i: usize) -> Request
@@ -25,18 +18,16 @@ pub fn read(requests: &[Request], i: usize) -> Request
     requests[i]
 }
 
-// All of them, n, on the state lent.
+// All of them, n, on the state lent. (A loop beside that over numbers: here a request stands as it is, there it may be one that cannot be read.)
 fn run_in(state: &mut State, requests: &[Request], results: &mut [u64], n: usize)
     requires { n ≡ length requests.now }
     ensures { lent (state_view state.new) results.new ≡ plan (map request_of requests.now) (state_view state.old) results.old }
 {
     let m = inplace::marks::peek(state);
-    let turns = open(state, n, results.len());
-    let mut i: usize = 0;
-    while i < turns {
+    let turns = turns(open(state, n, results.len()), n);
+    for i in 0..turns {
         let r = read(requests, i);
         turn(state, r, i, results);
-        i += 1;
     }
     settle(state, m);
 }
@@ -45,8 +36,7 @@ fn run_in(state: &mut State, requests: &[Request], results: &mut [u64], n: usize
 pub fn plan_in(state: &mut State, requests: &[Request], results: &mut [u64])
     ensures { lent (state_view state.new) results.new ≡ plan (map request_of requests.now) (state_view state.old) results.old }
 {
-    let n = count(requests.len());
-    run_in(state, requests, results, n);
+    run_in(state, requests, results, requests.len());
 }
 
 // The same plan, and its filled part is handed back: the caller's own first numbers, nine for each request accepted.
@@ -56,8 +46,5 @@ pub fn plan<'a>(state: &mut State, requests: &[Request], results: &'a mut [u64])
 {
     plan_in(state, requests, results);
     let m = inplace::marks::peek(state);
-    let number = m.number;
-    let index = m.index;
-    let n = count(requests.len());
-    crate::front::front(results, number, index, n)
+    crate::front::front(results, m.number, m.index, requests.len())
 }

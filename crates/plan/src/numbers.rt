@@ -6,7 +6,7 @@ ghost use Rattle.flat.specs.Flat.{requests_from, flat_plan, flat_allocate};
 ghost use Rattle.plan.specs.Filled.{flat_filled};
 ghost use Rattle.plan.specs.Turns.{whole_count, one_count, Within};
 
-use super::{open, settle, turn};
+use super::{open, settle, turn, turns};
 use flat::REQUEST;
 use tables::{PLAN, State};
 
@@ -14,24 +14,20 @@ use tables::{PLAN, State};
 const MANY: usize = PLAN + 1;
 
 // How many requests a list of so many numbers holds: where it ends within one, more than any plan has.
+#[tactic(auto, using(crate::proofs::JudgeLaws::whole_is, crate::proofs::JudgeLaws::whole_not))]
 pub fn count(long: usize) -> usize
     ensures { result ≡ whole_count long }
 {
     let n = long / REQUEST;
-    if REQUEST * n == long {
-        return n;
-    }
-    MANY
+    if REQUEST * n == long { n } else { MANY }
 }
 
 // How many requests a list of so many numbers starts with, where one is asked for: one, or more than any plan has.
+#[tactic(auto, using(crate::proofs::JudgeLaws::one_is, crate::proofs::JudgeLaws::one_not))]
 pub fn one(long: usize) -> usize
     ensures { result ≡ one_count long }
 {
-    if REQUEST <= long {
-        return 1;
-    }
-    MANY
+    if REQUEST <= long { 1 } else { MANY }
 }
 
 // So many requests, the list's first, on the state lent: THE loop over numbers, behind a plan and behind one request. Where more are asked for than a plan has, none is read.
@@ -40,12 +36,10 @@ fn run_in(state: &mut State, requests: &[u64], results: &mut [u64], n: usize)
     ensures { lent (state_view state.new) results.new ≡ plan (requests_from requests.now 0 n) (state_view state.old) results.old }
 {
     let m = inplace::marks::peek(state);
-    let turns = open(state, n, results.len());
-    let mut i: usize = 0;
-    while i < turns {
+    let turns = turns(open(state, n, results.len()), n);
+    for i in 0..turns {
         let r = flat::request_at(requests, i);
         turn(state, r, i, results);
-        i += 1;
     }
     settle(state, m);
 }
@@ -65,10 +59,7 @@ pub fn plan<'a>(state: &mut State, requests: &[u64], results: &'a mut [u64]) -> 
 {
     plan_in(state, requests, results);
     let m = inplace::marks::peek(state);
-    let number = m.number;
-    let index = m.index;
-    let n = count(requests.len());
-    crate::front::front(results, number, index, n)
+    crate::front::front(results, m.number, m.index, count(requests.len()))
 }
 
 // One request, the first of the list, with its record: a plan of one.
@@ -80,10 +71,9 @@ pub fn allocate_in(state: &mut State, request: &[u64], out: &mut [u64])
 }
 
 // The plan on a state by value: the state is lent from here.
-pub fn plan_by_value(s: State, requests: &[u64], results: &mut [u64]) -> State
+pub fn plan_by_value(mut s: State, requests: &[u64], results: &mut [u64]) -> State
     ensures { lent (state_view result) results.new ≡ flat_plan requests.now (state_view s) results.old }
 {
-    let mut t = s;
-    plan_in(&mut t, requests, results);
-    t
+    plan_in(&mut s, requests, results);
+    s
 }

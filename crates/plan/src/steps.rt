@@ -11,40 +11,34 @@ use tables::{PLAN, RECORD};
 pub fn fits(n: usize, room: usize) -> bool
     ensures { result ≡ leb n plan_limit && leb (record_size * n) room }
 {
-    if PLAN < n {
-        return false;
-    }
-    RECORD * n <= room
+    n <= PLAN && RECORD * n <= room
 }
 
 // Whether a request has its turn: none was refused so far, and its record has room.
 pub fn goes(number: u64, i: usize, room: usize) -> bool
     ensures { result ≡ eqb number 0 && ltb i (room / record_size) }
 {
-    if number == 0 {
-        return i < room / RECORD;
-    }
-    false
+    number == 0 && i < room / RECORD
 }
 
 // The index beside the numbers of an answer: a refusal names its request.
-pub fn index(b: Bases, i: usize) -> u64
-    ensures { result ≡ index_for b i }
+pub fn index(granted: Option<Bases>, i: usize) -> u64
+    ensures { result ≡ index_for granted i }
 {
-    if b.accepted {
-        return 0;
+    match granted {
+        Some(_) => 0,
+        None => i as u64,
     }
-    i as u64
 }
 
 // The record of an accepted request in its place; nothing is written of a refused one.
-pub fn write(results: &mut [u64], i: usize, r: Request, b: Bases)
+pub fn write(results: &mut [u64], i: usize, r: Request, granted: Option<Bases>)
     requires { record_size * i + record_size ≤ length results.old }
-    ensures { results.new ≡ written_at i r b results.old }
+    ensures { results.new ≡ written_at i r granted results.old }
 {
-    if b.accepted {
+    if let Some(bases) = granted {
         let place = RECORD * i;
-        let line = allocation::record_of(r, b);
+        let line = allocation::record_of(r, bases);
         allocation::write_record(&mut results[place..], line);
     }
 }

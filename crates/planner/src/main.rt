@@ -6,8 +6,9 @@ ghost use Rattle.lines.specs.Base.{text_limit};
 ghost use Rattle.lines.specs.Output.{output_limit};
 ghost use Rattle.lines.specs.Text.{output};
 ghost use Rattle.standard_input.specs.Reads.{Stopped, Prints};
+ghost use Rattle.standard_input.specs.Outcome.{count_of, last_of};
 
-use standard_input::{Input, read_input};
+use standard_input::{Failed, read_input};
 use std::io;
 use std::io::Write;
 use text::{OUTPUT, TEXT, respond};
@@ -16,20 +17,19 @@ use text::{OUTPUT, TEXT, respond};
 const INPUT: usize = TEXT + 1;
 
 // What the program prints, in front of `out`, and how many bytes it is: all that is decided between reading and writing.
-fn printed(buf: &[u8], input: Input, out: &mut [u8]) -> usize
+fn printed(buf: &[u8], input: Result<usize, Failed>, out: &mut [u8]) -> usize
     requires text_limit_in_bounds { text_limit < length buf.now }
-    requires stopped { Stopped (length buf.now) input.n input.last }
+    requires stopped { Stopped (length buf.now) (count_of input) (last_of (length buf.now) input) }
     requires output_limit_in_bounds { output_limit ≤ length out.old }
-    ensures { Prints output (take input.n buf.now) input.last result out.new }
+    ensures { Prints output (take (count_of input) buf.now) (last_of (length buf.now) input) result out.new }
 {
-    if input.last < 0 {
-        return 0;
+    match input {
+        Ok(n) => respond(&buf[..n], out).unwrap_or(0),
+        Err(_) => 0,
     }
-    let n = input.n;
-    let r = respond(&buf[..n], out);
-    r.length
 }
 
+// The other programs' `main`s read alike: each has its own lengths, and its own `printed`.
 fn main(rt: HostRuntime) -> io::Result<()> {
     let mut buf = [0u8; INPUT];
     let input = read_input(&mut rt.stdin(), &mut buf);

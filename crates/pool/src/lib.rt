@@ -9,7 +9,7 @@ ghost use Rattle.tables.specs.Views.{state_view};
 ghost use Rattle.request.specs.Calls.{call_of};
 ghost use Rattle.door.specs.Served.{serve_of};
 
-pub use request::call::{Call, Devices, Events, Hold, Lpis, PoolRange, Use};
+pub use request::call::{Call, Devices, Events, Hold, Ids, Lpis, PoolRange, Use};
 use tables::State;
 
 pub mod address;
@@ -18,12 +18,11 @@ pub mod message;
 pub mod wired;
 
 // Any call on a state by value: the state is lent from here.
-pub fn serve(s: State, c: Call) -> State
+pub fn serve(mut s: State, c: Call) -> State
     ensures { state_view result ≡ serve_of (call_of c) (state_view s) }
 {
-    let mut t = s;
-    door::serve(&mut t, c);
-    t
+    door::serve(&mut s, c);
+    s
 }
 
 // Atomically reserves one physical wired interrupt at both boundaries: the input, Exclusive, and the host IRQ.

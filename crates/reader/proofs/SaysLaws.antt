@@ -1,6 +1,7 @@
 -- What a line says determines the call that is read: any two calls of the code that say the same are the same. Assumes nothing.
 use mathlib.Core.Path.{◌≡◌, refl, sym, ◌∙◌, ap}
 use mathlib.Core.Option.{Option, none, some}
+use Prim.Native.Nat.{ℕ}
 use Rattle.definition.specs.Pools.{Pool, mmio_pool, pio_pool, host_pool, input_pool, msi_pool, Hold, mmio_hold, pio_hold, host_hold, input_hold, device_hold, event_hold, lpi_hold, pair_hold}
 use Rattle.definition.specs.Request as D
 use Rattle.definition.specs.Request.{auto, at, mmio_want, pio_want, input_want, host_want, msi_want, automatic, fixed}
@@ -8,12 +9,9 @@ use Rattle.definition.specs.Calls as D'
 use Rattle.definition.specs.Calls.{pool, hold, start, want}
 use Rattle.choose.specs.declared.Choice.{Choice}
 use Rattle.choose.specs.declared.Choice.TheVariants as N
-use Rattle.choose.specs.declared.ids.DeviceChoice.{DeviceChoice}
-use Rattle.choose.specs.declared.ids.DeviceChoice.TheVariants as De
-use Rattle.choose.specs.declared.ids.EventChoice.{EventChoice}
-use Rattle.choose.specs.declared.ids.EventChoice.TheVariants as E
-use Rattle.choose.specs.declared.ids.LpiChoice.{LpiChoice}
-use Rattle.choose.specs.declared.ids.LpiChoice.TheVariants as L
+use Rattle.tables.specs.declared.DeviceId.{DeviceId}
+use Rattle.tables.specs.declared.EventId.{EventId}
+use Rattle.tables.specs.declared.Lpi.{Lpi}
 use Rattle.choose.specs.Told.{choice_of}
 use Rattle.choose.specs.Ids.{device_choice, event_choice, lpi_choice}
 use Rattle.request.specs.Asked.{want_of}
@@ -52,27 +50,24 @@ hold_for (event_hold c i d s e) = H.Events c i (record { 0 = d }) (record { star
 hold_for (lpi_hold c s e) = H.Lpis c (record { start = record { 0 = s }; end = record { 0 = e } })
 hold_for (pair_hold c n t h) = H.Pair c n t h
 
-abbrev choice_for : D.Choice → Choice
-choice_for auto = N.Auto
-choice_for (at n) = N.Fixed n
+abbrev choice_for : {A : Type 0} → (ℕ → A) → D.Choice → Choice A
+choice_for of auto = N.Auto
+choice_for of (at n) = N.Fixed (of n)
 
-abbrev device_for : D.Choice → DeviceChoice
-device_for auto = De.Auto
-device_for (at n) = De.Fixed (record { 0 = n })
+abbrev device_for : D.Choice → Choice DeviceId
+device_for = choice_for (λ n. record { 0 = n })
 
-abbrev event_for : D.Choice → EventChoice
-event_for auto = E.Auto
-event_for (at n) = E.Fixed (record { 0 = n })
+abbrev event_for : D.Choice → Choice EventId
+event_for = choice_for (λ n. record { 0 = n })
 
-abbrev lpi_for : D.Choice → LpiChoice
-lpi_for auto = L.Auto
-lpi_for (at n) = L.Fixed (record { 0 = n })
+abbrev lpi_for : D.Choice → Choice Lpi
+lpi_for = choice_for (λ n. record { 0 = n })
 
 abbrev want_for : D.Want → Want
-want_for (mmio_want s a c) = W.Mmio s a (choice_for c)
-want_for (pio_want s a c) = W.Pio s a (choice_for c)
-want_for (input_want k t s c) = W.Input k t s (choice_for c)
-want_for (host_want c) = W.Host (choice_for c)
+want_for (mmio_want s a c) = W.Mmio s a (choice_for (λ n. n) c)
+want_for (pio_want s a c) = W.Pio s a (choice_for (λ n. n) c)
+want_for (input_want k t s c) = W.Input k t s (choice_for (λ n. n) c)
+want_for (host_want c) = W.Host (choice_for (λ n. n) c)
 want_for (msi_want k i n d e l) = W.Msi k i n (device_for d) (event_for e) (lpi_for l)
 
 abbrev call_for : Option D'.Call → Call
@@ -84,21 +79,21 @@ call_for (some (want r)) = C.Want (record { requester = r.requester; slot = r.sl
 
 -- ---- the call is the one for what it says
 
-choice_back : (c : Choice) → choice_for (choice_of c) ≡ c
+choice_back : (c : Choice ℕ) → choice_for (λ n. n) (choice_of c) ≡ c
 choice_back N.Auto = refl
 choice_back (N.Fixed n) = refl
 
-device_back : (c : DeviceChoice) → device_for (device_choice c) ≡ c
-device_back De.Auto = refl
-device_back (De.Fixed d) = refl
+device_back : (c : Choice DeviceId) → device_for (device_choice c) ≡ c
+device_back N.Auto = refl
+device_back (N.Fixed d) = refl
 
-event_back : (c : EventChoice) → event_for (event_choice c) ≡ c
-event_back E.Auto = refl
-event_back (E.Fixed e) = refl
+event_back : (c : Choice EventId) → event_for (event_choice c) ≡ c
+event_back N.Auto = refl
+event_back (N.Fixed e) = refl
 
-lpi_back : (c : LpiChoice) → lpi_for (lpi_choice c) ≡ c
-lpi_back L.Auto = refl
-lpi_back (L.Fixed l) = refl
+lpi_back : (c : Choice Lpi) → lpi_for (lpi_choice c) ≡ c
+lpi_back N.Auto = refl
+lpi_back (N.Fixed l) = refl
 
 want_back : (w : Want) → want_for (want_of w) ≡ w
 want_back (W.Mmio s a c) = ap (W.Mmio s a) (choice_back c)

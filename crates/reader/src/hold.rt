@@ -1,84 +1,69 @@
-// A `hold` line, from its kind's word on: the forms that 01 gives it, in the definition's order.
-ghost use Rattle.std.specs.Prelude.{◌≡◌};
+// A `hold` line, from its kind's word on: a form that 01 gives it. (A form holds each number to its field's width: `as u32` loses nothing.)
+ghost use Rattle.std.specs.Prelude.{◌≡◌, ℕ};
 ghost use Rattle.lines.specs.Base.{tab, split};
-ghost use Rattle.lines.specs.Forms.{hold_forms_its, hold_forms_of, hold_forms, tries};
-ghost use Rattle.request.specs.Calls.{call_of};
+ghost use Rattle.lines.specs.Forms.{hold_forms, tries};
+ghost use Rattle.reader.specs.declared.kind.Kind.TheVariants as K;
+ghost use Rattle.reader.specs.Kinds.{word_of, hold_says};
 
-use lines::form::{N16, N32, N64, read_form};
-use request::call::{Call, Devices, Events, Hold, Lpis};
-use tables::{DeviceId, EventId, Lpi};
+use crate::ids::ids;
+use crate::kind::Kind;
+use lines::form::{N16, N32, N64, read_numbers};
+use request::call::Hold;
+use tables::DeviceId;
 
-// A hold line from its kind's word on.
-pub fn read_hold(owner: u32, kind: &[u8], rest: &[u8]) -> Call
-    ensures { call_of result ≡ tries (hold_forms owner) kind.now (split tab rest.now) }
+// What the fields behind a kind's word hold.
+pub fn read_held(kind: Kind, rest: &[u8]) -> Option<Hold>
+    ensures { (o : ℕ) → hold_says o result ≡ tries (hold_forms o) (word_of kind) (split tab rest.now) }
 {
-    let r = read_form(kind, b"mmio", rest, &[N64, N64]);
-    if r.good {
-        let n = r.n;
-        return Call::Hold(owner, Hold::Mmio(n[0], n[1]));
+    match kind {
+        Kind::Mmio => {
+            let [start, end] = read_numbers(rest, [N64, N64])?;
+            Some(Hold::Mmio(start, end))
+        }
+        Kind::Pio => {
+            let [start, end] = read_numbers(rest, [N16, N16])?;
+            Some(Hold::Pio(start as u16, end as u16))
+        }
+        Kind::Host => {
+            let [start, end] = read_numbers(rest, [N64, N64])?;
+            Some(Hold::Host(start, end))
+        }
+        Kind::Input => {
+            let [controller, n, trigger, sharing] = read_numbers(rest, [N32, N64, N32, N32])?;
+            Some(Hold::Input(controller as u32, n, trigger as u32, sharing as u32))
+        }
+        Kind::Device => read_devices(rest),
+        Kind::Event => read_events(rest),
+        Kind::Lpi => read_lpis(rest),
+        Kind::Msi => None,
     }
-    let r = read_form(kind, b"pio", rest, &[N16, N16]);
-    if r.good {
-        let n = r.n;
-        return Call::Hold(owner, Hold::Pio(n[0] as u16, n[1] as u16));
-    }
-    let r = read_form(kind, b"host", rest, &[N64, N64]);
-    if r.good {
-        let n = r.n;
-        return Call::Hold(owner, Hold::Host(n[0], n[1]));
-    }
-    read_hold_of(owner, kind, rest)
 }
 
-// .. of a controller: an input, or LPIs.
-pub fn read_hold_of(owner: u32, kind: &[u8], rest: &[u8]) -> Call
-    ensures { call_of result ≡ tries (hold_forms_of owner) kind.now (split tab rest.now) }
+// .. of an ITS: devices.
+fn read_devices(rest: &[u8]) -> Option<Hold>
+    ensures { (o : ℕ) → hold_says o result ≡ tries (hold_forms o) (word_of K.Device) (split tab rest.now) }
 {
-    let r = read_form(kind, b"input", rest, &[N32, N64, N32, N32]);
-    if r.good {
-        let n = r.n;
-        return Call::Hold(
-            owner,
-            Hold::Input(n[0] as u32, n[1], n[2] as u32, n[3] as u32),
-        );
-    }
-    let r = read_form(kind, b"lpi", rest, &[N32, N32, N32]);
-    if r.good {
-        let n = r.n;
-        let lpis = Lpis {
-            start: Lpi(n[1] as u32),
-            end: Lpi(n[2] as u32),
-        };
-        return Call::Hold(owner, Hold::Lpis(n[0] as u32, lpis));
-    }
-    read_hold_its(owner, kind, rest)
+    let [controller, its, start, end] = read_numbers(rest, [N32; 4])?;
+    Some(Hold::Devices(controller as u32, its as u32, ids(start as u32, end as u32)))
 }
 
-// .. of an ITS: devices, or events.
-pub fn read_hold_its(owner: u32, kind: &[u8], rest: &[u8]) -> Call
-    ensures { call_of result ≡ tries (hold_forms_its owner) kind.now (split tab rest.now) }
+// .. or events.
+fn read_events(rest: &[u8]) -> Option<Hold>
+    ensures { (o : ℕ) → hold_says o result ≡ tries (hold_forms o) (word_of K.Event) (split tab rest.now) }
 {
-    let r = read_form(kind, b"device", rest, &[N32, N32, N32, N32]);
-    if r.good {
-        let n = r.n;
-        let devices = Devices {
-            start: DeviceId(n[2] as u32),
-            end: DeviceId(n[3] as u32),
-        };
-        return Call::Hold(owner, Hold::Devices(n[0] as u32, n[1] as u32, devices));
-    }
-    let r = read_form(kind, b"event", rest, &[N32, N32, N32, N32, N32]);
-    if r.good {
-        let n = r.n;
-        let device = DeviceId(n[2] as u32);
-        let events = Events {
-            start: EventId(n[3] as u32),
-            end: EventId(n[4] as u32),
-        };
-        return Call::Hold(
-            owner,
-            Hold::Events(n[0] as u32, n[1] as u32, device, events),
-        );
-    }
-    Call::Bad
+    let [controller, its, device, start, end] = read_numbers(rest, [N32; 5])?;
+    Some(Hold::Events(
+        controller as u32,
+        its as u32,
+        DeviceId(device as u32),
+        ids(start as u32, end as u32),
+    ))
+}
+
+// .. of a controller: LPIs.
+fn read_lpis(rest: &[u8]) -> Option<Hold>
+    ensures { (o : ℕ) → hold_says o result ≡ tries (hold_forms o) (word_of K.Lpi) (split tab rest.now) }
+{
+    let [controller, start, end] = read_numbers(rest, [N32; 3])?;
+    Some(Hold::Lpis(controller as u32, ids(start as u32, end as u32)))
 }

@@ -1,68 +1,52 @@
-// A `pool` line, from its kind's word on: the forms that 01 gives it, in the definition's order.
+// A `pool` line, from its kind's word on: a form that 01 gives it. (A form holds each number to its field's width: `as u32` loses nothing.)
 ghost use Rattle.std.specs.Prelude.{◌≡◌};
+ghost use Rattle.definition.specs.Request.{Use as DUse};
 ghost use Rattle.lines.specs.Base.{tab, split};
-ghost use Rattle.lines.specs.Forms.{pool_forms_of, pool_forms, tries};
-ghost use Rattle.request.specs.Calls.{use_of, call_of};
+ghost use Rattle.lines.specs.Forms.{pool_forms, tries};
+ghost use Rattle.reader.specs.declared.kind.Kind.TheVariants as K;
+ghost use Rattle.reader.specs.Kinds.{word_of, pool_says};
 
-use lines::form::{N16, N32, N64, read_form};
-use request::call::{Call, Devices, Events, Lpis, PoolRange, Use};
-use tables::{DeviceId, EventId, Lpi};
+use crate::ids::ids;
+use crate::kind::Kind;
+use lines::form::{N16, N32, N64, read_numbers};
+use request::call::PoolRange;
 
-// A pool line from its kind's word on.
-pub fn read_pool(user: Use, kind: &[u8], rest: &[u8]) -> Call
-    ensures { call_of result ≡ tries (pool_forms (use_of user)) kind.now (split tab rest.now) }
+// The range that the fields behind a kind's word give.
+pub fn read_range(kind: Kind, rest: &[u8]) -> Option<PoolRange>
+    ensures { (u : DUse) → pool_says u result ≡ tries (pool_forms u) (word_of kind) (split tab rest.now) }
 {
-    let r = read_form(kind, b"mmio", rest, &[N64, N64]);
-    if r.good {
-        let n = r.n;
-        return Call::Pool(user, PoolRange::Mmio(n[0], n[1]));
+    match kind {
+        Kind::Mmio => {
+            let [start, end] = read_numbers(rest, [N64, N64])?;
+            Some(PoolRange::Mmio(start, end))
+        }
+        Kind::Pio => {
+            let [start, end] = read_numbers(rest, [N16, N16])?;
+            Some(PoolRange::Pio(start as u16, end as u16))
+        }
+        Kind::Host => {
+            let [start, end] = read_numbers(rest, [N64, N64])?;
+            Some(PoolRange::Host(start, end))
+        }
+        Kind::Input => {
+            let [controller, start, end] = read_numbers(rest, [N32, N64, N64])?;
+            Some(PoolRange::Input(controller as u32, start, end))
+        }
+        Kind::Msi => read_msi(rest),
+        Kind::Device | Kind::Event | Kind::Lpi => None,
     }
-    let r = read_form(kind, b"pio", rest, &[N16, N16]);
-    if r.good {
-        let n = r.n;
-        return Call::Pool(user, PoolRange::Pio(n[0] as u16, n[1] as u16));
-    }
-    let r = read_form(kind, b"host", rest, &[N64, N64]);
-    if r.good {
-        let n = r.n;
-        return Call::Pool(user, PoolRange::Host(n[0], n[1]));
-    }
-    read_pool_of(user, kind, rest)
 }
 
-// .. of a controller.
-pub fn read_pool_of(user: Use, kind: &[u8], rest: &[u8]) -> Call
-    ensures { call_of result ≡ tries (pool_forms_of (use_of user)) kind.now (split tab rest.now) }
+// .. of MSI: a controller, an ITS, and three ranges.
+fn read_msi(rest: &[u8]) -> Option<PoolRange>
+    ensures { (u : DUse) → pool_says u result ≡ tries (pool_forms u) (word_of K.Msi) (split tab rest.now) }
 {
-    let r = read_form(kind, b"input", rest, &[N32, N64, N64]);
-    if r.good {
-        let n = r.n;
-        return Call::Pool(user, PoolRange::Input(n[0] as u32, n[1], n[2]));
-    }
-    let r = read_form(
-        kind,
-        b"msi",
-        rest,
-        &[N32, N32, N32, N32, N32, N32, N32, N32],
-    );
-    if r.good {
-        let n = r.n;
-        let devices = Devices {
-            start: DeviceId(n[2] as u32),
-            end: DeviceId(n[3] as u32),
-        };
-        let events = Events {
-            start: EventId(n[4] as u32),
-            end: EventId(n[5] as u32),
-        };
-        let lpis = Lpis {
-            start: Lpi(n[6] as u32),
-            end: Lpi(n[7] as u32),
-        };
-        return Call::Pool(
-            user,
-            PoolRange::Msi(n[0] as u32, n[1] as u32, devices, events, lpis),
-        );
-    }
-    Call::Bad
+    let [controller, its, d, d_end, e, e_end, l, l_end] = read_numbers(rest, [N32; 8])?;
+    Some(PoolRange::Msi(
+        controller as u32,
+        its as u32,
+        ids(d as u32, d_end as u32),
+        ids(e as u32, e_end as u32),
+        ids(l as u32, l_end as u32),
+    ))
 }

@@ -1,102 +1,109 @@
-// A line, from its first word on.
-ghost use Rattle.std.specs.Prelude.{◌≡◌};
+// A line, from its first word on. (A form holds each number to its field's width: `as u32` loses nothing.)
+ghost use Rattle.std.specs.Prelude.{◌≡◌, ℕ};
 ghost use Rattle.lines.specs.Base.{tab, split};
-ghost use Rattle.lines.specs.Line.{behind_pool, behind_hold, behind_want, by_word, read_line};
+ghost use Rattle.lines.specs.Numbers.{number};
+ghost use Rattle.lines.specs.Forms.{n32};
+ghost use Rattle.lines.specs.Code.{number_says};
+ghost use Rattle.lines.specs.Line.{use_of, behind_pool, behind_hold, behind_want, by_word, read_line};
 ghost use Rattle.request.specs.Calls.{call_of};
+ghost use Rattle.reader.specs.Kinds.{use_says, says};
 
-use crate::hold::read_hold;
-use crate::pool::read_pool;
-use crate::want::read_want;
-use lines::form::N32;
-use lines::number::{Number, read_number};
-use lines::parts::{equal, find};
+use crate::hold::read_held;
+use crate::kind::Kind;
+use crate::pool::read_range;
+use crate::want::read_wanted;
+use lines::number::read_number;
+use lines::parts::cut;
+use request::Request;
 use request::call::{Call, Use};
 
 // The longest line, its newline left out.
 const LINE: usize = 200;
 
-// Behind `pool`: auto or fixed, and the rest.
-pub fn read_pools(word: &[u8], kind: &[u8], rest: &[u8]) -> Call
-    ensures { call_of result ≡ behind_pool word.now kind.now (split tab rest.now) }
+// Whether a range is for automatic or for fixed requests.
+fn read_use(word: &[u8]) -> Option<Use>
+    ensures { use_says result ≡ use_of word.now }
 {
-    if equal(word, b"auto") {
-        return read_pool(Use::Automatic, kind, rest);
+    if word == b"auto".as_slice() {
+        Some(Use::Automatic)
+    } else if word == b"fixed".as_slice() {
+        Some(Use::Fixed)
+    } else {
+        None
     }
-    if equal(word, b"fixed") {
-        return read_pool(Use::Fixed, kind, rest);
-    }
-    Call::Bad
+}
+
+// A number of 32 bits: an owner, a requester or a slot.
+fn read_u32(field: &[u8]) -> Option<u32>
+    ensures { number_says result ≡ number n32 field.now }
+{
+    Some(read_number(field, u32::MAX as u64)? as u32)
+}
+
+// Behind `pool`: auto or fixed, and the rest.
+pub fn read_pools(word: &[u8], kind: &[u8], rest: &[u8]) -> Option<Call>
+    ensures { says result ≡ behind_pool word.now kind.now (split tab rest.now) }
+{
+    let user = read_use(word)?;
+    let range = read_range(Kind::of(kind)?, rest)?;
+    Some(Call::Pool(user, range))
 }
 
 // Behind `hold`: the owner, and the rest.
-pub fn read_holds(owner: &[u8], kind: &[u8], rest: &[u8]) -> Call
-    ensures { call_of result ≡ behind_hold owner.now kind.now (split tab rest.now) }
+pub fn read_holds(owner: &[u8], kind: &[u8], rest: &[u8]) -> Option<Call>
+    ensures { says result ≡ behind_hold owner.now kind.now (split tab rest.now) }
 {
-    let number = read_number(owner, N32);
-    let Number::Value(o) = number else {
-        return Call::Bad;
-    };
-    read_hold(o as u32, kind, rest)
+    let owner = read_u32(owner)?;
+    let hold = read_held(Kind::of(kind)?, rest)?;
+    Some(Call::Hold(owner, hold))
 }
 
 // Behind `want`: requester and slot, and the rest.
-pub fn read_wants(requester: &[u8], slot: &[u8], rest: &[u8]) -> Call
-    ensures { call_of result ≡ behind_want requester.now slot.now (split tab rest.now) }
+pub fn read_wants(requester: &[u8], slot: &[u8], rest: &[u8]) -> Option<Call>
+    ensures { says result ≡ behind_want requester.now slot.now (split tab rest.now) }
 {
-    let e = find(rest, 0, 9);
-    if rest.len() <= e {
-        return Call::Bad;
-    }
-    let first = read_number(requester, N32);
-    let Number::Value(q) = first else {
-        return Call::Bad;
-    };
-    let second = read_number(slot, N32);
-    let Number::Value(s) = second else {
-        return Call::Bad;
-    };
-    let behind = e + 1;
-    read_want(q as u32, s as u32, &rest[..e], &rest[behind..])
+    let requester = read_u32(requester)?;
+    let slot = read_u32(slot)?;
+    let (kind, rest) = cut(rest, b'\t')?;
+    let want = read_wanted(Kind::of(kind)?, rest)?;
+    Some(Call::Want(Request {
+        requester,
+        slot,
+        want,
+    }))
 }
 
 // A line by its first word w, the fields x and y behind it, and the rest.
-pub fn read_words(w: &[u8], x: &[u8], y: &[u8], rest: &[u8]) -> Call
-    ensures { call_of result ≡ by_word w.now x.now y.now (split tab rest.now) }
+pub fn read_words(w: &[u8], x: &[u8], y: &[u8], rest: &[u8]) -> Option<Call>
+    ensures { says result ≡ by_word w.now x.now y.now (split tab rest.now) }
 {
-    if equal(w, b"pool") {
-        return read_pools(x, y, rest);
+    if w == b"pool".as_slice() {
+        read_pools(x, y, rest)
+    } else if w == b"hold".as_slice() {
+        read_holds(x, y, rest)
+    } else if w == b"want".as_slice() {
+        read_wants(x, y, rest)
+    } else {
+        None
     }
-    if equal(w, b"hold") {
-        return read_holds(x, y, rest);
-    }
-    if equal(w, b"want") {
-        return read_wants(x, y, rest);
-    }
-    Call::Bad
 }
 
 // What a line says, its newline left out.
+pub fn read_call(line: &[u8]) -> Option<Call>
+    ensures { says result ≡ read_line line.now }
+{
+    if LINE < line.len() {
+        return None;
+    }
+    let (w, rest) = cut(line, b'\t')?;
+    let (x, rest) = cut(rest, b'\t')?;
+    let (y, rest) = cut(rest, b'\t')?;
+    read_words(w, x, y, rest)
+}
+
+// .. as a call, which is bad where the line says none.
 pub fn read_line(line: &[u8]) -> Call
     ensures { call_of result ≡ read_line line.now }
 {
-    let n = line.len();
-    if LINE < n {
-        return Call::Bad;
-    }
-    let a = find(line, 0, 9);
-    if n <= a {
-        return Call::Bad;
-    }
-    let a1 = a + 1;
-    let b = find(line, a1, 9);
-    if n <= b {
-        return Call::Bad;
-    }
-    let b1 = b + 1;
-    let c = find(line, b1, 9);
-    if n <= c {
-        return Call::Bad;
-    }
-    let c1 = c + 1;
-    read_words(&line[..a], &line[a1..b], &line[b1..c], &line[c1..])
+    read_call(line).unwrap_or(Call::Bad)
 }

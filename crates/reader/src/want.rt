@@ -1,187 +1,96 @@
-// A `want` line, from its kind's word on: the forms that 01 gives it, in the definition's order.
-ghost use Rattle.std.specs.Prelude.{◌≡◌};
+// A `want` line, from its kind's word on: a form that 01 gives it. (A form holds each number to its field's width: `as u32` loses nothing.)
+ghost use Rattle.std.specs.Prelude.{◌≡◌, ◌<◌, ℕ};
 ghost use Rattle.lines.specs.Base.{tab, split};
-ghost use Rattle.lines.specs.Forms.{want_forms_at_of, want_forms_at, want_forms_of, want_forms, tries};
-ghost use Rattle.std.proofs.Math.Option.{some};
-ghost use Rattle.definition.specs.Calls.{want};
-ghost use Rattle.request.specs.Asked.{want_of as meant};
-ghost use Rattle.request.specs.Calls.{call_of};
+ghost use Rattle.lines.specs.Forms.{want_forms, tries};
+ghost use Rattle.reader.specs.declared.kind.Kind.TheVariants as K;
+ghost use Rattle.reader.specs.Kinds.{word_of, want_says, Chooses};
 
+use crate::kind::Kind;
 use choose::Choice;
-use choose::ids::{DeviceChoice, EventChoice, LpiChoice};
-use lines::form::{AUTO, N16, N32, N64, read_form};
-use request::call::Call;
-use request::{Request, Want};
+use lines::form::{Field, N16, N32, N64, read_numbers};
+use request::Want;
 use tables::{DeviceId, EventId, Lpi};
 
-// A request as a call.
-fn asked(requester: u32, slot: u32, wanted: Want) -> Call
-    ensures { call_of result ≡ some (want (record { requester = requester; slot = slot; want = meant wanted })) }
+// The numbers of a form, of which the last says the choice: `auto` may stand for it.
+fn read_choice<const N: usize>(rest: &[u8], form: [Field; N]) -> Option<([u64; N], Choice<u64>)>
+    requires { 0 < N }
+    ensures { Chooses N form.entry (split tab rest.now) result }
 {
-    Call::Want(Request {
-        requester,
-        slot,
-        want: wanted,
+    let mut auto = form;
+    auto[N - 1] = Field::Auto;
+    if let Some(n) = read_numbers(rest, auto) {
+        return Some((n, Choice::Auto));
+    }
+    let n = read_numbers(rest, form)?;
+    Some((n, Choice::Fixed(n[N - 1])))
+}
+
+// What the fields behind a kind's word ask for.
+pub fn read_wanted(kind: Kind, rest: &[u8]) -> Option<Want>
+    ensures { (q : ℕ) (slot : ℕ) → want_says q slot result ≡ tries (want_forms q slot) (word_of kind) (split tab rest.now) }
+{
+    match kind {
+        Kind::Mmio => {
+            let ([size, alignment, _], choice) = read_choice(rest, [N64, N64, N64])?;
+            Some(Want::Mmio {
+                size,
+                alignment,
+                choice,
+            })
+        }
+        Kind::Pio => {
+            let ([size, alignment, _], choice) = read_choice(rest, [N16, N16, N16])?;
+            Some(Want::Pio {
+                size,
+                alignment,
+                choice,
+            })
+        }
+        Kind::Host => {
+            let (_, choice) = read_choice(rest, [N64])?;
+            Some(Want::Host { choice })
+        }
+        Kind::Input => read_input(rest),
+        Kind::Msi => read_msi(rest),
+        Kind::Device | Kind::Event | Kind::Lpi => None,
+    }
+}
+
+// .. of an input.
+fn read_input(rest: &[u8]) -> Option<Want>
+    ensures { (q : ℕ) (slot : ℕ) → want_says q slot result ≡ tries (want_forms q slot) (word_of K.Input) (split tab rest.now) }
+{
+    let ([controller, trigger, sharing, _], choice) = read_choice(rest, [N32, N32, N32, N64])?;
+    Some(Want::Input {
+        controller: controller as u32,
+        trigger: trigger as u32,
+        sharing: sharing as u32,
+        choice,
     })
 }
 
-// A want line from its kind's word on: first the forms that end in `auto`.
-pub fn read_want(requester: u32, slot: u32, kind: &[u8], rest: &[u8]) -> Call
-    ensures { call_of result ≡ tries (want_forms requester slot) kind.now (split tab rest.now) }
+// .. of MSI: all three numbers, or none.
+fn read_msi(rest: &[u8]) -> Option<Want>
+    ensures { (q : ℕ) (slot : ℕ) → want_says q slot result ≡ tries (want_forms q slot) (word_of K.Msi) (split tab rest.now) }
 {
-    let r = read_form(kind, b"mmio", rest, &[N64, N64, AUTO]);
-    if r.good {
-        let n = r.n;
-        return asked(
-            requester,
-            slot,
-            Want::Mmio {
-                size: n[0],
-                alignment: n[1],
-                choice: Choice::Auto,
-            },
-        );
+    if let Some(n) = read_numbers(rest, [N32, N32, N32, Field::Auto]) {
+        let [controller, its, count, _] = n;
+        return Some(Want::Msi {
+            controller: controller as u32,
+            its: its as u32,
+            count: count as u32,
+            device: Choice::Auto,
+            event: Choice::Auto,
+            lpi: Choice::Auto,
+        });
     }
-    let r = read_form(kind, b"pio", rest, &[N16, N16, AUTO]);
-    if r.good {
-        let n = r.n;
-        return asked(
-            requester,
-            slot,
-            Want::Pio {
-                size: n[0],
-                alignment: n[1],
-                choice: Choice::Auto,
-            },
-        );
-    }
-    let r = read_form(kind, b"host", rest, &[AUTO]);
-    if r.good {
-        return asked(
-            requester,
-            slot,
-            Want::Host {
-                choice: Choice::Auto,
-            },
-        );
-    }
-    read_want_of(requester, slot, kind, rest)
-}
-
-// .. of a controller.
-pub fn read_want_of(requester: u32, slot: u32, kind: &[u8], rest: &[u8]) -> Call
-    ensures { call_of result ≡ tries (want_forms_of requester slot) kind.now (split tab rest.now) }
-{
-    let r = read_form(kind, b"input", rest, &[N32, N32, N32, AUTO]);
-    if r.good {
-        let n = r.n;
-        return asked(
-            requester,
-            slot,
-            Want::Input {
-                controller: n[0] as u32,
-                trigger: n[1] as u32,
-                sharing: n[2] as u32,
-                choice: Choice::Auto,
-            },
-        );
-    }
-    let r = read_form(kind, b"msi", rest, &[N32, N32, N32, AUTO]);
-    if r.good {
-        let n = r.n;
-        return asked(
-            requester,
-            slot,
-            Want::Msi {
-                controller: n[0] as u32,
-                its: n[1] as u32,
-                count: n[2] as u32,
-                device: DeviceChoice::Auto,
-                event: EventChoice::Auto,
-                lpi: LpiChoice::Auto,
-            },
-        );
-    }
-    read_want_at(requester, slot, kind, rest)
-}
-
-// .. then the forms that end in numbers.
-pub fn read_want_at(requester: u32, slot: u32, kind: &[u8], rest: &[u8]) -> Call
-    ensures { call_of result ≡ tries (want_forms_at requester slot) kind.now (split tab rest.now) }
-{
-    let r = read_form(kind, b"mmio", rest, &[N64, N64, N64]);
-    if r.good {
-        let n = r.n;
-        return asked(
-            requester,
-            slot,
-            Want::Mmio {
-                size: n[0],
-                alignment: n[1],
-                choice: Choice::Fixed(n[2]),
-            },
-        );
-    }
-    let r = read_form(kind, b"pio", rest, &[N16, N16, N16]);
-    if r.good {
-        let n = r.n;
-        return asked(
-            requester,
-            slot,
-            Want::Pio {
-                size: n[0],
-                alignment: n[1],
-                choice: Choice::Fixed(n[2]),
-            },
-        );
-    }
-    let r = read_form(kind, b"host", rest, &[N64]);
-    if r.good {
-        let n = r.n;
-        return asked(
-            requester,
-            slot,
-            Want::Host {
-                choice: Choice::Fixed(n[0]),
-            },
-        );
-    }
-    read_want_at_of(requester, slot, kind, rest)
-}
-
-// .. of a controller.
-pub fn read_want_at_of(requester: u32, slot: u32, kind: &[u8], rest: &[u8]) -> Call
-    ensures { call_of result ≡ tries (want_forms_at_of requester slot) kind.now (split tab rest.now) }
-{
-    let r = read_form(kind, b"input", rest, &[N32, N32, N32, N64]);
-    if r.good {
-        let n = r.n;
-        return asked(
-            requester,
-            slot,
-            Want::Input {
-                controller: n[0] as u32,
-                trigger: n[1] as u32,
-                sharing: n[2] as u32,
-                choice: Choice::Fixed(n[3]),
-            },
-        );
-    }
-    let r = read_form(kind, b"msi", rest, &[N32, N32, N32, N32, N32, N32]);
-    if r.good {
-        let n = r.n;
-        return asked(
-            requester,
-            slot,
-            Want::Msi {
-                controller: n[0] as u32,
-                its: n[1] as u32,
-                count: n[2] as u32,
-                device: DeviceChoice::Fixed(DeviceId(n[3] as u32)),
-                event: EventChoice::Fixed(EventId(n[4] as u32)),
-                lpi: LpiChoice::Fixed(Lpi(n[5] as u32)),
-            },
-        );
-    }
-    Call::Bad
+    let [controller, its, count, device, event, lpi] = read_numbers(rest, [N32; 6])?;
+    Some(Want::Msi {
+        controller: controller as u32,
+        its: its as u32,
+        count: count as u32,
+        device: Choice::Fixed(DeviceId(device as u32)),
+        event: Choice::Fixed(EventId(event as u32)),
+        lpi: Choice::Fixed(Lpi(lpi as u32)),
+    })
 }

@@ -1,4 +1,3 @@
-pub mod WordLaws
 pub mod SizeLaws
 pub mod WordsLaws
 pub mod CollectLaws

@@ -1,29 +1,36 @@
 -- The code's way to a device's requests: all are gathered in a list of its own, then what is answered is known, then they are written. Assumes nothing.
-use Rattle.std.specs.Prelude.{◌≡◌, ℕ, ◌*◌, ◌/◌, ◌≤◌, true, false, List, [], ◌∷◌, length, take, ◌==◌, nat_le}
-use Rattle.std.proofs.lemmas.List.Edits.{sets}
+use Rattle.std.specs.Prelude.{◌≡◌, ℕ, ◌*◌, ◌/◌, ◌≤◌, Bool, true, false, List, [], ◌∷◌, length, take, nat_le, Result, Ok, Err}
+use Rattle.std.proofs.Math.Option.{Option, none, some}
 use Rattle.definition.specs.Base.{short, tell, Answer, accepted, refused, require, ◌then◌}
 use Rattle.definition.specs.Request.{Request}
 use Rattle.definition.specs.Registers.{register_count}
 use Rattle.flat.specs.Flat.{request_size, numbers_of_all}
-use Rattle.registers.specs.Sizing.{Sized, sizing}
+use Rattle.registers.specs.declared.fault.Fault.{Fault}
+use Rattle.registers.specs.Told.{fault_of}
+use Rattle.registers.specs.Sizing.{Sized, sized, sizing}
 
--- the numbers of an automatic request of this kind, whose alignment is its size
-abbrev pub automatic : ℕ → ℕ → ℕ → ℕ → List ℕ
-automatic kind q slot size = kind ∷ q ∷ slot ∷ size ∷ size ∷ 0 ∷ 0 ∷ 0 ∷ 0 ∷ 0 ∷ 0 ∷ 0 ∷ []
+-- the next word, where there is one
+abbrev pub first_of : List ℕ → Option ℕ
+first_of [] = none
+first_of (w ∷ ws) = some w
 
--- requests put into a list from a place on, and how many they are
-pub record Added (rs : List Request) (at : ℕ) (before : List ℕ) (count : ℕ) (after : List ℕ) : Type 0 where
-  pub many : count ≡ length rs
-  pub list : after ≡ sets before at (numbers_of_all rs)
+-- the words behind a register's first: a pair has two
+abbrev pub past_in : Bool → List ℕ → List ℕ
+past_in false ws = ws
+past_in true [] = []
+past_in true (w ∷ ws) = ws
+
+-- what the code answers, and the list afterwards: how many requests, or the number of a fault and none
+abbrev pub sized_said : Result ℕ Fault → List ℕ → Sized
+sized_said (Ok count) list = sized 0 count list
+sized_said (Err f) list = sized (tell 0 (fault_of f)).number 0 list
 
 -- what is gathered before anything is written: the requests' numbers in front of a list, or the first fault
-abbrev pub Collected : Answer (List Request) → ℕ → ℕ → List ℕ → Type 0
-Collected (accepted rs) n count list = (n ≡ 0) × (count ≡ length rs) × (length rs ≤ register_count) × (take (request_size * count) list ≡ numbers_of_all rs)
-Collected (refused x) n count list = n ≡ (tell 0 x).number
-
--- .. and what is answered then
-abbrev pub verdict_of : ℕ → ℕ → ℕ → ℕ
-verdict_of n count most = elim (n == 0) [ false ↦ n | true ↦ elim (nat_le count most) [ true ↦ 0 | false ↦ 11 ] ]
+abbrev pub Collected : Answer (List Request) → Result ℕ Fault → List ℕ → Type 0
+Collected (accepted rs) (Ok count) list = (count ≡ length rs) × (length rs ≤ register_count) × (take (request_size * count) list ≡ numbers_of_all rs)
+Collected (accepted rs) (Err f) list = ⊥
+Collected (refused x) (Ok count) list = ⊥
+Collected (refused x) (Err f) list = x ≡ fault_of f
 
 -- .. and written: a list that can't hold all of them is 11, last
 abbrev pub sized_into : Answer (List Request) → List ℕ → Sized

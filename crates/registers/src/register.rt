@@ -1,13 +1,16 @@
 // What one register asks for, or its fault.
-ghost use Rattle.std.specs.Prelude.{◌≡◌};
-ghost use Rattle.definition.specs.Base.{tell, ◌then◌};
+ghost use Rattle.std.specs.Prelude.{◌≡◌, ◌^◌, ◌<◌, ◌≤◌};
+ghost use Rattle.definition.specs.Base.{◌then◌};
 ghost use Rattle.definition.specs.Registers.{register_of, takes_next, memory_mask, pair_mask, port_mask, size_of, memory_want, ports_want, asked};
-ghost use Rattle.registers.specs.Told.{register_said, fault_of, asked_of, next_of, number_said};
+ghost use Rattle.flat.specs.Flat.{numbers_of_want};
+ghost use Rattle.registers.specs.Told.{register_said, want_of, asked_said, next_said};
 
-use crate::mask::{good_mask_32, good_mask_64, size_32, size_64};
+use crate::fault::Fault;
+use crate::mask::size_of;
+use flat::REQUEST;
 
 // What a word says.
-#[derive(Clone, Copy)]
+#[derive(Clone, Copy, Debug, PartialEq, Eq)]
 pub enum Register {
     Nothing,
     Ports,
@@ -16,50 +19,28 @@ pub enum Register {
     Unknown,
 }
 
-// Why a register is refused.
-#[derive(Clone, Copy)]
-pub enum Fault {
-    BadType,
-    BadPair,
-    BadMask,
-    PortsTooLarge,
-}
-
-// What a register asks for: nothing, or memory or ports of a size.
-#[derive(Clone, Copy)]
-pub enum Asked {
-    Nothing,
+// What a register asks for: memory or ports of a size, both of them something; nothing is an Option's None.
+#[derive(Clone, Copy, Debug, PartialEq, Eq)]
+pub enum Ask {
     Memory(u64),
     Ports(u64),
-    Refused(Fault),
 }
 
-// The number of a refusal.
-pub fn number_of(f: Fault) -> u64
-    ensures { result ≡ (tell 0 (fault_of f)).number }
-{
-    match f {
-        Fault::BadType => 14,
-        Fault::BadPair => 15,
-        Fault::BadMask => 16,
-        Fault::PortsTooLarge => 17,
-    }
-}
-
-// .. 0 where there is none.
-pub fn refusal_of(asked: Asked) -> u64
-    ensures { result ≡ number_said asked }
-{
-    match asked {
-        Asked::Refused(f) => number_of(f),
-        Asked::Nothing => 0,
-        Asked::Memory(_) => 0,
-        Asked::Ports(_) => 0,
+impl Ask {
+    // An automatic request's numbers: its alignment is its size.
+    pub fn numbers(self, requester: u64, slot: u64) -> [u64; REQUEST]
+        ensures { result ≡ numbers_of_want requester slot (want_of self) }
+    {
+        let (kind, size) = match self {
+            Ask::Memory(size) => (1, size),
+            Ask::Ports(size) => (2, size),
+        };
+        [kind, requester, slot, size, size, 0, 0, 0, 0, 0, 0, 0]
     }
 }
 
 // By bit 0, and of memory by bits 2 and 1.
-#[tactic(auto, using(crate::proofs::WordLaws::says_nothing, crate::proofs::WordLaws::says_ports, crate::proofs::WordLaws::says_unknown, crate::proofs::WordLaws::says_pair, crate::proofs::WordLaws::says_memory))]
+#[tactic(auto, unfolding(definition::specs::Registers::register_of, definition::specs::Registers::memory_of))]
 pub fn register_of(w: u32) -> Register
     ensures { register_said result ≡ register_of w }
 {
@@ -82,17 +63,11 @@ pub fn register_of(w: u32) -> Register
 pub fn takes_next(register: Register) -> bool
     ensures { result ≡ takes_next (register_said register) }
 {
-    match register {
-        Register::Nothing => false,
-        Register::Ports => false,
-        Register::Memory => false,
-        Register::Pair => true,
-        Register::Unknown => false,
-    }
+    matches!(register, Register::Pair)
 }
 
 // The mask of ports: upper 16 bits that read zero are taken as ones.
-#[tactic(auto, using(crate::proofs::WordLaws::ones_taken, crate::proofs::WordLaws::ones_left))]
+#[tactic(auto, unfolding(definition::specs::Registers::upper_ones))]
 pub fn port_mask(w: u32) -> u32
     ensures { result ≡ port_mask w }
 {
@@ -103,69 +78,56 @@ pub fn port_mask(w: u32) -> u32
 }
 
 // Ports are as many as 16 bits hold.
-#[tactic(auto, using(crate::proofs::SizeLaws::ports_many, crate::proofs::SizeLaws::ports_fit))]
-pub fn sized_ports(n: u64) -> Asked
-    ensures { asked_of result ≡ ports_want n }
+#[tactic(auto, unfolding(definition::specs::Base::require))]
+pub fn sized_ports(size: u64) -> Result<Option<Ask>, Fault>
+    ensures { asked_said result ≡ ports_want size }
 {
-    if 65535 < n {
-        return Asked::Refused(Fault::PortsTooLarge);
+    if u64::from(u16::MAX) < size {
+        return Err(Fault::PortsTooLarge);
     }
-    Asked::Ports(n)
+    Ok(Some(Ask::Ports(size)))
 }
 
 // Ports.
-#[tactic(auto, using(crate::proofs::SizeLaws::bad_size, crate::proofs::SizeLaws::good_size, crate::proofs::SizeLaws::mask_pos))]
-pub fn asked_ports(w: u32) -> Asked
-    ensures { asked_of result ≡ (size_of 32 (port_mask w) then ports_want) }
+pub fn asked_ports(w: u32) -> Result<Option<Ask>, Fault>
+    ensures { asked_said result ≡ (size_of 32 (port_mask w) then ports_want) }
 {
-    let m = port_mask(w);
-    if !good_mask_32(m) {
-        return Asked::Refused(Fault::BadMask);
-    }
-    sized_ports(size_32(m) as u64)
+    sized_ports(size_of::<32>(u64::from(port_mask(w)))?)
+}
+
+// Memory of a mask of so many bits.
+fn memory_of<const WIDTH: u32>(mask: u64) -> Result<Option<Ask>, Fault>
+    requires width { WIDTH ≤ 64 }
+    requires mask { mask < 2 ^ WIDTH }
+    ensures { asked_said result ≡ (size_of WIDTH mask then memory_want) }
+{
+    Ok(Some(Ask::Memory(size_of::<WIDTH>(mask)?)))
 }
 
 // Memory of one word.
-#[tactic(auto, using(crate::proofs::SizeLaws::bad_size, crate::proofs::SizeLaws::good_size, crate::proofs::SizeLaws::mask_pos))]
-pub fn asked_memory(w: u32) -> Asked
-    ensures { asked_of result ≡ (size_of 32 (memory_mask w) then memory_want) }
+pub fn asked_memory(w: u32) -> Result<Option<Ask>, Fault>
+    ensures { asked_said result ≡ (size_of 32 (memory_mask w) then memory_want) }
 {
-    let m = w - w % 16;
-    if !good_mask_32(m) {
-        return Asked::Refused(Fault::BadMask);
-    }
-    let n = size_32(m) as u64;
-    Asked::Memory(n)
+    memory_of::<32>(u64::from(w - w % 16))
 }
 
 // Memory of a pair: its mask is one number of 64 bits.
-#[tactic(auto, using(crate::proofs::SizeLaws::bad_size, crate::proofs::SizeLaws::good_size, crate::proofs::SizeLaws::mask_pos))]
-pub fn asked_pair(w: u32, high: u32) -> Asked
-    ensures { asked_of result ≡ (size_of 64 (pair_mask w high) then memory_want) }
+pub fn asked_pair(w: u32, high: u32) -> Result<Option<Ask>, Fault>
+    ensures { asked_said result ≡ (size_of 64 (pair_mask w high) then memory_want) }
 {
-    let m = (high as u64) * 4294967296 + (w - w % 16) as u64;
-    if !good_mask_64(m) {
-        return Asked::Refused(Fault::BadMask);
-    }
-    Asked::Memory(size_64(m))
+    memory_of::<64>(u64::from(high) * 4294967296 + u64::from(w - w % 16))
 }
 
 // A register, with the next word unless it is the last.
 #[tactic(auto, unfolding(definition::specs::Registers::asked))]
-pub fn judge(w: u32, last: bool, next: u32) -> Asked
-    ensures { asked_of result ≡ asked (register_of w) w (next_of last next) }
+pub fn judge(w: u32, next: Option<u32>) -> Result<Option<Ask>, Fault>
+    ensures { asked_said result ≡ asked (register_of w) w (next_said next) }
 {
-    let register = register_of(w);
-    match register {
-        Register::Nothing => Asked::Nothing,
+    match register_of(w) {
+        Register::Nothing => Ok(None),
         Register::Ports => asked_ports(w),
         Register::Memory => asked_memory(w),
-        Register::Pair => {
-            if last {
-                return Asked::Refused(Fault::BadPair);
-            }
-            asked_pair(w, next)
-        }
-        Register::Unknown => Asked::Refused(Fault::BadType),
+        Register::Pair => asked_pair(w, next.ok_or(Fault::BadPair)?),
+        Register::Unknown => Err(Fault::BadType),
     }
 }

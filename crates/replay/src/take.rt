@@ -5,17 +5,12 @@ ghost use Rattle.flat.specs.Flat.{request_size};
 ghost use Rattle.replay.specs.Again.{taken};
 
 use flat::REQUEST;
-use flat::copy::copy;
-use flat::pin::lesser;
 
 // Where a line begins in a list of so many numbers: one past the last, at the list's end.
 pub fn begins(i: u64, long: usize) -> usize
     ensures { result ≡ min (request_size * i) long }
 {
-    if i <= (long / REQUEST) as u64 {
-        return REQUEST * i as usize;
-    }
-    long
+    REQUEST.saturating_mul(i as usize).min(long)
 }
 
 // The lines of these indices, in this order, put in front as far as there is room, and how many numbers they are. An index past the last line takes nothing.
@@ -24,14 +19,11 @@ pub fn take(lines: &[u64], selection: &[u64], chosen: &mut [u64]) -> usize
         × (result ≡ length (taken (length chosen.old) lines.now selection.now)) }
 {
     let mut at: usize = 0;
-    let mut j: usize = 0;
-    while j < selection.len() {
-        let from = begins(selection[j], lines.len());
-        let whole = lesser(REQUEST, lines.len() - from);
-        let n = lesser(whole, chosen.len() - at);
-        copy(lines, from, n, chosen, at);
+    for i in selection {
+        let line = &lines[begins(*i, lines.len())..];
+        let n = REQUEST.min(line.len()).min(chosen.len() - at);
+        chosen[at..at + n].copy_from_slice(&line[..n]);
         at += n;
-        j += 1;
     }
     at
 }

@@ -7,7 +7,7 @@ use tables::State;
 
 // Demand 3 by `replay::replay`, on a state by value: it is lent from here.
 pub fn replay(
-    s: State,
+    mut s: State,
     requests: &mut [u64],
     selection: &[u64],
     results: &mut [u64],
@@ -15,7 +15,6 @@ pub fn replay(
 ) -> State
     ensures { runs (state_view result) requests.new results.new second.new ≡ runs_of requests.old selection.now results.old second.old (state_view s) }
 {
-    let mut t = s;
-    replay::replay(&mut t, requests, selection, results, second);
-    t
+    replay::replay(&mut s, requests, selection, results, second);
+    s
 }

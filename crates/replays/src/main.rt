@@ -28,16 +28,14 @@ pub fn again(s: State, requests: &mut [u64], selection: &[u64], first: &[u64]) -
     let mut results = [0u64; RESULTS];
     let mut second = [0u64; RESULTS];
     let t = lends::replay(s, requests, selection, &mut results, &mut second);
-    if t.number != 0 {
-        return Outcome::Failed;
+    if t.number == 0
+        && checked::records(first, selection, &second)
+        && checked::owners(&t, &second, selection.len())
+    {
+        Outcome::Passed
+    } else {
+        Outcome::Failed
     }
-    if !checked::records(first, selection, &second) {
-        return Outcome::Failed;
-    }
-    if !checked::owners(t, &second, selection.len()) {
-        return Outcome::Failed;
-    }
-    Outcome::Passed
 }
 
 pub fn tried(seed: u32) -> Outcome {
@@ -63,21 +61,13 @@ pub fn tried(seed: u32) -> Outcome {
 fn main(rt: HostRuntime) -> io::Result<()> {
     let mut passed: u64 = 0;
     let mut refused: u64 = 0;
-    let mut seed: u32 = 0;
-    while seed < 600 {
+    for seed in 0..600 {
         match tried(seed) {
-            Outcome::Passed => {
-                passed = std::num::wrapping_add_u64(passed, 1);
-            }
-            Outcome::Refused => {
-                refused = std::num::wrapping_add_u64(refused, 1);
-            }
-            Outcome::Failed => {
-                println!(rt; "{seed} failed")?;
-            }
+            Outcome::Passed => passed += 1,
+            Outcome::Refused => refused += 1,
+            Outcome::Failed => println!(rt; "{seed} failed")?,
         }
-        seed += 1;
-        if seed % 100 == 0 {
+        if seed % 100 == 99 {
             println!(rt; "{passed} passed, refused {refused}")?;
         }
     }

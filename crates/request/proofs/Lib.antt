@@ -1,2 +1,1 @@
 pub mod GoodLaws
-pub mod NarrowLaws

@@ -3,33 +3,27 @@ use super::Request;
 use tables::{DeviceId, EventId, Lpi};
 
 // Which pools a range is added to: those that automatic requests search, or those that fixed requests are allowed in.
-#[derive(Clone, Copy)]
+#[derive(Clone, Copy, Debug, PartialEq, Eq)]
 pub enum Use {
     Automatic,
     Fixed,
 }
 
-// Half-open ranges of numbers that cannot be passed for one another.
-#[derive(Clone, Copy)]
-pub struct Devices {
-    pub start: DeviceId,
-    pub end: DeviceId,
+// A half-open range of DeviceIDs, EventIDs or LPIs, which cannot be passed for one another.
+#[derive(Clone, Copy, Debug, PartialEq, Eq)]
+pub struct Ids<T> {
+    pub start: T,
+    pub end: T,
 }
 
-#[derive(Clone, Copy)]
-pub struct Events {
-    pub start: EventId,
-    pub end: EventId,
-}
+pub type Devices = Ids<DeviceId>;
 
-#[derive(Clone, Copy)]
-pub struct Lpis {
-    pub start: Lpi,
-    pub end: Lpi,
-}
+pub type Events = Ids<EventId>;
+
+pub type Lpis = Ids<Lpi>;
 
 // What a pool call adds. Its numbers stand in the order of the program's line.
-#[derive(Clone, Copy)]
+#[derive(Clone, Copy, Debug, PartialEq, Eq)]
 pub enum PoolRange {
     Mmio(u64, u64),
     Pio(u16, u16),
@@ -39,7 +33,7 @@ pub enum PoolRange {
 }
 
 // What a reservation holds: an input with its trigger and sharing, a pair with its trigger and host IRQ.
-#[derive(Clone, Copy)]
+#[derive(Clone, Copy, Debug, PartialEq, Eq)]
 pub enum Hold {
     Mmio(u64, u64),
     Pio(u16, u16),
@@ -51,8 +45,8 @@ pub enum Hold {
     Pair(u32, u64, u32, u64),
 }
 
-// A range for the pools of a use, something held by an owner, a start, a request. `Bad`: a line of no form, or numbers that cannot be read.
-#[derive(Clone, Copy)]
+// A range for the pools of a use, something held by an owner, a start, a request. `Bad`: a line of no form, or numbers that cannot be read. (Not an Option of a call: `reader::read_line` promises of every line which call it is.)
+#[derive(Clone, Copy, Debug, PartialEq, Eq)]
 pub enum Call {
     Pool(Use, PoolRange),
     Hold(u32, Hold),

@@ -8,56 +8,56 @@ ghost use Rattle.choose.specs.Told.{choice_of, refusal_of};
 ghost use Rattle.choose.specs.Ids.{device_choice, event_choice, lpi_choice};
 ghost use Rattle.request.specs.Asked.{want_of, request_of, said_of, good_span};
 
-use choose::ids::{DeviceChoice, EventChoice, LpiChoice};
 use choose::{Choice, Refusal};
+use tables::{DeviceId, EventId, Lpi};
 
 pub mod call;
 
-const TOP_64: u64 = 18446744073709551615;
-
 const TOP_16: u64 = 65535;
 
+const TOP_32: u64 = 4294967295;
+
 // What is wanted. PIO numbers have 16 bits: one that is too large is bad input. All numbers of MSI have 32 by their types.
-#[derive(Clone, Copy)]
+#[derive(Clone, Copy, Debug, PartialEq, Eq)]
 pub enum Want {
     Mmio {
         size: u64,
         alignment: u64,
-        choice: Choice,
+        choice: Choice<u64>,
     },
     Pio {
         size: u64,
         alignment: u64,
-        choice: Choice,
+        choice: Choice<u64>,
     },
     Input {
         controller: u32,
         trigger: u32,
         sharing: u32,
-        choice: Choice,
+        choice: Choice<u64>,
     },
     Host {
-        choice: Choice,
+        choice: Choice<u64>,
     },
     Msi {
         controller: u32,
         its: u32,
         count: u32,
-        device: DeviceChoice,
-        event: EventChoice,
-        lpi: LpiChoice,
+        device: Choice<DeviceId>,
+        event: Choice<EventId>,
+        lpi: Choice<Lpi>,
     },
 }
 
-#[derive(Clone, Copy)]
+#[derive(Clone, Copy, Debug, PartialEq, Eq)]
 pub struct Request {
     pub requester: u32,
     pub slot: u32,
     pub want: Want,
 }
 
-// The numbers of an answer beside the index.
-#[derive(Clone, Copy)]
+// The numbers of an answer beside the index, 0 where it is accepted: as the C interface has them.
+#[derive(Clone, Copy, Debug, PartialEq, Eq)]
 pub struct Said {
     pub number: u64,
     pub namespace: u64,
@@ -66,7 +66,8 @@ pub struct Said {
 }
 
 // A number that is asked for by name is no larger than `most`.
-pub fn good_choice(most: u64, choice: Choice) -> bool
+#[tactic(auto, unfolding(definition::specs::Request::good_choice))]
+pub fn good_choice(most: u64, choice: Choice<u64>) -> bool
     ensures { result ≡ good_choice most (choice_of choice) }
 {
     match choice {
@@ -76,51 +77,44 @@ pub fn good_choice(most: u64, choice: Choice) -> bool
 }
 
 // A range: some numbers, aligned by one bit, all within the width.
-pub fn good_span(most: u64, size: u64, alignment: u64, choice: Choice) -> bool
+#[tactic(auto, unfolding(crate::specs::Asked::good_span))]
+pub fn good_span(most: u64, size: u64, alignment: u64, choice: Choice<u64>) -> bool
     ensures { result ≡ good_span most size alignment (choice_of choice) }
 {
-    if size == 0 {
-        return false;
-    }
-    if most < size {
-        return false;
-    }
-    if most < alignment {
-        return false;
-    }
-    if !search::one_bit(alignment) {
-        return false;
-    }
-    good_choice(most, choice)
+    0 < size
+        && size <= most
+        && alignment <= most
+        && search::one_bit(alignment)
+        && good_choice(most, choice)
 }
 
 // A wired request's codes are known.
-pub fn good_input(controller: u32, trigger: u32, sharing: u32, choice: Choice) -> bool
+#[tactic(auto, unfolding(definition::specs::Request::good_want))]
+pub fn good_input(controller: u32, trigger: u32, sharing: u32, choice: Choice<u64>) -> bool
     ensures { result ≡ good_want (input_want controller trigger sharing (choice_of choice)) }
 {
-    if 3 < trigger {
-        return false;
-    }
-    if 1 < sharing {
-        return false;
-    }
-    good_choice(TOP_64, choice)
+    trigger <= 3 && sharing <= 1 && good_choice(u64::MAX, choice)
 }
 
 // An MSI request wants some events.
+#[tactic(auto, unfolding(definition::specs::Request::good_want))]
 pub fn good_msi(
     controller: u32,
     its: u32,
     count: u32,
-    device: DeviceChoice,
-    event: EventChoice,
-    lpi: LpiChoice,
+    device: Choice<DeviceId>,
+    event: Choice<EventId>,
+    lpi: Choice<Lpi>,
 ) -> bool
     ensures { result ≡ good_want (msi_want controller its count (device_choice device) (event_choice event) (lpi_choice lpi)) }
 {
     count != 0
+        && good_choice(TOP_32, device.plain())
+        && good_choice(TOP_32, event.plain())
+        && good_choice(TOP_32, lpi.plain())
 }
 
+#[tactic(auto, using(crate::proofs::GoodLaws::mmio_good, crate::proofs::GoodLaws::pio_good), unfolding(definition::specs::Request::good_want))]
 pub fn good_want(want: Want) -> bool
     ensures { result ≡ good_want (want_of want) }
 {
@@ -129,7 +123,7 @@ pub fn good_want(want: Want) -> bool
             size,
             alignment,
             choice,
-        } => good_span(TOP_64, size, alignment, choice),
+        } => good_span(u64::MAX, size, alignment, choice),
         Want::Pio {
             size,
             alignment,
@@ -141,7 +135,7 @@ pub fn good_want(want: Want) -> bool
             sharing,
             choice,
         } => good_input(controller, trigger, sharing, choice),
-        Want::Host { choice } => good_choice(TOP_64, choice),
+        Want::Host { choice } => good_choice(u64::MAX, choice),
         Want::Msi {
             controller,
             its,
@@ -154,50 +148,53 @@ pub fn good_want(want: Want) -> bool
 }
 
 // Whether a request makes sense: 2 if not.
+#[tactic(auto, unfolding(definition::specs::Request::good_request))]
 pub fn good_request(r: Request) -> bool
     ensures { result ≡ good_request (request_of r) }
 {
-    if r.requester == 0 {
-        return false;
-    }
-    let want = r.want;
-    good_want(want)
+    r.requester != 0 && good_want(r.want)
 }
 
 // The numbers of a refusal.
-pub fn numbers(y: Refusal) -> Said
-    ensures { said_of result ≡ tell 0 (refusal_of y) }
-{
-    match y {
-        Refusal::Malformed => plain(1),
-        Refusal::BadInput => plain(2),
-        Refusal::FixedNotAllowed(namespace) => naming(6, namespace, 0, 0),
-        Refusal::Exhausted(namespace) => naming(7, namespace, 0, 0),
-        Refusal::Conflict(namespace, owner, detail) => naming(8, namespace, owner, detail),
-        Refusal::Full => plain(9),
-        Refusal::Short => plain(11),
+impl From<Refusal> for Said {
+    ghost from_gives = { λ y said. said_of said ≡ tell 0 (refusal_of y) };
+
+    fn from(y: Refusal) -> Said {
+        match y {
+            Refusal::Malformed => Said::plain(1),
+            Refusal::BadInput => Said::plain(2),
+            Refusal::FixedNotAllowed(namespace) => Said::naming(6, namespace, 0, 0),
+            Refusal::Exhausted(namespace) => Said::naming(7, namespace, 0, 0),
+            Refusal::Conflict(namespace, owner, detail) => {
+                Said::naming(8, namespace, owner, detail)
+            }
+            Refusal::Full => Said::plain(9),
+            Refusal::Short => Said::plain(11),
+        }
     }
 }
 
-// A refusal that names nothing.
-pub fn plain(number: u64) -> Said
-    ensures { result ≡ record { number = number; namespace = 0; owner = 0; detail = 0 } }
-{
-    Said {
-        number,
-        namespace: 0,
-        owner: 0,
-        detail: 0,
+impl Said {
+    // A number that names nothing.
+    pub fn plain(number: u64) -> Said
+        ensures { result ≡ record { number = number; namespace = 0; owner = 0; detail = 0 } }
+    {
+        Said {
+            number,
+            namespace: 0,
+            owner: 0,
+            detail: 0,
+        }
     }
-}
 
-pub fn naming(number: u64, namespace: u32, owner: u32, detail: u32) -> Said
-    ensures { result ≡ record { number = number; namespace = namespace; owner = owner; detail = detail } }
-{
-    Said {
-        number,
-        namespace: namespace as u64,
-        owner: owner as u64,
-        detail: detail as u64,
+    pub fn naming(number: u64, namespace: u32, owner: u32, detail: u32) -> Said
+        ensures { result ≡ record { number = number; namespace = namespace; owner = owner; detail = detail } }
+    {
+        Said {
+            number,
+            namespace: u64::from(namespace),
+            owner: u64::from(owner),
+            detail: u64::from(detail),
+        }
     }
 }

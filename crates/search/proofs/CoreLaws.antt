@@ -18,6 +18,7 @@ use Rattle.tables.specs.Below.{listed}
 use Rattle.tables.proofs.ListedLaws.{pairs_out}
 use Rattle.bases.specs.Bases.{Up}
 use Rattle.search.specs.Steps.{Bases, Free, Tried, Jumps}
+use Rattle.search.specs.Finds.{Barren}
 use Rattle.search.proofs.CaseLaws.{lt_or_le, not_both}
 use Rattle.tables.proofs.IndexLaws.{any_out, any_in}
 use Rattle.search.proofs.MeetLaws.{meets_says, says_meets, holds_says}
@@ -54,13 +55,9 @@ module _ (g : ℕ → Row) (on : ℕ) (n : Need) where
 
 -- ---- pool rows
 
--- pool row k has no usable base
-abbrev pub Barren : (ℕ → Span) → (ℕ → Row) → ℕ → Need → ℕ → Type 0
-Barren f g on n k = (b : ℕ) → T (holds n b (f k)) → b % n.alignment ≡ 0 → Free g on n b → ⊥
-
 module _ (f : ℕ → Span) (g : ℕ → Row) (on : ℕ) (n : Need) where
   -- a candidate past the last base of pool row i: the row is barren
-  pub barren_tried : (i c stop : ℕ) → Bases n (f i) stop → stop ≤ c → Tried g on n (f i).start c → Barren f g on n i
+  pub barren_tried : (i c stop : ℕ) → Bases n (f i) stop → stop ≤ c → Tried g on n (f i).start c → Barren (f i) g on n
   barren_tried i c stop u l t b h e z = t b (holds_says n b (f i) h).low (omega (arith, u.all b h)) e z
 
   -- sorted within a domain
@@ -102,7 +99,7 @@ module _ (f : ℕ → Span) (g : ℕ → Row) (on : ℕ) (n : Need) where
 
     module _ (pos : 0 < n.alignment) where
       -- a free candidate of pool row i is the least of all, where the rows before i are barren: a lesser one would lie in a row from i on, whose start is no less than row i's
-      pub lowest_here : (i c : ℕ) → T (pairs_of in_order Ps) → i < pn → ((k : ℕ) → k < i → Barren f g on n k) → Tried g on n (f i).start c
+      pub lowest_here : (i c : ℕ) → T (pairs_of in_order Ps) → i < pn → ((k : ℕ) → k < i → Barren (f k) g on n) → Tried g on n (f i).start c
           → T (holds n c (f i)) → c % n.alignment ≡ 0 → Free g on n c → lowest Ps Rs n ≡ some c
       lowest_here i c o l before t h e z = all_some c (lowest_says Ps Rs n pos) (free_in c i l h e z) low
         where
@@ -121,5 +118,5 @@ module _ (f : ℕ → Span) (g : ℕ → Row) (on : ℕ) (n : Need) where
               (λ p. ⊎_elim (λ q. absurd (t x (from x y.0.0 y.0.1 y.0.2 p) q y.1 y.2)) (λ q. q) (lt_or_le x c))
               (lt_or_le y.0.0 i)
 
-      pub lowest_none : ((k : ℕ) → k < pn → Barren f g on n k) → lowest Ps Rs n ≡ none
+      pub lowest_none : ((k : ℕ) → k < pn → Barren (f k) g on n) → lowest Ps Rs n ≡ none
       lowest_none before = all_none (lowest_says Ps Rs n pos) (λ x u. let y = free_out x u in before y.0.0 y.0.1 x y.0.2 y.1 y.2)

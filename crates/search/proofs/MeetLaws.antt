@@ -1,9 +1,11 @@
 -- What it says that two rows meet, that they do not, and that a pool row holds a run. Assumes nothing.
-use mathlib.Core.Path.{◌≡◌, refl, sym}
+use mathlib.Core.Path.{◌≡◌, refl, sym, ◌∙◌}
 use mathlib.Core.Bool.{Bool, true, false, ◌&&◌}
+use mathlib.Core.Logic.{⊎_elim}
 use Prim.Native.Nat.{ℕ, suc, ◌+◌, ◌<◌, ◌≤◌}
 use native.Mathlib.Omega.{arith}
-use lib.Dec.{T, leb, ltb, ltb→lt, leb→le, le→leb}
+use lib.Dec.{T, leb, ltb, eqb, ltb→lt, leb→le, le→leb}
+use Rattle.std.proofs.lemmas.Bool.Decides.{eqb_tells}
 use borrow.Author.Tests.{lt-ltb, le-ltb, eq-eqb, ne_eqb}
 use Rattle.definition.proofs.BaseLaws.{and_l, and_r, and_i, and_false, T_true, true_T}
 use Rattle.definition.specs.Tables.{dom, same_dom, pool_dom, Span, Row, wired_row, overlap, meets}
@@ -60,6 +62,13 @@ module _ (c x c' x' t s o t' s' o' : ℕ) where
   pub off_controller : (c' ≡ c → ⊥) → meets (wired_row c x t s o) (wired_row c' x' t' s' o') ≡ false
   unfolding same_dom
   off_controller f = apart_dom (wired_row c x t s o) (wired_row c' x' t' s' o') (rw (ne_eqb c c' (λ e. f (sym e))))
+
+  -- .. so the row meets the input exactly where the controllers are one, if the numbers are
+  pub by_controller : x' ≡ x → eqb c' c ≡ meets (wired_row c x t s o) (wired_row c' x' t' s' o')
+  by_controller e = ⊎_elim (λ (q, d). q ∙ sym (on_one e d)) (λ (q, f). q ∙ sym (off_controller f)) (eqb_tells c' c)
+
+  pub by_number : (x' ≡ x → ⊥) → eqb x' x ≡ meets (wired_row c x t s o) (wired_row c' x' t' s' o')
+  by_number f = ne_eqb x' x f ∙ sym (off_number f)
 
 -- a pool row that holds the run at b
 module _ (n : Need) (b : ℕ) (p : Span) where

@@ -4,6 +4,7 @@ use mathlib.Core.Bool.{Bool, true, false}
 use Prim.Native.Nat.{ℕ, ◌+◌, ◌-◌, ◌^◌, ◌<◌, ◌≤◌}
 use native.Mathlib.Omega.{arith}
 use lib.Dec.{T}
+use Rattle.std.specs.Prelude.{MatchBool}
 use borrow.Author.Tests.{eq-eqb, ne_eqb}
 use Rattle.definition.specs.Base.{any_of}
 use Rattle.definition.proofs.BaseLaws.{T_true, T_false, true_T, false_T}
@@ -78,3 +79,8 @@ module _ (p : Pool) (q : Span → Bool) (l : p.n ≤ pool_limit) where
   no_row f = sym (T_false (any_of q (used (pool_view p))) (λ t.
       let (k, m, h) = any_out q (span_at p) p.n (rw (pool_used p l) at t) in
       false_T (q (span_at p k)) (f k m) h))
+
+  -- `any` over the rows by index is `any_of` over the used ones
+  pub any_used : (r : Bool) → MatchBool r ((k : ℕ) × (k < p.n) × (q (span_at p k) ≡ true)) ((k : ℕ) → k < p.n → q (span_at p k) ≡ false) → r ≡ any_of q (used (pool_view p))
+  any_used true (k, m, h) = some_row k m (true_T (q (span_at p k)) h)
+  any_used false h = no_row h

@@ -1,10 +1,8 @@
 -- What the steps of a search promise each other, over rows by their index. Assumes nothing.
-use Rattle.std.specs.Prelude.{◌≡◌, true, false, ◌⊎◌, ℕ, ◌+◌, ◌%◌, ◌^◌, ◌<◌, ◌≤◌, T}
+use Rattle.std.specs.Prelude.{◌≡◌, true, false, ◌⊎◌, ℕ, ◌+◌, ◌%◌, ◌^◌, ◌<◌, ◌≤◌, T, Option, Some, None}
 use Rattle.definition.specs.Tables.{same_dom, pool_dom, Span, Row, meets}
 use Rattle.definition.specs.Request.{Need, row_at, holds}
 use Rattle.bases.specs.Bases.{Up}
-use Rattle.search.specs.declared.Step.{Step}
-use Rattle.search.specs.declared.Step.TheVariants.{To, Stay}
 
 -- the bases of a pool row: below the bound it is of the domain and the whole run ends in it, and no base that the row holds is the bound or more
 pub record Bases (n : Need) (p : Span) (bound : ℕ) : Type 0 where
@@ -36,7 +34,7 @@ pub record Jumps (g : ℕ → Row) (on : ℕ) (n : Need) (c stop r : ℕ) : Type
   pub tried : Tried g on n c r
   pub passed : r < stop → Passed g on n c r
 
--- one step of the search at base c: stay where the run is free, else go to the next base to try
-abbrev pub Steps : (ℕ → Row) → ℕ → Need → ℕ → ℕ → Step → Type 0
-Steps g on n c stop (To r) = Jumps g on n c stop r
-Steps g on n c stop Stay = Free g on n c
+-- one step of the search at base c: none where the run is free, else the next base to try
+abbrev pub Steps : (ℕ → Row) → ℕ → Need → ℕ → ℕ → Option ℕ → Type 0
+Steps g on n c stop (Some r) = Jumps g on n c stop r
+Steps g on n c stop None = Free g on n c

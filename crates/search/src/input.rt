@@ -1,14 +1,13 @@
-// The same for inputs: one number of a controller.
-ghost use Rattle.std.specs.Prelude.{◌≡◌, [], ◌^◌, ◌≤◌, ◌<◌};
+// Owners that hold inputs, as the search sees them: one number of a controller.
+ghost use Rattle.std.specs.Prelude.{◌≡◌, ◌+◌, ◌^◌, ◌≤◌, ◌<◌};
 ghost use Rattle.definition.specs.Tables.{row_limit, wired_row, meets};
 ghost use Rattle.tables.specs.Below.{first};
-ghost use Rattle.tables.specs.Views.{pool, inputs, input_of, input_at};
+ghost use Rattle.tables.specs.Views.{input_of, input_at, inputs_view};
 ghost use Rattle.search.specs.Asks.{need_of, one_input};
-ghost use Rattle.search.specs.Steps.{Passes, Steps};
-ghost use Rattle.search.specs.Finds.{InOrder, FindsInput};
+ghost use Rattle.search.specs.Rows.{input_rows, OneInput, inputs_listed, one_some};
 
-use super::{Found, Need, Step, bases_of};
-use tables::{Hit, Kind, POOL_ROWS, ROWS};
+use super::{Need, Owners};
+use tables::{Inputs, Kind};
 
 // One input of a controller, as a need: no search reads who asks.
 pub fn one_input(controller: u32) -> Need
@@ -25,112 +24,42 @@ pub fn one_input(controller: u32) -> Need
     }
 }
 
+// Whether row `k` is on input `x` of the controller.
+pub fn is_on(owners: &Inputs, k: usize, controller: u32, x: u64) -> bool
+    requires { k < row_limit }
+    ensures { result ≡ meets (wired_row controller x 0 0 0) (input_of (input_at owners.now k)) }
+{
+    owners.input[k] == x && owners.controller[k] == controller
+}
+
 // The first holder of an input of a controller, in table order.
-pub fn first_on<'a>(
-    controller: &'a [u32; ROWS],
-    input: &'a [u64; ROWS],
-    n: usize,
-    c: u32,
-    x: u64,
-) -> Hit
-    requires { n ≤ row_limit }
-    ensures { result ≡ first (λ k. meets (wired_row c x 0 0 0) (input_of (input_at (inputs n controller.now input.now [] [] []) k))) n }
+pub fn first_on(owners: &Inputs, controller: u32, x: u64) -> Option<usize>
+    requires { owners.now.n ≤ row_limit }
+    ensures { result ≡ first (λ k. meets (wired_row controller x 0 0 0) (input_of (input_at owners.now k))) owners.now.n }
 {
-    let mut i: usize = 0;
-    while i < n {
-        if input[i] != x {
-            i += 1;
-            continue;
-        }
-        if controller[i] == c {
-            return Hit::At(i);
-        }
-        i += 1;
-    }
-    Hit::Clear
+    (0..owners.n).find(|&k| is_on(owners, k, controller, x))
 }
 
-// The number behind input `b` where owner row `k` stands on it; else `b`.
-pub fn past_input<'a>(
-    controller: &'a [u32; ROWS],
-    input: &'a [u64; ROWS],
-    k: usize,
-    c: u32,
-    b: u64,
-    stop: u64,
-) -> u64
-    requires { (k < row_limit) × (b < stop) × (stop < 2 ^ 64) }
-    ensures { Passes (input_of (input_at (inputs 0 controller.now input.now [] [] []) k)) (need_of (one_input c)) b stop result }
-{
-    if input[k] != b {
-        return b;
-    }
-    if controller[k] == c {
-        return b + 1;
-    }
-    b
-}
+impl Owners for Inputs {
+    ghost view = { inputs_view };
 
-// Whether no row is on input `x`; else the next one to try, at most `stop`: one pass, as for ranges.
-pub fn next_input<'a>(
-    controller: &'a [u32; ROWS],
-    input: &'a [u64; ROWS],
-    n: usize,
-    c: u32,
-    x: u64,
-    stop: u64,
-) -> Step
-    requires { (n ≤ row_limit) × (x < stop) × (stop < 2 ^ 64) }
-    ensures { Steps (λ k. input_of (input_at (inputs n controller.now input.now [] [] []) k)) n (need_of (one_input c)) x stop result }
-{
-    let mut b = x;
-    let mut i: usize = 0;
-    while i < n {
-        let next = past_input(controller, input, i, c, b, stop);
-        if stop <= next {
-            return Step::To(next);
-        }
-        b = next;
-        i += 1;
-    }
-    if b == x {
-        return Step::Stay;
-    }
-    Step::To(b)
-}
+    ghost row_at = { input_rows };
 
-// The least input of an automatic pool row of the controller that no row is on, or Nothing.
-pub fn find_input<'a>(
-    pc: &'a [u32; POOL_ROWS],
-    pi: &'a [u32; POOL_ROWS],
-    ps: &'a [u64; POOL_ROWS],
-    pe: &'a [u64; POOL_ROWS],
-    pn: usize,
-    oc: &'a [u32; ROWS],
-    ox: &'a [u64; ROWS],
-    on: usize,
-    controller: u32,
-) -> Found
-    requires { (InOrder (pool pn pc.now pi.now ps.now pe.now)) × (on ≤ row_limit) }
-    ensures { FindsInput (pool pn pc.now pi.now ps.now pe.now) on oc.now ox.now controller result }
-{
-    let need = one_input(controller);
-    let mut i: usize = 0;
-    'pools: loop {
-        if pn <= i {
-            break 'pools Found::Nothing;
+    ghost Serves = { OneInput };
+
+    ghost rows = { inputs_listed };
+
+    ghost some = { one_some };
+
+    fn count(&self) -> usize {
+        self.n
+    }
+
+    fn past(&self, k: usize, need: Need, b: u64, _stop: u64) -> u64 {
+        if is_on(self, k, need.controller, b) {
+            b + 1
+        } else {
+            b
         }
-        let stop = bases_of(pc, pi, ps, pe, i, need);
-        let mut x = ps[i];
-        'inputs: while x < stop {
-            let step = next_input(oc, ox, on, controller, x, stop);
-            match step {
-                Step::Stay => break 'pools Found::At(x),
-                Step::To(next) => {
-                    x = next;
-                }
-            }
-        }
-        i += 1;
     }
 }

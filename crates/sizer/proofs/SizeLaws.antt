@@ -1,34 +1,36 @@
 -- Laws of the program's output: what is read and answered is the definition's output, which has its longest; and no more of an input is needed than its limit. Assumes nothing.
 use mathlib.Core.Path.{◌≡◌, refl, sym, ap, ◌∙◌}
-use mathlib.Core.Bool.{true, false, ◌&&◌}
-use mathlib.Core.List.{List, [], ◌∷◌, ◌++◌, append_assoc}
+use mathlib.Core.Bool.{◌&&◌}
+use mathlib.Core.List.{List, [], ◌∷◌, ◌++◌, map, append_assoc, append-nil}
 use mathlib.Core.Option.{Option, none, some}
-use Prim.Native.Nat.{ℕ, zero, suc, ◌+◌, ◌*◌, ◌-◌, ◌≤◌, ◌<◌}
+use Prim.Native.Nat.{ℕ, zero, suc, ◌+◌, ◌*◌, ◌/◌, ◌-◌, ◌≤◌, ◌<◌}
 use native.Mathlib.Omega.{arith}
 use lib.Dec.{eqb, leb}
-use lib.ListN.{length, take, drop, get_or, replicate, length-append, get_or-append}
-use lib.Seq.{sets, sets-eq, length-sets, take_at, take-append-le}
+use lib.ListN.{length, take, drop, get_or, replicate, length-append}
+use lib.Seq.{take_at}
 use borrow.Author.Tests.{le-leb}
-use Rattle.definition.specs.Base.{bad_line, says, tell, Answer, accepted, refused}
+use Rattle.definition.specs.Base.{Refusal, bad_line, says, tell, Answer, accepted, refused}
 use Rattle.definition.proofs.PlanLaws.{tell_number}
 use Rattle.definition.specs.Request.{auto, mmio_want, pio_want, Request}
 use Rattle.definition.specs.Calls.{want}
 use Rattle.definition.specs.Plan.{written}
-use Rattle.definition.specs.Registers.{register_count, registers}
+use Rattle.definition.specs.Registers.{register_count}
 use Rattle.definition.proofs.RegisterLaws.{registers_says}
 use Rattle.definition.proofs.RegisterFairLaws.{Ranges, end, mmio, pio, Fair, registers_fair}
 use Rattle.flat.specs.Flat.{request_size, numbers_of, numbers_of_all}
-use Rattle.lines.specs.declared.form.Row.{Row}
+use Rattle.flat.proofs.NumbersLaws.{length_numbers}
+use Rattle.std.specs.Prelude.{None, Some}
 use Rattle.lines.specs.Base.{bytes, tab, newline, split, ◌and_then◌}
 use Rattle.lines.specs.Numbers.{digits}
 use Rattle.lines.specs.Forms.{field_of, fields_of}
 use Rattle.lines.specs.Line.{behind, line_with, line_from, line_of}
 use Rattle.lines.specs.Output.{carried_by, got_limit, no_line, no_numbers}
-use Rattle.lines.specs.Code.{row_size, row_from, row_of}
+use Rattle.lines.specs.Code.{row_of}
 use Rattle.lines.proofs.FormLaws.{when_some}
 use Rattle.lines.proofs.Longest.{behind_length}
-use Rattle.writers.specs.Put.{Put}
-use Rattle.writers.proofs.PutLaws.{line_length, put_length, put_exact}
+use Rattle.writers.specs.declared.put.Page.{Page}
+use Rattle.writers.specs.Put.{Room, Puts}
+use Rattle.writers.proofs.PutLaws.{puts_length, put_exact}
 use Rattle.registers.specs.Sizing.{Sized, sized, sizing, registers_into}
 use Rattle.sizer.specs.Words.{size_text_limit, word, fields, field_count, line_by, words_of}
 use Rattle.sizer.specs.Sizes.{sizes_of, want_lines, answer_lines, sizes_output}
@@ -89,6 +91,10 @@ wants_length _ end = omega arith
 wants_length _ (mmio {q} {slot} {size} {a} {rs} below) = one_longer _ rs (mmio_spelled q slot size a []) (mmio_limit q slot size a) (wants_length rs below)
 wants_length _ (pio {q} {slot} {size} {a} {rs} below) = one_longer _ rs (pio_spelled q slot size a []) (pio_limit q slot size a) (wants_length rs below)
 
+line_length : (w xs : List ℕ) → length (line_with w (map digits xs)) ≡ length w + (length (behind (map digits xs)) + 1)
+unfolding line_with
+line_length w xs = omega (arith, length-append w (behind (map digits xs) ++ (newline ∷ [])), length-append (behind (map digits xs)) (newline ∷ []))
+
 abbrev Few : Answer (List Request) → Type 0
 Few a = (rs : List Request) → a ≡ accepted rs → length rs ≤ register_count
 
@@ -133,83 +139,98 @@ line_count read text ns e =
     let (t, q) = when_some (leb (length text) size_text_limit && eqb (get_or text (length text - 1) 0) newline) (fields read field_count (split tab (take (length text - 1) text))) ns e in
     fields_length read field_count (split tab (take (length text - 1) text)) ns q
 
--- the answer to a row that was read: of its numbers, to those that the line has
-abbrev answer_to : List ℕ → Answer (List Request)
-answer_to n = registers (get_or n register_count 0) (take register_count n) register_count
+none_by : (o : Option (List ℕ)) → None ≡ row_of o → sizes_of o ≡ refused bad_line
+none_by none e = refl
+none_by (some ns) e = cc
 
-row_answer : (ns : List ℕ) → length ns ≡ field_count → answer_to (sets (replicate row_size 0) 0 ns) ≡ answer_to ns
-row_answer ns l =
-    let behind_them : List ℕ = drop (0 + length ns) (replicate row_size 0) in
-    rw (sets-eq ns (replicate row_size 0) 0 (omega arith), take-append-le register_count ns behind_them (omega arith), get_or-append ns behind_them 0 register_count (omega arith))
+some_by : (o : Option (List ℕ)) (n : List ℕ) → Some n ≡ row_of o → o ≡ some n
+some_by none n e = cc
+some_by (some ns) n e = cc
 
-bad_by : (o : Option (List ℕ)) (r : Row) → r ≡ row_of o → r.good ≡ false → sizes_of o ≡ refused bad_line
-unfolding row_of row_from
-bad_by none r e g = refl
-bad_by (some ns) r e g = absurd (let q : r.good ≡ true = ap (λ (x : Row). x.good) e in let z : ◌≡◌ {A = ℕ} 0 1 = cc in omega arith)
+-- ---- what was answered: the requests in front of the list are the answer's ..
 
-good_by : (o : Option (List ℕ)) (r : Row) → ((ns : List ℕ) → o ≡ some ns → length ns ≡ field_count) → r ≡ row_of o → r.good ≡ true → (length r.n ≡ row_size) × (answer_to r.n ≡ sizes_of o)
-unfolding row_of row_from
-good_by none r count e g = absurd (let q : r.good ≡ false = ap (λ (x : Row). x.good) e in let z : ◌≡◌ {A = ℕ} 0 1 = cc in omega arith)
-good_by (some ns) r count e g =
-    let n : r.n ≡ sets (replicate row_size 0) 0 ns = ap (λ (x : Row). x.n) e in
-    (ap length n ∙ length-sets (replicate row_size 0) 0 ns, ap answer_to n ∙ row_answer ns (count ns refl))
+abbrev pub written_lines : ℕ → List ℕ → List ℕ
+written_lines count list = let xs : List ℕ = take (request_size * count) list in ask_lines (length xs / request_size) xs
 
--- ---- what was answered
+record Outcome (a : Answer (List Request)) (count : ℕ) (list : List ℕ) : Type 0 where
+  few : count ≤ register_count
+  lines : answer_lines a ≡ written_lines count list
 
--- the requests in front of the list are the answer's, or the number is its refusal's
-record Outcome (a : Answer (List Request)) (number count : ℕ) (list : List ℕ) : Type 0 where
-  few : number ≡ 0 → count ≤ register_count
-  lines : number ≡ 0 → answer_lines a ≡ ask_lines count list
-  no : (number ≡ 0 → ⊥) → answer_lines a ≡ no_line 0 (says 0 number 0 0 0)
-
-outcome : (a : Answer (List Request)) (out list : List ℕ) (number count : ℕ) → Fair a → Few a → sized number count list ≡ sizing a out → Outcome a number count list
-outcome (accepted rs) out list number count fair few e =
-    let n : number ≡ 0 = ap (λ (s : Sized). s.number) e in
+outcome : (a : Answer (List Request)) (out list : List ℕ) (count : ℕ) → Fair a → Few a → sized 0 count list ≡ sizing a out → Outcome a count list
+outcome (accepted rs) out list count fair few e =
     let c : count ≡ length rs = ap (λ (s : Sized). s.count) e in
     let l : list ≡ written (numbers_of_all rs) out = ap (λ (s : Sized). s.list) e in
-    record { few = λ z. omega (arith, few rs refl); lines = λ z. rw (c, l) (sym (wants_are rs (drop (length (numbers_of_all rs)) out) fair)); no = λ f. absurd (f n) }
-outcome (refused x) out list number count fair few e =
-    let n : number ≡ (tell 0 x).number = ap (λ (s : Sized). s.number) e in
-    record { few = λ z. absurd (tell_number 0 x (sym n ∙ z)); lines = λ z. absurd (tell_number 0 x (sym n ∙ z)); no = λ f. rw n (ap (no_line 0) fair) }
+    let long : length (numbers_of_all rs) ≡ request_size * count = omega (arith, length_numbers rs, c) in
+    let xs : take (request_size * count) list ≡ numbers_of_all rs = ap (take (request_size * count)) l ∙ take_at (numbers_of_all rs) (drop (length (numbers_of_all rs)) out) (request_size * count) long in
+    let n : length (numbers_of_all rs) / request_size ≡ length rs = omega (arith, length_numbers rs) in
+    record { few = omega (arith, few rs refl, c); lines = sym (rw (xs, n) (ap (ask_lines (length rs)) (sym (append-nil (numbers_of_all rs))) ∙ wants_are rs [] fair)) }
+outcome (refused x) out list count fair few e = absurd (tell_number 0 x (sym (ap (λ (s : Sized). s.number) e)))
 
-module _ (text : List ℕ) (r : Row) (is : r ≡ row_of (line_by capped_word text)) where
+-- .. or the number is its refusal's
+no_outcome : (a : Answer (List Request)) (out list : List ℕ) (y : Refusal) → Fair a → sized (tell 0 y).number 0 list ≡ sizing a out → answer_lines a ≡ no_line 0 (says 0 (tell 0 y).number 0 0 0)
+no_outcome (accepted rs) out list y fair e = absurd (tell_number 0 y (ap (λ (s : Sized). s.number) e))
+no_outcome (refused x) out list y fair e = let n : (tell 0 y).number ≡ (tell 0 x).number = ap (λ (s : Sized). s.number) e in rw n (ap (no_line 0) fair)
+
+module _ (text : List ℕ) where
   output_is : sizes_output text ≡ answer_lines (sizes_of (line_by capped_word text))
   unfolding sizes_output
   output_is = ap answer_lines (sym (sizes_capped text))
 
-  pub no_line_said : r.good ≡ false → sizes_output text ≡ no_line 0 (says 0 10 0 0 0)
-  no_line_said g = output_is ∙ ap answer_lines (bad_by (line_by capped_word text) r is g)
+  pub no_line_said : None ≡ row_of (line_by capped_word text) → sizes_output text ≡ no_line 0 (says 0 10 0 0 0)
+  no_line_said e = output_is ∙ ap answer_lines (none_by (line_by capped_word text) e)
 
-  module _ (g : r.good ≡ true) (number count : ℕ) (list : List ℕ) (s : sized number count list ≡ registers_into r.n (get_or r.n register_count 0) (replicate (register_count * request_size) 0)) where
-    answered : Outcome (sizes_of (line_by capped_word text)) number count list
+  -- the numbers that were read, and what is written for them
+  module _ (n : List ℕ) (is : Some n ≡ row_of (line_by capped_word text)) where
+    abbrev fresh : List ℕ
+    fresh = replicate (register_count * request_size) 0
+
+    abbrev answer : Answer (List Request)
+    answer = sizes_of (line_by capped_word text)
+
+    answer_is : registers_into n (get_or n register_count 0) fresh ≡ sizing answer fresh
     unfolding registers_into
-    answered =
-        let (l, a) = good_by (line_by capped_word text) r (line_count capped_word text) is g in
-        outcome (sizes_of (line_by capped_word text)) (replicate (register_count * request_size) 0) list number count (sizes_fair (line_by capped_word text)) (sizes_few (line_by capped_word text))
-        (s ∙ rw (registers_into, le-leb register_count (length r.n) (omega arith)) (ap (λ (x : Answer (List Request)). sizing x (replicate (register_count * request_size) 0)) a))
+    answer_is =
+        let o : line_by capped_word text ≡ some n = some_by (line_by capped_word text) n is in
+        let l : length n ≡ field_count = line_count capped_word text n o in
+        rw (le-leb register_count (length n) (omega arith)) (ap (λ x. sizing (sizes_of x) fresh) (sym o))
 
-    pub few_wants : number ≡ 0 → count ≤ register_count
-    few_wants e = answered.few e
+    module _ (count : ℕ) (list : List ℕ) (s : sized 0 count list ≡ registers_into n (get_or n register_count 0) fresh) where
+      answered : Outcome answer count list
+      answered = outcome answer fresh list count (sizes_fair (line_by capped_word text)) (sizes_few (line_by capped_word text)) (s ∙ answer_is)
 
-    pub want_lines_is : number ≡ 0 → sizes_output text ≡ ask_lines count list
-    want_lines_is e = output_is ∙ answered.lines e
+      pub few_wants : count ≤ register_count
+      few_wants = answered.few
 
-    pub refusal_line : (number ≡ 0 → ⊥) → sizes_output text ≡ no_line 0 (says 0 number 0 0 0)
-    refusal_line f = output_is ∙ answered.no f
+      pub want_lines_is : sizes_output text ≡ written_lines count list
+      want_lines_is = output_is ∙ answered.lines
+
+    pub refusal_line : (y : Refusal) (list : List ℕ) → sized (tell 0 y).number 0 list ≡ registers_into n (get_or n register_count 0) fresh → sizes_output text ≡ no_line 0 (says 0 (tell 0 y).number 0 0 0)
+    refusal_line y list s = output_is ∙ no_outcome answer fresh list y (sizes_fair (line_by capped_word text)) (s ∙ answer_is)
+
+-- ---- what is put for it
+
+module _ (text : List ℕ) (b : List ℕ) (is : sizes_output text ≡ b) (p : Page) where
+  pub fits_in : p.at + sizes_limit ≤ length p.out.now → Room p b
+  fits_in room = omega (arith, room, sizes_length text, ap length is)
+
+  pub puts_it : (q : Page) → Puts p b q → Puts p (sizes_output text) q
+  puts_it q h = rw is h
 
 -- ---- what stands in front of the buffer
 
-module _ (text out : List ℕ) (r : ℕ) (out' : List ℕ) (room : sizes_limit ≤ length out) (p : Put out 0 (sizes_output text) r out') where
-  fits : 0 + length (sizes_output text) ≤ length out
-  fits = omega (arith, sizes_length text)
+-- out is the lent buffer before, and out' the one afterwards
+module _ (text out : List ℕ) (p q : Page) (front : p.at ≡ 0) (untouched : p.out.now ≡ out) (room : sizes_limit ≤ length out) (h : Puts p (sizes_output text) q) (out' : List ℕ) (is : out' ≡ q.out.now) where
+  pub front_inside : q.at ≤ length out'
+  front_inside = omega (arith, h.put.0, sizes_length text, puts_length p (sizes_output text) q h, ap length is, ap length untouched)
 
-  pub front_inside : r ≤ length out'
-  front_inside = omega (arith, p.0, fits, put_length out 0 (sizes_output text) r out' p)
-
-  pub front_is : take r out' ≡ sizes_output text
+  pub front_is : take q.at out' ≡ sizes_output text
   front_is =
-      ap (take r) (put_exact out 0 (sizes_output text) r out' p fits)
-      ∙ take_at (sizes_output text) (drop (0 + length (sizes_output text)) out) r (omega (arith, p.0))
+      let w : List ℕ = sizes_output text in
+      let long : p.at + length w ≤ length p.out.now = omega (arith, sizes_length text, ap length untouched) in
+      let all : out' ≡ take p.at p.out.now ++ w ++ drop (p.at + length w) p.out.now = is ∙ put_exact p.out.now p.at w q.at q.out.now h.put long in
+      let none : take p.at p.out.now ≡ [] = ap (λ k. take k p.out.now) front in
+      ap (take q.at) (all ∙ ap (λ xs. xs ++ w ++ drop (p.at + length w) p.out.now) none)
+      ∙ take_at w (drop (p.at + length w) p.out.now) q.at (omega (arith, h.put.0))
 
 -- ---- inputs that are too long are answered alike
 

@@ -1,17 +1,20 @@
 -- Laws of reading a word: digit by digit, what is left decides; a number above 32 bits may be cut to the least of them; a decimal word is a number of 01. Assumes nothing.
 use mathlib.Core.Path.{◌≡◌, refl, sym, ap, ◌∙◌}
-use mathlib.Core.Bool.{Bool, true, false, ◌&&◌}
+use mathlib.Core.Bool.{Bool, true, false, cond, ◌&&◌}
+use mathlib.Core.Logic.{◌⊎◌, inl, inr}
 use mathlib.Core.List.{List, [], ◌∷◌}
 use mathlib.Core.Option.{Option, none, some}
-use Prim.Native.Nat.{ℕ, ◌+◌, ◌*◌, ◌-◌, ◌<◌, ◌≤◌}
+use Prim.Native.Nat.{ℕ, zero, suc, ◌+◌, ◌*◌, ◌-◌, ◌<◌, ◌≤◌}
 use native.Mathlib.Omega.{arith}
 use native.Mathlib.Numerals.{add-one}
 use native.Mathlib.Decide.{dec_lt}
 use native.Mathlib.Nat.{mul-le-mul_left}
 use lib.Dec.{leb, ltb, eqb}
-use lib.ListN.{length, drop, get_or, drop_of_length-le}
+use lib.ListN.{length, take, drop, get_or, drop_of_length-le}
 use lib.Seq.{drop-cons}
-use borrow.Author.Tests.{eq-eqb, ne_eqb, le-leb, lt-leb, lt-ltb, le-ltb, leb-true}
+use Rattle.std.proofs.Math.Seq.{take_all}
+use borrow.Author.Tests.{eq-eqb, eqb-false, ne_eqb, le-leb, lt-leb, lt-ltb, le-ltb, leb-true, ltb-true, ltb-false}
+use Rattle.std.specs.Char as Std
 use Rattle.definition.specs.Base.{all_of}
 use Rattle.definition.proofs.BaseLaws.{and_false}
 use Rattle.lines.specs.Base.{pick, same, when, ◌and_then◌, ◌or_else◌}
@@ -34,34 +37,76 @@ module _ (b low high : ℕ) where
   above h = rw (lt-leb b high h, and_false (leb low b))
 
 module _ (b : ℕ) where
-  pub value_decimal : 48 ≤ b → b ≤ 57 → digit_value b ≡ b - 48
+  value_decimal : 48 ≤ b → b ≤ 57 → digit_value b ≡ b - 48
   unfolding digit_value
   value_decimal l h = rw (within b 48 57 l h)
 
-  pub value_upper : 65 ≤ b → b ≤ 70 → digit_value b ≡ b - 55
+  value_upper : 65 ≤ b → b ≤ 70 → digit_value b ≡ b - 55
   unfolding digit_value
   value_upper l h = rw (above b 48 57 (omega arith), below b 97 102 (omega arith), within b 65 70 l h)
 
-  pub value_lower : 97 ≤ b → b ≤ 102 → digit_value b ≡ b - 87
+  value_lower : 97 ≤ b → b ≤ 102 → digit_value b ≡ b - 87
   unfolding digit_value
   value_lower l h = rw (above b 48 57 (omega arith), within b 97 102 l h)
 
   -- the bytes before, between and behind the digits
-  pub value_before : b < 48 → digit_value b ≡ 16
+  value_before : b < 48 → digit_value b ≡ 16
   unfolding digit_value
   value_before h = rw (below b 48 57 h, below b 97 102 (omega arith), below b 65 70 (omega arith))
 
-  pub value_between : 57 < b → b < 65 → digit_value b ≡ 16
+  value_between : 57 < b → b < 65 → digit_value b ≡ 16
   unfolding digit_value
   value_between l h = rw (above b 48 57 l, below b 97 102 (omega arith), below b 65 70 h)
 
-  pub value_middle : 70 < b → b < 97 → digit_value b ≡ 16
+  value_middle : 70 < b → b < 97 → digit_value b ≡ 16
   unfolding digit_value
   value_middle l h = rw (above b 48 57 (omega arith), below b 97 102 h, above b 65 70 l)
 
-  pub value_behind : 102 < b → digit_value b ≡ 16
+  value_behind : 102 < b → digit_value b ≡ 16
   unfolding digit_value
   value_behind h = rw (above b 48 57 (omega arith), above b 97 102 h, above b 65 70 (omega arith))
+
+-- std's digits of up to base 36 are the same below sixteen
+module _ (b : ℕ) where
+  abbrev said : Bool → Bool → Bool → Bool → Bool → Bool → ℕ
+  said s t u v w x = cond s 36 (cond t (b - 48) (cond u 36 (cond v (b - 55) (cond w 36 (cond x (b - 87) 36)))))
+
+  abbrev Alike : ℕ → Type 0
+  Alike n = ((n ≡ digit_value b) × (n < 16)) ⊎ ((16 ≤ n) × (digit_value b ≡ 16))
+
+  alike_by : (s : Bool) → ltb b 48 ≡ s → (t : Bool) → ltb b 58 ≡ t → (u : Bool) → ltb b 65 ≡ u → (v : Bool) → ltb b 91 ≡ v → (w : Bool) → ltb b 97 ≡ w → (x : Bool) → ltb b 123 ≡ x → Alike (said s t u v w x)
+  alike_by true e t f u g v h w i x j = inr (omega arith, value_before b (ltb-true b 48 e))
+  alike_by false e true f u g v h w i x j = inl (sym (value_decimal b (ltb-false b 48 e) (omega (arith, ltb-true b 58 f))), omega (arith, ltb-true b 58 f))
+  alike_by false e false f true g v h w i x j = inr (omega arith, value_between b (omega (arith, ltb-false b 58 f)) (ltb-true b 65 g))
+  alike_by false e false f false g true h w i x j =
+      elim (dec_lt 70 b) [
+        | yes l ↦ inr (omega arith, value_middle b l (omega (arith, ltb-true b 91 h)))
+        | no l ↦ inl (sym (value_upper b (ltb-false b 65 g) (omega arith)), omega arith)
+      ]
+  alike_by false e false f false g false h true i x j = inr (omega arith, value_middle b (omega (arith, ltb-false b 91 h)) (ltb-true b 97 i))
+  alike_by false e false f false g false h false i true j =
+      elim (dec_lt 102 b) [
+        | yes l ↦ inr (omega arith, value_behind b l)
+        | no l ↦ inl (sym (value_lower b (ltb-false b 97 i) (omega arith)), omega arith)
+      ]
+  alike_by false e false f false g false h false i false j = inr (omega arith, value_behind b (omega (arith, ltb-false b 123 j)))
+
+  digits_alike : Alike (Std.digit_value b)
+  digits_alike = alike_by (ltb b 48) refl (ltb b 58) refl (ltb b 65) refl (ltb b 91) refl (ltb b 97) refl (ltb b 123) refl
+
+  pub digit_is : Std.digit_value b < 16 → Std.digit_value b ≡ digit_value b
+  digit_is l = go digits_alike
+    where
+      go : Alike (Std.digit_value b) → Std.digit_value b ≡ digit_value b
+      go (inl e) = e.0
+      go (inr h) = absurd (omega (arith, h.0))
+
+  pub digit_none : (Std.digit_value b < 16 → ⊥) → digit_value b ≡ 16
+  digit_none n = go digits_alike
+    where
+      go : Alike (Std.digit_value b) → digit_value b ≡ 16
+      go (inl e) = absurd (n e.1)
+      go (inr h) = h.1
 
 -- ---- one turn: the digit at i is taken, or ends it
 
@@ -73,7 +118,7 @@ module _ (f : List ℕ) (i base v : ℕ) (l : i < length f) where
   unfolding said_in when
   said_more h = rw (drop-cons f i 0 l, add-one, lt-ltb (digit_value (get_or f i 0)) base h)
 
-  pub said_stop : base ≤ digit_value (get_or f i 0) → said_in base v (drop i f) ≡ none
+  said_stop : base ≤ digit_value (get_or f i 0) → said_in base v (drop i f) ≡ none
   unfolding said_in when
   said_stop h = rw (drop-cons f i 0 l, le-ltb (digit_value (get_or f i 0)) base h)
 
@@ -98,11 +143,18 @@ module _ (base : ℕ) (positive : 0 < base) where
       go true h = h
       go false h = refl
 
-  -- one turn of the code
-  pub capped_more : (f : List ℕ) (i v w : ℕ) → i < length f → digit_value (get_or f i 0) < base → w ≡ capped (v * base + digit_value (get_or f i 0))
-      → capped_said (said_in base v (drop i f)) ≡ capped_said (said_in base w (drop (i + 1) f))
-  capped_more f i v w l h e = ap capped_said (said_more f i base v l h) ∙ capped_said_is (drop (i + 1) f) (v * base + digit_value (get_or f i 0)) w (omega (arith, e))
+-- one turn of the code: no digit of the base ends it ..
+module _ (f : List ℕ) (i base v : ℕ) (inside : i < length f) where
+  pub capped_stop : base ≤ digit_value (get_or f i 0) → capped_said (said_in base v (drop i f)) ≡ none
+  capped_stop l = ap capped_said (said_stop f i base v inside l)
 
+  -- .. or it is taken
+  pub capped_more : (d w : ℕ) → 0 < base → d ≡ digit_value (get_or f i 0) → d < base → w ≡ capped (v * base + d) → capped_said (said_in base v (drop i f)) ≡ capped_said (said_in base w (drop (i + 1) f))
+  capped_more d w p is l m =
+      ap capped_said (said_more f i base v inside (omega (arith, is, l)))
+      ∙ capped_said_is base p (drop (i + 1) f) (v * base + digit_value (get_or f i 0)) w (omega (arith, m, ap (λ x. v * base + x) is))
+
+-- behind the last
 pub capped_end : (f : List ℕ) (i base v : ℕ) → length f ≤ i → v ≤ 4294967296 → capped_said (said_in base v (drop i f)) ≡ some v
 unfolding said_in
 capped_end f i base v l h = let e : capped v ≡ v = omega arith in rw (drop_of_length-le f {i = i} l, e)
@@ -134,11 +186,20 @@ word_bare (x ∷ []) l e = absurd (omega arith)
 word_bare (x ∷ y ∷ []) l e = rw (eq-eqb x 48 e, and_false (eqb y 120 && true))
 word_bare (x ∷ y ∷ z ∷ zs) l e = absurd (omega arith)
 
-pub word_hexadecimal : (f : List ℕ) → 2 < length f → get_or f 0 0 ≡ 48 → get_or f 1 0 ≡ 120 → word f ≡ said_in 16 0 (drop 2 f)
+-- .. or digits
+pub word_hexadecimal : (f : List ℕ) → 2 ≤ length f → eqb (length (take (length f - 2) (drop 2 f))) 0 ≡ false → get_or f 0 0 ≡ 48 → get_or f 1 0 ≡ 120 → word f ≡ said_in 16 0 (take (length f - 2) (drop 2 f))
 unfolding word decimal hexadecimal plain same when ◌or_else◌
-word_hexadecimal [] l e h = absurd (omega arith)
-word_hexadecimal (x ∷ []) l e h = absurd (omega arith)
-word_hexadecimal (x ∷ y ∷ ys) l e h = rw (eq-eqb x 48 e, eq-eqb y 120 h, lt-ltb 2 (length (x ∷ y ∷ ys)) l)
+word_hexadecimal [] l n e h = absurd (omega arith)
+word_hexadecimal (x ∷ []) l n e h = absurd (omega arith)
+word_hexadecimal (x ∷ y ∷ ys) l n e h =
+    let k : length (x ∷ y ∷ ys) - 2 ≡ length ys = omega arith in
+    let all : take (length (x ∷ y ∷ ys) - 2) ys ≡ ys = ap (λ m. take m ys) k ∙ take_all (length ys) ys (omega arith) in
+    let more : 2 < length (x ∷ y ∷ ys) = go (length ys) (ap (λ zs. eqb (length zs) 0) (sym all) ∙ n) in
+    rw (eq-eqb x 48 e, eq-eqb y 120 h, lt-ltb 2 (length (x ∷ y ∷ ys)) more, all)
+  where
+    go : (m : ℕ) → eqb m 0 ≡ false → 2 < suc (suc m)
+    go zero z = absurd (eqb-false 0 0 z refl)
+    go (suc m) z = omega arith
 
 pub word_decimal : (f : List ℕ) → 0 < length f → (1 < length f → get_or f 0 0 ≡ 48 → ⊥) → word f ≡ said_in 10 0 (drop 0 f)
 unfolding word decimal hexadecimal plain same when

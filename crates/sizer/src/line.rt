@@ -6,58 +6,29 @@ ghost use Rattle.sizer.specs.Words.{fields, field_count, line_by};
 ghost use Rattle.sizer.specs.Code.{capped_word};
 
 use crate::word::read_word;
-use lines::form::{Row, bad_row};
-use lines::number::Number;
-use lines::parts::find;
+use lines::form::read_each;
 use registers::REGISTERS;
 
 // The longest input.
 pub const TEXT: usize = 4096;
 
 // The words, and the requester.
-const FIELDS: usize = REGISTERS + 1;
+pub const FIELDS: usize = REGISTERS + 1;
 
 // The line's fields, all of them words.
-pub fn read_fields(line: &[u8]) -> Row
+pub fn read_fields(line: &[u8]) -> Option<[u64; FIELDS]>
     ensures { result ≡ row_of (fields capped_word field_count (split tab line.now)) }
 {
-    let mut n = [0u64; 8];
-    let mut i: usize = 0;
-    let mut at: usize = 0;
-    while i < FIELDS {
-        let e = find(line, at, 9);
-        let x = read_word(&line[at..e]);
-        let Number::Value(v) = x else {
-            return bad_row();
-        };
-        n[i] = v;
-        i += 1;
-        if line.len() <= e {
-            if i == FIELDS {
-                return Row { n, good: true };
-            }
-            return bad_row();
-        }
-        at = e + 1;
-    }
-    bad_row()
+    read_each(line, [(); FIELDS], |f, _| read_word(f))
 }
 
 // The whole input.
-#[tactic(auto, using(crate::proofs::LineLaws::line_long, crate::proofs::LineLaws::line_open, crate::proofs::LineLaws::line_closed, crate::proofs::LineLaws::line_empty))]
-pub fn read_words(text: &[u8]) -> Row
+#[tactic(auto, unfolding(crate::specs::Words::line_by, lines::specs::Base::when))]
+pub fn read_words(text: &[u8]) -> Option<[u64; FIELDS]>
     ensures { result ≡ row_of (line_by capped_word text.now) }
 {
-    let n = text.len();
-    if TEXT < n {
-        return bad_row();
+    match text {
+        [line @ .., b'\n'] if text.len() <= TEXT => read_fields(line),
+        _ => None,
     }
-    if n == 0 {
-        return bad_row();
-    }
-    let last = n - 1;
-    if text[last] != 10 {
-        return bad_row();
-    }
-    read_fields(&text[..last])
 }

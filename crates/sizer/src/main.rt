@@ -1,20 +1,23 @@
 // The program that sizes a device: six words of its registers and its requester from standard input, its requests as `want` lines to standard output, or the line `no`. A read that fails prints nothing, and a write that fails ends the program with a status.
 #![tactic(auto)]
 
-ghost use Rattle.std.specs.Prelude.{◌≤◌, ◌<◌, length, take};
-ghost use Rattle.writers.specs.Put.{Put};
+ghost use Rattle.std.specs.Prelude.{◌+◌, ◌≤◌, ◌<◌, length, take};
+ghost use Rattle.writers.specs.Put.{Puts};
 ghost use Rattle.standard_input.specs.Reads.{Stopped, Prints};
+ghost use Rattle.standard_input.specs.Outcome.{count_of, last_of};
 ghost use Rattle.sizer.specs.Words.{size_text_limit};
 ghost use Rattle.sizer.specs.Sizes.{sizes_output};
 ghost use Rattle.sizer.specs.Code.{sizes_limit};
 
 use crate::line::{TEXT, read_words};
 use crate::wants::put_wants;
+use flat::REQUEST;
 use registers::{MOST, REGISTERS, registers};
-use standard_input::{Input, read_input};
+use standard_input::{Failed, read_input};
 use std::io;
 use std::io::Write;
-use writers::output::{GOT, put_no};
+use writers::output::{BAD_LINE, GOT, Refused};
+use writers::put::Page;
 
 pub mod word; // word.rt: a field read as a number
 pub mod line; // line.rt: the input's one line
@@ -26,38 +29,38 @@ const INPUT: usize = TEXT + 1;
 // Room for the longest output: a line for each register, none of them longer than the longest `got` line.
 const OUTPUT: usize = REGISTERS * GOT;
 
-// The answer to a whole input, in front of `out`.
-pub fn sizes(text: &[u8], out: &mut [u8]) -> usize
-    requires { sizes_limit ≤ length out.old }
-    ensures { Put out.old 0 (sizes_output text.now) result out.new }
+// The answer to a whole input.
+pub fn sizes(text: &[u8], page: &mut Page)
+    requires { page.old.at + sizes_limit ≤ length page.old.out.now }
+    ensures { Puts page.old (sizes_output text.now) page.new }
 {
-    let row = read_words(text);
-    if !row.good {
-        return put_no(out, 0, 0, 10, 0, 0, 0);
-    }
-    let requester = row.n[REGISTERS];
+    let Some(row) = read_words(text) else {
+        page.put_no(Refused::bare(BAD_LINE));
+        return;
+    };
     let mut list = [0u64; MOST];
-    let s = registers(&row.n, requester, &mut list);
-    if s.number != 0 {
-        return put_no(out, 0, 0, s.number, 0, 0, 0);
+    match registers(&row, row[REGISTERS], &mut list) {
+        Ok(count) => put_wants(page, &list[..REQUEST * count]),
+        Err(fault) => page.put_no(Refused::bare(fault.number())),
     }
-    put_wants(out, s.count, &list)
 }
 
 // What the program prints, in front of `out`, and how many bytes it is: all that is decided between reading and writing.
-fn printed(buf: &[u8], input: Input, out: &mut [u8]) -> usize
+fn printed(buf: &[u8], input: Result<usize, Failed>, out: &mut [u8]) -> usize
     requires size_text_limit_in_bounds { size_text_limit < length buf.now }
-    requires stopped { Stopped (length buf.now) input.n input.last }
+    requires stopped { Stopped (length buf.now) (count_of input) (last_of (length buf.now) input) }
     requires sizes_limit_in_bounds { sizes_limit ≤ length out.old }
-    ensures { Prints sizes_output (take input.n buf.now) input.last result out.new }
+    ensures { Prints sizes_output (take (count_of input) buf.now) (last_of (length buf.now) input) result out.new }
 {
-    if input.last < 0 {
+    let Ok(n) = input else {
         return 0;
-    }
-    let n = input.n;
-    sizes(&buf[..n], out)
+    };
+    let mut page = Page::new(out);
+    sizes(&buf[..n], &mut page);
+    page.at
 }
 
+// The other programs' `main`s read alike: each has its own lengths, and its own `printed`.
 fn main(rt: HostRuntime) -> io::Result<()> {
     let mut buf = [0u8; INPUT];
     let input = read_input(&mut rt.stdin(), &mut buf);

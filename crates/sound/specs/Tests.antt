@@ -1,30 +1,20 @@
 -- The tests of wired tables, of a kind's tables and of a whole state, in the order in which code makes them. KindLaws.antt and StateLaws.antt tie them to the definition. Assumes nothing.
-use Rattle.std.specs.Prelude.{Bool, true, false, not, ◌&&◌, ℕ}
-use Rattle.definition.specs.Tables.{row_limit, Kind, mmio, pio, input, host, device, event, lpi, Row, same_row, meets, clash, blank_row, good_row, used, tidy, sound_table, begins}
-use Rattle.tables.specs.Below.{row_ok}
-use Rattle.tables.specs.Views.{input_of, input_at, inputs_view}
+use Rattle.std.specs.Prelude.{Bool, true, false, not, ◌&&◌}
+use Rattle.definition.specs.Tables.{row_limit, Kind, mmio, pio, input, host, device, event, lpi, Row, same_row, meets, clash, good_row, used, sound_table, begins}
+use Rattle.tables.specs.Views.{inputs_view}
 use Rattle.tables.specs.declared.Pool.{Pool}
 use Rattle.tables.specs.declared.Ranges.{Ranges}
 use Rattle.tables.specs.declared.Inputs.{Inputs}
 use Rattle.tables.specs.declared.State.{State}
 use Rattle.table_tests.specs.declared.limits.Limits.{Limits}
-use Rattle.table_tests.specs.Tests.{limits_of, sound_pool_in, sound_ranges_in, holders_in}
+use Rattle.table_tests.specs.Tests.{limits_of, blank_input, sound_pool_in, sound_ranges_in, holders_in}
 
 -- ---- wired rows
-
-abbrev pub blank_input : Row
-blank_input = blank_row input
 
 -- reservations want an input once, owners may share it
 abbrev pub input_fit : Bool → Row → Row → Bool
 input_fit true a b = not (meets a b)
 input_fit false a b = not (clash a b)
-
-unfoldable pub input_ok : Bool → Inputs → ℕ → Bool
-input_ok single t = row_ok (good_row input) (input_fit single) (λ k. input_of (input_at t k))
-
-unfoldable pub tidy_inputs : Inputs → Bool
-tidy_inputs t = tidy row_limit (same_row blank_input) (inputs_view t)
 
 unfoldable pub sound_inputs : Bool → Inputs → Bool
 sound_inputs single t = sound_table row_limit (same_row blank_input) (good_row input) (input_fit single) (inputs_view t)

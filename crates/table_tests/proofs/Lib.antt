@@ -1,5 +1,3 @@
-pub mod BeginLaws
 pub mod HighLaws
 pub mod KindLaws
-pub mod PoolLaws
-pub mod RangeLaws
+pub mod BeginLaws

@@ -1,1 +1,5 @@
+pub mod Rows
 pub mod Tests
+pub mod PoolRule
+pub mod RangeRule
+pub mod InputTable

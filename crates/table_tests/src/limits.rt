@@ -1,10 +1,9 @@
 // What the rows of a kind keep to.
-ghost use Rattle.std.specs.Prelude.{◌≡◌, min, max};
-ghost use Rattle.definition.specs.Tables.{row_limit};
+ghost use Rattle.std.specs.Prelude.{◌≡◌};
 ghost use Rattle.tables.specs.Views.{kind_of};
 ghost use Rattle.table_tests.specs.Tests.{limits_of};
 
-use tables::{Kind, ROWS};
+use tables::Kind;
 
 // The least number at which a kind's ranges may start, the largest of its width, and of each number of its domain: 0 where the kind does not use it.
 #[derive(Clone, Copy)]
@@ -19,77 +18,51 @@ pub struct Limits {
 // C-12: LPIs start here.
 const FIRST_LPI: u64 = 8192;
 
-const TOP_64: u64 = 18446744073709551615;
+const TOP_16: u64 = 65535;
 
-const TOP_32: u32 = 4294967295;
+const TOP_32: u64 = 4294967295;
+
+// Numbers of 64 bits in no domain.
+const WIDE: Limits = Limits {
+    floor: 0,
+    top: u64::MAX,
+    controller: 0,
+    its: 0,
+    device: 0,
+};
 
 // The limits of a kind.
 pub fn limits_of(kind: Kind) -> Limits
     ensures { result ≡ limits_of (kind_of kind) }
 {
     match kind {
-        Kind::Mmio => Limits {
-            floor: 0,
-            top: TOP_64,
-            controller: 0,
-            its: 0,
-            device: 0,
-        },
+        Kind::Mmio | Kind::Host => WIDE,
         Kind::Pio => Limits {
-            floor: 0,
-            top: 65535,
-            controller: 0,
-            its: 0,
-            device: 0,
+            top: TOP_16,
+            ..WIDE
         },
         Kind::Input => Limits {
-            floor: 0,
-            top: TOP_64,
-            controller: TOP_32,
-            its: 0,
-            device: 0,
-        },
-        Kind::Host => Limits {
-            floor: 0,
-            top: TOP_64,
-            controller: 0,
-            its: 0,
-            device: 0,
+            controller: u32::MAX,
+            ..WIDE
         },
         Kind::Device => Limits {
-            floor: 0,
-            top: 4294967295,
-            controller: TOP_32,
-            its: TOP_32,
-            device: 0,
+            top: TOP_32,
+            controller: u32::MAX,
+            its: u32::MAX,
+            ..WIDE
         },
         Kind::Event => Limits {
-            floor: 0,
-            top: 4294967295,
-            controller: TOP_32,
-            its: TOP_32,
-            device: TOP_32,
+            top: TOP_32,
+            controller: u32::MAX,
+            its: u32::MAX,
+            device: u32::MAX,
+            ..WIDE
         },
         Kind::Lpi => Limits {
             floor: FIRST_LPI,
-            top: 4294967295,
-            controller: TOP_32,
-            its: 0,
-            device: 0,
+            top: TOP_32,
+            controller: u32::MAX,
+            ..WIDE
         },
     }
-}
-
-// A count, or the number of rows where that is less: the rows that a table has under a count that is too high.
-pub fn capped(n: usize) -> usize
-    ensures { result ≡ min n row_limit }
-{
-    if ROWS < n { ROWS } else { n }
-}
-
-// The higher of two numbers.
-pub fn higher(a: u64, b: u64) -> u64
-    ensures { result ≡ max a b }
-{
-    if a < b { b } else { a }
 }

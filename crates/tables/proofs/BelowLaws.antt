@@ -8,9 +8,8 @@ use native.Mathlib.Numerals.{add-one}
 use native.Mathlib.Omega.{arith}
 use lib.Dec.{T, ltb}
 use borrow.Author.Tests.{lt-ltb, le-ltb}
+use Rattle.std.specs.Prelude.{Option, Some, None}
 use Rattle.tables.specs.Below.{all_below, all_from, first, or_at, is_clear}
-use Rattle.tables.specs.declared.Hit.{Hit}
-use Rattle.tables.specs.declared.Hit.TheVariants.{At, Clear}
 use Rattle.definition.proofs.BaseLaws.{and_l, and_r, and_i, t_ext, T_true, T_false, true_T, false_T}
 
 module _ (q : ℕ → Bool) where
@@ -81,24 +80,24 @@ module _ (q : ℕ → Bool) (n : ℕ) where
 -- ---- the first row that passes
 
 module _ (q : ℕ → Bool) where
-  pub first_start : first q 0 ≡ Clear
+  pub first_start : first q 0 ≡ None
   unfolding first
   first_start = refl
 
-  pub first_more : (i : ℕ) → first q i ≡ Clear → q i ≡ false → first q (i + 1) ≡ Clear
+  pub first_more : (i : ℕ) → first q i ≡ None → q i ≡ false → first q (i + 1) ≡ None
   unfolding first
   first_more i none miss = rw (add-one, none, miss)
 
-  pub first_found : (i n : ℕ) → first q i ≡ Clear → q i ≡ true → i < n → first q n ≡ At i
+  pub first_found : (i n : ℕ) → first q i ≡ None → q i ≡ true → i < n → first q n ≡ Some i
   unfolding first
   first_found i zero none hit l = absurd (omega arith)
   first_found i (suc n) none hit l =
       ⊎_elim (λ e. rw (← e, none, hit)) (λ p. rw (first_found i n none hit p)) (eq-or-lt_of_le (le_of_suc-le-suc l))
 
-  clear_step : (h : Hit) (b : Bool) (n : ℕ) → is_clear (or_at h b n) ≡ is_clear h && not b
-  clear_step (At k) b n = refl
-  clear_step Clear true n = refl
-  clear_step Clear false n = refl
+  clear_step : (h : Option ℕ) (b : Bool) (n : ℕ) → is_clear (or_at h b n) ≡ is_clear h && not b
+  clear_step (Some k) b n = refl
+  clear_step None true n = refl
+  clear_step None false n = refl
 
   -- none is found just when each fails
   pub first_clear : (n : ℕ) → is_clear (first q n) ≡ all_below (λ k. not (q k)) n

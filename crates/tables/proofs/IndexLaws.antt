@@ -7,11 +7,10 @@ use Prim.Native.Nat.{ℕ, zero, suc, ◌<◌}
 use native.Mathlib.Nat.{eq-or-lt_of_le, le_of_suc-le-suc}
 use native.Mathlib.Omega.{arith}
 use lib.Dec.{T}
+use Rattle.std.specs.Prelude.{Option as Hit, Some, None}
 use Rattle.definition.specs.Base.{any_of, first_of}
 use Rattle.definition.proofs.BaseLaws.{or_cases, or_l, or_r, first_at, first_past, true_T, false_T}
 use Rattle.tables.specs.Below.{listed, first, or_at}
-use Rattle.tables.specs.declared.Hit.{Hit}
-use Rattle.tables.specs.declared.Hit.TheVariants.{At, Clear}
 
 module _ {A : Type 0} (p : A → Bool) where
   pub any_out : (f : ℕ → A) (n : ℕ) → T (any_of p (listed f n)) → (k : ℕ) × (k < n) × T (p (f k))
@@ -47,15 +46,15 @@ module _ {A : Type 0} (p : A → Bool) where
       ∙ first_no_row (λ j. f (suc j)) n (λ j m. h (suc j) (omega arith))
 
 -- what `first` says: row k passes and no row before it does, or no row passes
-abbrev pub FirstIs : (ℕ → Bool) → ℕ → Hit → Type 0
-FirstIs q n (At k) = (k < n) × (q k ≡ true) × ((j : ℕ) → j < k → q j ≡ false)
-FirstIs q n Clear = (k : ℕ) → k < n → q k ≡ false
+abbrev pub FirstIs : (ℕ → Bool) → ℕ → Hit ℕ → Type 0
+FirstIs q n (Some k) = (k < n) × (q k ≡ true) × ((j : ℕ) → j < k → q j ≡ false)
+FirstIs q n None = (k : ℕ) → k < n → q k ≡ false
 
 module _ (q : ℕ → Bool) where
-  step : (n : ℕ) (h : Hit) (b : Bool) → FirstIs q n h → q n ≡ b → FirstIs q (suc n) (or_at h b n)
-  step n (At k) b f e = (omega arith, f.1, f.2)
-  step n Clear true f e = (omega arith, e, f)
-  step n Clear false f e = λ k l. ⊎_elim (λ p. ap q p ∙ e) (λ p. f k p) (eq-or-lt_of_le (le_of_suc-le-suc l))
+  step : (n : ℕ) (h : Hit ℕ) (b : Bool) → FirstIs q n h → q n ≡ b → FirstIs q (suc n) (or_at h b n)
+  step n (Some k) b f e = (omega arith, f.1, f.2)
+  step n None true f e = (omega arith, e, f)
+  step n None false f e = λ k l. ⊎_elim (λ p. ap q p ∙ e) (λ p. f k p) (eq-or-lt_of_le (le_of_suc-le-suc l))
 
   pub first_is : (n : ℕ) → FirstIs q n (first q n)
   unfolding first
@@ -63,17 +62,17 @@ module _ (q : ℕ → Bool) where
   first_is (suc n) = step n (first q n) (q n) (first_is n) refl
 
   -- what is known of an answer that is `first`
-  pub first_tells : (n : ℕ) (r : Hit) → r ≡ first q n → FirstIs q n r
-  first_tells n r e = subst (λ (h : Hit). FirstIs q n h) (sym e) (first_is n)
+  pub first_tells : (n : ℕ) (r : Hit ℕ) → r ≡ first q n → FirstIs q n r
+  first_tells n r e = subst (λ (h : Hit ℕ). FirstIs q n h) (sym e) (first_is n)
 
 -- the hit as the definition says it
-abbrev pub row_hit : {A : Type 0} → (ℕ → A) → Hit → Option A
-row_hit f (At k) = some (f k)
-row_hit f Clear = none
+abbrev pub row_hit : {A : Type 0} → (ℕ → A) → Hit ℕ → Option A
+row_hit f (Some k) = some (f k)
+row_hit f None = none
 
-pub first_listed : {A : Type 0} (p : A → Bool) (f : ℕ → A) (n : ℕ) (r : Hit) → r ≡ first (λ k. p (f k)) n → first_of p (listed f n) ≡ row_hit f r
+pub first_listed : {A : Type 0} (p : A → Bool) (f : ℕ → A) (n : ℕ) (r : Hit ℕ) → r ≡ first (λ k. p (f k)) n → first_of p (listed f n) ≡ row_hit f r
 first_listed p f n r e = go r (first_tells (λ k. p (f k)) n r e)
   where
-    go : (h : Hit) → FirstIs (λ k. p (f k)) n h → first_of p (listed f n) ≡ row_hit f h
-    go (At k) h = first_row p f n k h.0 h.1 h.2
-    go Clear h = first_no_row p f n h
+    go : (h : Hit ℕ) → FirstIs (λ k. p (f k)) n h → first_of p (listed f n) ≡ row_hit f h
+    go (Some k) h = first_row p f n k h.0 h.1 h.2
+    go None h = first_no_row p f n h

@@ -1,4 +1,5 @@
 pub mod BelowLaws
+pub mod ChainLaws
 pub mod IndexLaws
 pub mod ListedLaws
 pub mod TableLaws

@@ -1,7 +1,5 @@
 -- What holds of each row below n, and the first row that passes: the forms that a loop computes. Assumes nothing.
-use Rattle.std.specs.Prelude.{Bool, true, false, ◌&&◌, ◌||◌, List, [], ◌∷◌, ℕ, zero, suc, ltb}
-use Rattle.tables.specs.declared.Hit.{Hit}
-use Rattle.tables.specs.declared.Hit.TheVariants.{At, Clear}
+use Rattle.std.specs.Prelude.{Bool, true, false, ◌&&◌, ◌||◌, List, [], ◌∷◌, ℕ, zero, suc, ltb, Option, Some, None}
 
 -- f 0, f 1 .. up to and without f n
 unfoldable pub listed : {A : Type 0} → (ℕ → A) → ℕ → List A
@@ -18,18 +16,18 @@ abbrev pub all_from : (ℕ → Bool) → ℕ → ℕ → Bool
 all_from q n size = all_below (λ k. ltb k n || q k) size
 
 -- a hit before row n stands; else row n itself, where it passes
-abbrev pub or_at : Hit → Bool → ℕ → Hit
-or_at (At k) b n = At k
-or_at Clear true n = At n
-or_at Clear false n = Clear
+abbrev pub or_at : Option ℕ → Bool → ℕ → Option ℕ
+or_at (Some k) b n = Some k
+or_at None true n = Some n
+or_at None false n = None
 
-unfoldable pub first : (ℕ → Bool) → ℕ → Hit
-first q zero = Clear
+unfoldable pub first : (ℕ → Bool) → ℕ → Option ℕ
+first q zero = None
 first q (suc n) = or_at (first q n) (q n) n
 
-abbrev pub is_clear : Hit → Bool
-is_clear (At k) = false
-is_clear Clear = true
+abbrev pub is_clear : Option ℕ → Bool
+is_clear (Some k) = false
+is_clear None = true
 
 -- row k is good and fits each row before it
 abbrev pub row_ok : {A : Type 0} → (A → Bool) → (A → A → Bool) → (ℕ → A) → ℕ → Bool

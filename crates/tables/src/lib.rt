@@ -1,10 +1,11 @@
 // The tables as columns: what the planner keeps, how a table starts, gains a row and is read. Used rows stand first.
 #![tactic(auto)]
 
-ghost use Rattle.std.specs.Prelude.{◌≡◌, ◌<◌};
+ghost use Rattle.std.specs.Prelude.{◌≡◌, ℕ, ◌<◌, ltb};
 ghost use Rattle.definition.specs.Tables.{pool_limit, row_limit, nature};
-ghost use Rattle.tables.specs.Views.{kind_of, same_of, pool, ranges, inputs, pool_at, range_at, input_at, range_of, input_of};
-ghost use Rattle.tables.specs.Whole.{pushed_range, pushed_input, fresh_pool, fresh_ranges, fresh_inputs, fresh_pools, fresh_holders, fresh_state};
+ghost use Rattle.tables.specs.Views.{kind_of, same_of, pool, ranges, inputs, pool_at, range_at, input_at};
+ghost use Rattle.tables.specs.Sized.{SizedRanges, SizedInputs};
+ghost use Rattle.tables.specs.Whole.{fresh_pool, fresh_ranges, fresh_inputs, fresh_pools, fresh_holders, fresh_state};
 
 // The sizes, each stated here alone: rows of a reservation or owner table, rows of a pool table, requests of a plan, numbers of a record.
 pub const ROWS: usize = 256;
@@ -77,7 +78,7 @@ pub struct Holders {
     pub lpi: Ranges,
 }
 
-// All tables, and the five numbers of the last answer.
+// All tables, and the five numbers of the last answer: plain numbers, as the C interface has them.
 #[repr(C)]
 #[derive(Clone, Copy)]
 pub struct State {
@@ -93,7 +94,7 @@ pub struct State {
 }
 
 // The kinds, each with its tables.
-#[derive(Clone, Copy)]
+#[derive(Clone, Copy, Debug, PartialEq, Eq)]
 pub enum Kind {
     Mmio,
     Pio,
@@ -105,39 +106,95 @@ pub enum Kind {
 }
 
 // The number of a kind.
-pub fn kind_number(kind: Kind) -> u64
-    ensures { result ≡ (nature (kind_of kind)).number }
-{
-    match kind {
-        Kind::Mmio => 1,
-        Kind::Pio => 2,
-        Kind::Input => 3,
-        Kind::Host => 4,
-        Kind::Device => 5,
-        Kind::Event => 6,
-        Kind::Lpi => 7,
+impl From<Kind> for u64 {
+    ghost from_gives = { λ kind n. n ≡ (nature (kind_of kind)).number };
+
+    fn from(kind: Kind) -> u64 {
+        match kind {
+            Kind::Mmio => 1,
+            Kind::Pio => 2,
+            Kind::Input => 3,
+            Kind::Host => 4,
+            Kind::Device => 5,
+            Kind::Event => 6,
+            Kind::Lpi => 7,
+        }
     }
 }
 
-// Whether two kinds are one.
+// Whether two kinds are one: the derived `==`, with the definition's word for it.
 pub fn same_kind(one: Kind, other: Kind) -> bool
     ensures { result ≡ same_of one other }
 {
-    kind_number(one) == kind_number(other)
+    one == other
 }
 
-// Three numbers that cannot be passed for one another.
-#[derive(Clone, Copy)]
+// A number of a device, an event or an LPI: three types, so that none can be passed for another.
+pub trait Id {
+    ghost of: { ℕ → Self };
+
+    ghost number_of: { Self → ℕ };
+
+    fn new(number: u32) -> Self
+        ensures { result ≡ of number };
+
+    fn number(self) -> u32
+        ensures { result ≡ number_of self };
+}
+
+#[derive(Clone, Copy, Debug, PartialEq, Eq)]
 pub struct DeviceId(pub u32);
 
-#[derive(Clone, Copy)]
+#[derive(Clone, Copy, Debug, PartialEq, Eq)]
 pub struct EventId(pub u32);
 
-#[derive(Clone, Copy)]
+#[derive(Clone, Copy, Debug, PartialEq, Eq)]
 pub struct Lpi(pub u32);
 
+impl Id for DeviceId {
+    ghost of = { λ n. record { 0 = n } };
+
+    ghost number_of = { λ d. d.0 };
+
+    fn new(number: u32) -> DeviceId {
+        DeviceId(number)
+    }
+
+    fn number(self) -> u32 {
+        self.0
+    }
+}
+
+impl Id for EventId {
+    ghost of = { λ n. record { 0 = n } };
+
+    ghost number_of = { λ e. e.0 };
+
+    fn new(number: u32) -> EventId {
+        EventId(number)
+    }
+
+    fn number(self) -> u32 {
+        self.0
+    }
+}
+
+impl Id for Lpi {
+    ghost of = { λ n. record { 0 = n } };
+
+    ghost number_of = { λ l. l.0 };
+
+    fn new(number: u32) -> Lpi {
+        Lpi(number)
+    }
+
+    fn number(self) -> u32 {
+        self.0
+    }
+}
+
 // One row of each layout.
-#[derive(Clone, Copy)]
+#[derive(Clone, Copy, Debug, Default, PartialEq, Eq)]
 pub struct PoolRow {
     pub controller: u32,
     pub its: u32,
@@ -145,7 +202,7 @@ pub struct PoolRow {
     pub end: u64,
 }
 
-#[derive(Clone, Copy)]
+#[derive(Clone, Copy, Debug, Default, PartialEq, Eq)]
 pub struct RangeRow {
     pub controller: u32,
     pub its: u32,
@@ -155,20 +212,13 @@ pub struct RangeRow {
     pub owner: u32,
 }
 
-#[derive(Clone, Copy)]
+#[derive(Clone, Copy, Debug, Default, PartialEq, Eq)]
 pub struct InputRow {
     pub controller: u32,
     pub input: u64,
     pub trigger: u32,
     pub sharing: u32,
     pub owner: u32,
-}
-
-// The first row that passes a test, if any does.
-#[derive(Clone, Copy)]
-pub enum Hit {
-    At(usize),
-    Clear,
 }
 
 // ---- fresh tables: rows of zeros
@@ -261,97 +311,65 @@ pub fn fresh() -> State
     }
 }
 
-// ---- a row more, behind the last used one
+// ---- one row of a lent table, which is never copied to read it
 
-pub fn push_range(t: Ranges, r: RangeRow) -> Ranges
-    requires { t.n < row_limit }
-    ensures { result ≡ pushed_range t (range_of r) }
-{
-    let at = t.n;
-    let mut next = t;
-    next.controller[at] = r.controller;
-    next.its[at] = r.its;
-    next.device[at] = r.device;
-    next.start[at] = r.start;
-    next.end[at] = r.end;
-    next.owner[at] = r.owner;
-    next.n = at + 1;
-    next
-}
-
-pub fn push_input(t: Inputs, r: InputRow) -> Inputs
-    requires { t.n < row_limit }
-    ensures { result ≡ pushed_input t (input_of r) }
-{
-    let at = t.n;
-    let mut next = t;
-    next.controller[at] = r.controller;
-    next.input[at] = r.input;
-    next.trigger[at] = r.trigger;
-    next.sharing[at] = r.sharing;
-    next.owner[at] = r.owner;
-    next.n = at + 1;
-    next
-}
-
-// ---- one row, read from lent columns: a table is never copied to read it
-
-pub fn pool_at<'a>(
-    k: usize,
-    controller: &'a [u32; POOL_ROWS],
-    its: &'a [u32; POOL_ROWS],
-    start: &'a [u64; POOL_ROWS],
-    end: &'a [u64; POOL_ROWS],
-) -> PoolRow
-    requires { k < pool_limit }
-    ensures { result ≡ pool_at (pool 0 controller.now its.now start.now end.now) k }
-{
-    PoolRow {
-        controller: controller[k],
-        its: its[k],
-        start: start[k],
-        end: end[k],
+impl Pool {
+    pub fn row(&self, k: usize) -> PoolRow
+        requires { k < pool_limit }
+        ensures { result ≡ pool_at self.now k }
+    {
+        PoolRow {
+            controller: self.controller[k],
+            its: self.its[k],
+            start: self.start[k],
+            end: self.end[k],
+        }
     }
 }
 
-pub fn range_at<'a>(
-    k: usize,
-    controller: &'a [u32; ROWS],
-    its: &'a [u32; ROWS],
-    device: &'a [u32; ROWS],
-    start: &'a [u64; ROWS],
-    end: &'a [u64; ROWS],
-    owner: &'a [u32; ROWS],
-) -> RangeRow
-    requires { k < row_limit }
-    ensures { result ≡ range_at (ranges 0 controller.now its.now device.now start.now end.now owner.now) k }
-{
-    RangeRow {
-        controller: controller[k],
-        its: its[k],
-        device: device[k],
-        start: start[k],
-        end: end[k],
-        owner: owner[k],
+impl Ranges {
+    // Whether a row is free behind the last used one. (Every column that code holds has its full length: a list alone does not say so.)
+    pub fn has_room(&self) -> bool
+        ensures room { result ≡ ltb self.now.n row_limit }
+        ensures sized { SizedRanges self.now }
+    {
+        self.n < ROWS
+    }
+
+    pub fn row(&self, k: usize) -> RangeRow
+        requires { k < row_limit }
+        ensures { result ≡ range_at self.now k }
+    {
+        RangeRow {
+            controller: self.controller[k],
+            its: self.its[k],
+            device: self.device[k],
+            start: self.start[k],
+            end: self.end[k],
+            owner: self.owner[k],
+        }
     }
 }
 
-pub fn input_at<'a>(
-    k: usize,
-    controller: &'a [u32; ROWS],
-    input: &'a [u64; ROWS],
-    trigger: &'a [u32; ROWS],
-    sharing: &'a [u32; ROWS],
-    owner: &'a [u32; ROWS],
-) -> InputRow
-    requires { k < row_limit }
-    ensures { result ≡ input_at (inputs 0 controller.now input.now trigger.now sharing.now owner.now) k }
-{
-    InputRow {
-        controller: controller[k],
-        input: input[k],
-        trigger: trigger[k],
-        sharing: sharing[k],
-        owner: owner[k],
+impl Inputs {
+    // .. of inputs: one line for each layout, since `sized` names its columns.
+    pub fn has_room(&self) -> bool
+        ensures room { result ≡ ltb self.now.n row_limit }
+        ensures sized { SizedInputs self.now }
+    {
+        self.n < ROWS
+    }
+
+    pub fn row(&self, k: usize) -> InputRow
+        requires { k < row_limit }
+        ensures { result ≡ input_at self.now k }
+    {
+        InputRow {
+            controller: self.controller[k],
+            input: self.input[k],
+            trigger: self.trigger[k],
+            sharing: self.sharing[k],
+            owner: self.owner[k],
+        }
     }
 }

@@ -7,7 +7,8 @@ use lib.ListN.{length, take, drop, get_or, length-take, length-drop, take-append
 use lib.Seq.{take-append-le, drop-append-le}
 use Rattle.definition.specs.Tables.{record_size}
 use Rattle.lines.specs.Output.{carried_by, got_line, got_lines}
-use Rattle.writers.specs.Put.{Put}
+use Rattle.writers.specs.declared.put.Page.{Page}
+use Rattle.writers.specs.Put.{Room, Puts}
 use Rattle.writers.proofs.PutLaws.{carried_few}
 use Rattle.writers.proofs.EachLaws.{lines_none, lines_room, lines_turn}
 
@@ -21,13 +22,13 @@ next : (n : ℕ) (rs : List ℕ) → got_lines (suc n) rs ≡ got_line rs ++ got
 unfolding got_lines
 next n rs = refl
 
-pub gots_none : (out rs : List ℕ) → Put out 0 (got_lines 0 rs) 0 out
+pub gots_none : (p : Page) (rs : List ℕ) → Puts p (got_lines 0 rs) p
 gots_none = lines_none got_line record_size got_lines none next
 
-pub gots_room : (n i : ℕ) (rs : List ℕ) → i < n → length (got_lines i rs) + length (got_line (drop (record_size * i) rs)) ≤ length (got_lines n rs)
+pub gots_room : (p : Page) (rs : List ℕ) (i : ℕ) (q : Page) → Puts p (got_lines i rs) q → (n : ℕ) → i < n → Room p (got_lines n rs) → Room q (got_line (drop (record_size * i) rs))
 gots_room = lines_room got_line record_size got_lines none next
 
-pub gots_turn : (out rs : List ℕ) (i e f : ℕ) (o₁ o₂ : List ℕ) → Put out 0 (got_lines i rs) e o₁ → Put o₁ e (got_line (drop (record_size * i) rs)) f o₂ → Put out 0 (got_lines (i + 1) rs) f o₂
+pub gots_turn : (p : Page) (rs : List ℕ) (i : ℕ) (q : Page) → Puts p (got_lines i rs) q → (r : Page) → Puts q (got_line (drop (record_size * i) rs)) r → Puts p (got_lines (i + 1) rs) r
 gots_turn = lines_turn got_line record_size got_lines none next
 
 -- ---- what stands behind the records is not read

@@ -20,7 +20,7 @@ use Rattle.lines.specs.Text.{beginning_on, accepts, set_up, answered, ask, take_
 use Rattle.lines.specs.Place.{call_at, next_at}
 use Rattle.lines.proofs.FeedLaws.{rest, rest_whole, rest_stands, rest_ended, rest_line, next_after}
 use Rattle.lines.proofs.Longest.{taken_few}
-use Rattle.text.specs.Sofar.{said_in, sofar_of, started}
+use Rattle.text.specs.Sofar.{said_in, is_none, Named, goes_of, sofar_of, started}
 use Rattle.text.specs.Step.{Ready, behind, Stepped, start_of, Fed}
 use Rattle.text.specs.declared.feed.sofar.Sofar.{Sofar}
 use Rattle.text.proofs.StepLaws.{either, kept}
@@ -59,6 +59,7 @@ module _ (text : List ℕ) (s₀ : State) (zs₀ : List ℕ) where
     pub few : t.wants ≤ plan_limit
     pub here : t.at ≡ start_of text t.lines
     pub stays : behind t zs ≡ behind t zs₀
+    pub named : Named t
     pub ready : accepts (said_in t) ≡ true → Ready (sofar_of t s zs)
 
   pub starts : T (given kinds s₀) → Left started s₀ zs₀
@@ -69,20 +70,21 @@ module _ (text : List ℕ) (s₀ : State) (zs₀ : List ℕ) where
     few = omega arith;
     here = begins text;
     stays = refl;
+    named = refl;
     ready = λ a. record { given = g; wanted = λ f. absurd (f refl) };
   }
 
   module _ (t : Sofar) (s : State) (zs : List ℕ) (left : Left t s zs) where
     -- whether one more line is taken
     abbrev more : Bool
-    more = eqb t.number 0 && ltb t.at (length text)
+    more = goes_of t (length text)
 
     module _ (goes : more ≡ true) where
       accepted : accepts (said_in t) ≡ true
-      accepted = T_true _ (and_l (eqb t.number 0) (ltb t.at (length text)) (true_T more goes))
+      accepted = left.named ∙ T_true _ (and_l (is_none t.refusal) (ltb t.at (length text)) (true_T more goes))
 
       short : t.at < length text
-      short = ltb-true t.at (length text) (T_true _ (and_r (eqb t.number 0) (ltb t.at (length text)) (true_T more goes)))
+      short = ltb-true t.at (length text) (T_true _ (and_r (is_none t.refusal) (ltb t.at (length text)) (true_T more goes)))
 
       pub is_ready : Ready (sofar_of t s zs)
       is_ready = left.ready accepted
@@ -90,7 +92,7 @@ module _ (text : List ℕ) (s₀ : State) (zs₀ : List ℕ) where
       pub fewer : (e : ℕ) → e ≡ next_at text t.at → t.lines < e
       fewer e q = omega (arith, left.counted, (next_after (sofar_of t s zs) text t.at accepted short).0)
 
-      module _ (c : Option Call) (says : c ≡ call_at text t.at) (e : ℕ) (next : e ≡ next_at text t.at) (t' : Sofar) (s' : State) (zs' : List ℕ) (did : Stepped c t s zs t' s' zs') (at : t'.at ≡ e) where
+      module _ (c : Option Call) (says : c ≡ call_at text t.at) (e : ℕ) (next : e ≡ next_at text t.at) (t' : Sofar) (s' : State) (zs' : List ℕ) (did : Stepped c t s zs t' s' zs') (at : t'.at ≡ e) (named : Named t') where
         gone : Grows (sofar_of t s zs) (sofar_of t' s' zs')
         gone = subst (Grows (sofar_of t s zs)) (sym did.0) (grown (sofar_of t s zs) c)
 
@@ -112,6 +114,7 @@ module _ (text : List ℕ) (s₀ : State) (zs₀ : List ℕ) where
           few = subst (λ (u : Text.Sofar). u.wants ≤ plan_limit) (sym did.0) (taken_few (sofar_of t s zs) c left.few);
           here = at ∙ next ∙ ap (next_at text) left.here ∙ starts_next text t.lines ∙ ap (start_of text) (sym gone.0);
           stays = did.1 ∙ behind_more;
+          named = named;
           ready = λ a. subst Ready (sym did.0) (kept (sofar_of t s zs) is_ready c (subst (λ (u : Text.Sofar). accepts u.said ≡ true) did.0 a));
         }
 
@@ -119,8 +122,8 @@ module _ (text : List ℕ) (s₀ : State) (zs₀ : List ℕ) where
         nearer = omega (arith, at, after.0, after.1)
 
     pub ends : more ≡ false → Fed text s₀ zs₀ t s zs
-    ends over = record { comes = sym (stops (eqb t.number 0) refl over) ∙ left.whole; stays = left.stays; few = left.few; at = left.here }
+    ends over = record { comes = sym (stops (is_none t.refusal) left.named over) ∙ left.whole; stays = left.stays; few = left.few; at = left.here; named = left.named }
       where
-        stops : (b : Bool) → eqb t.number 0 ≡ b → b && ltb t.at (length text) ≡ false → rest (sofar_of t s zs) text t.at ≡ sofar_of t s zs
+        stops : (b : Bool) → accepts (said_in t) ≡ b → b && ltb t.at (length text) ≡ false → rest (sofar_of t s zs) text t.at ≡ sofar_of t s zs
         stops false q z = rest_stands (sofar_of t s zs) text t.at q
         stops true q z = rest_ended (sofar_of t s zs) text t.at (ltb-false t.at (length text) z)

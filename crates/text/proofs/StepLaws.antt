@@ -5,6 +5,9 @@ use mathlib.Core.Path.{◌≡◌, refl, sym, ap, ap₂, subst, ◌∙◌}
 use mathlib.Core.Bool.{Bool, true, false}
 use mathlib.Core.List.{List, ◌++◌, append_assoc}
 use mathlib.Core.Option.{Option, none, some}
+use Rattle.std.proofs.Math.Option.{some-injective}
+use Rattle.std.specs.Prelude as P
+use Rattle.std.specs.Prelude.{None, Some}
 use Prim.Native.Nat.{ℕ, suc, ◌+◌, ◌*◌, ◌/◌, ◌≤◌, ◌<◌}
 use native.Mathlib.Omega.{arith}
 use native.Mathlib.Numerals.{add-one}
@@ -14,7 +17,7 @@ use lib.Seq.{take-append_seam, drop-append_seam, drop-drop}
 use borrow.Author.Tests.{eq-eqb, ne_eqb, lt-ltb, ltb-true, ltb-false}
 use Rattle.definition.proofs.BaseLaws.{T_true, true_T}
 use Rattle.definition.proofs.RowLaws.{every_kind}
-use Rattle.definition.specs.Base.{Refusal, bad_line, short, Said, says, tell, Answer, accepted, refused}
+use Rattle.definition.specs.Base.{Refusal, bad_line, short, Said, says, silence, tell, Answer, accepted, refused}
 use Rattle.definition.specs.Tables.{plan_limit, record_size, kinds}
 use Rattle.definition.specs.Pools.{Claim}
 use Rattle.definition.specs.Request.{Request, resolve}
@@ -23,6 +26,7 @@ use Rattle.definition.proofs.StateLaws.{SoundFor, given_for, for_given, sound_fo
 use Rattle.definition.specs.Plan.{grant, record_of_grant, Lent, lent, allocate_into}
 use Rattle.definition.proofs.RunLaws.{record_length}
 use Rattle.definition.proofs.PlanLaws.{tell_number, start_is}
+use Rattle.definition.proofs.RefusedLaws.{Leaves, went, left, call_leaves}
 use Rattle.lines.specs.Text as Text
 use Rattle.lines.specs.Text.{sofar, accepts, next, refuse, set_up, opened, naming, answered, ask, take_line}
 use Rattle.lines.proofs.WantLaws.{want_serves, want_record}
@@ -33,14 +37,31 @@ use Rattle.plan.proofs.StepLaws.{is_clear_is}
 use Rattle.plan.proofs.PlanLaws.{turned_in_place}
 use Rattle.inplace.specs.declared.marks.Marks.{Marks}
 use Rattle.door.specs.Applied.{apply_of}
-use Rattle.text.specs.Sofar.{sofar_of, at_first, head_of, asks_of, wanted_by, failed, told, added_to, wanted_to, advanced_to}
+use Rattle.text.specs.Sofar.{said_of, is_none, Named, sofar_of, at_first, head_of, asked_of, left_by, failed, told, added_to, wanted_to, advanced_to}
 use Rattle.text.specs.Step.{Ready, results_size, behind, Stepped}
+use Rattle.text.specs.declared.feed.sofar.Reason.{Reason}
 use Rattle.text.specs.declared.feed.sofar.Sofar.{Sofar}
 use Rattle.text.proofs.SofarLaws.{not_first}
 
 -- the five numbers that were read of a state
 abbrev pub marked : Marks → Said
 marked m = says m.index m.number m.namespace m.owner m.detail
+
+-- .. are those of a refusal, or of none
+said_left : (m : Marks) (w : Said) → marked m ≡ w → (w.number ≡ 0 → w ≡ silence) → said_of (left_by m) ≡ w
+said_left m w e quiet = go (eqb m.number 0) refl
+  where
+    go : (b : Bool) → eqb m.number 0 ≡ b → said_of (elim b [ true ↦ None | false ↦ Some (record { number = m.number; index = m.index; namespace = m.namespace; owner = m.owner; detail = m.detail }) ]) ≡ w
+    go true q = sym (quiet (ap (λ (v : Said). v.number) (sym e) ∙ eqb→eq m.number 0 (true_T _ q)))
+    go false q = e
+
+-- an accepted call leaves five zeros
+serve_quiet : (c : Call) (s : State) → (serve kinds c s).said.number ≡ 0 → (serve kinds c s).said ≡ silence
+serve_quiet c s = go (call_leaves kinds c s)
+  where
+    go : {s' : State} → Leaves s s' → s'.said.number ≡ 0 → s'.said ≡ silence
+    go (went z) e = z
+    go (left x) e = absurd (tell_number 0 x e)
 
 off : {A : Type 0} → ◌≡◌ {A = Bool} false true → A
 off e = absurd (let z : ◌≡◌ {A = ℕ} 0 1 = cc in omega arith)
@@ -102,6 +123,22 @@ module _ (t : Text.Sofar) (ready : Ready t) where
   kept (some start) a = off a
   kept (some (want r)) a = ask_keeps r a
 
+-- ---- a want is answered, or it is not
+
+abbrev answered_if : Request → Bool → Option Request
+answered_if r b = elim b [ true ↦ some r | false ↦ none ]
+
+not_asked : (r : Request) (b : Bool) → answered_if r b ≡ none → b ≡ false
+not_asked r true e = absurd (let z : ◌≡◌ {A = ℕ} 0 1 = cc in omega arith)
+not_asked r false e = refl
+
+is_asked : (r q : Request) (b : Bool) → answered_if r b ≡ some q → (b ≡ true) × (r ≡ q)
+is_asked r q true e = (refl, some-injective r q e)
+is_asked r q false e = absurd (let z : ◌≡◌ {A = ℕ} 0 1 = cc in omega arith)
+
+nobody : {A : Type 0} (q : Request) → ◌≡◌ {A = Option Request} none (some q) → A
+nobody q e = absurd (let z : ◌≡◌ {A = ℕ} 0 1 = cc in omega arith)
+
 -- ---- the step, the next line starting at e, m read of the state that is left
 module _ (t : Sofar) (s : State) (zs : List ℕ) (e : ℕ) (m : Marks) where
   abbrev t₀ : Text.Sofar
@@ -113,8 +150,8 @@ module _ (t : Sofar) (s : State) (zs : List ℕ) (e : ℕ) (m : Marks) where
   fails : (x : Refusal) (n : ℕ) → says 0 n 0 0 0 ≡ tell 0 x → sofar_of (failed t e n) s zs ≡ refuse t₀ x
   fails x n q = λ i. sofar (add-one t.lines i) s t.wants front (q i)
 
-  tells : (s' : State) → marked m ≡ s'.said → sofar_of (told t e t.wants m) s' zs ≡ next t₀ s'
-  tells s' q = λ i. sofar (add-one t.lines i) s' t.wants front (q i)
+  tells : (s' : State) → marked m ≡ s'.said → (s'.said.number ≡ 0 → s'.said ≡ silence) → sofar_of (told t e t.wants m) s' zs ≡ next t₀ s'
+  tells s' q quiet = λ i. sofar (add-one t.lines i) s' t.wants front (said_left m s'.said q quiet i)
 
   adds : (k : Call) → apply_of (some k) s ≡ serve kinds k s → (s' : State) → s' ≡ apply_of (at_first t.wants k) s → marked m ≡ s'.said → sofar_of (added_to t e m) s' zs ≡ set_up t₀ k
   unfolding set_up
@@ -122,25 +159,26 @@ module _ (t : Sofar) (s : State) (zs : List ℕ) (e : ℕ) (m : Marks) where
     where
       go : (b : Bool) → s' ≡ apply_of (elim b [ true ↦ some k | false ↦ none ]) s
           → sofar_of (elim b [ true ↦ told t e t.wants m | false ↦ failed t e 10 ]) s' zs ≡ elim b [ true ↦ next t₀ (serve kinds k s) | false ↦ refuse t₀ bad_line ]
-      go true i = tells s' q ∙ ap (next t₀) (i ∙ served)
+      go true i = tells s' q (subst (λ (x : State). x.said.number ≡ 0 → x.said ≡ silence) (sym (i ∙ served)) (serve_quiet k s)) ∙ ap (next t₀) (i ∙ served)
       go false i = ap (λ (x : State). sofar_of (failed t e 10) x zs) i ∙ fails bad_line 10 refl
 
   over : (r : Request) → ltb t.wants plan_limit ≡ false → sofar_of (wanted_to t e m) s zs ≡ ask t₀ r
   unfolding ask
   over r a = rw (wanted_to, a, ask) (fails short 11 refl)
 
-  comes_to : (c : Option Call) → asks_of t.wants c ≡ false → (s' : State) → s' ≡ apply_of (head_of t.wants c) s → marked m ≡ s'.said → sofar_of (advanced_to t c e m) s' zs ≡ take_line t₀ c
+  comes_to : (c : Option Call) → asked_of t.wants c ≡ none → (s' : State) → s' ≡ apply_of (head_of t.wants c) s → marked m ≡ s'.said → sofar_of (advanced_to t c e m) s' zs ≡ take_line t₀ c
   comes_to none a s' is q = ap (λ (x : State). sofar_of (failed t e 10) x zs) is ∙ fails bad_line 10 refl
   comes_to (some (pool u p)) a s' is q = adds (pool u p) refl s' is q
   comes_to (some (hold o h)) a s' is q = adds (hold o h) refl s' is q
   comes_to (some start) a s' is q = ap (λ (x : State). sofar_of (failed t e 10) x zs) is ∙ fails bad_line 10 refl
   comes_to (some (want r)) a s' is q =
-      let l : plan_limit ≤ t.wants = ltb-false t.wants plan_limit a in
+      let f : ltb t.wants plan_limit ≡ false = not_asked r (ltb t.wants plan_limit) a in
+      let l : plan_limit ≤ t.wants = ltb-false t.wants plan_limit f in
       let z : s' ≡ s = is ∙ ap (λ (o : Option Call). apply_of o s) (not_first t.wants start (λ h. omega arith)) in
-      ap (λ (x : State). sofar_of (wanted_to t e m) x zs) z ∙ over r a
+      ap (λ (x : State). sofar_of (wanted_to t e m) x zs) z ∙ over r f
 
   -- a line that asks nothing
-  pub no_want : (c : Option Call) → asks_of t.wants c ≡ false → (s' : State) → s' ≡ apply_of (head_of t.wants c) s → marked m ≡ s'.said → Stepped c t s zs (advanced_to t c e m) s' zs
+  pub no_want : (c : Option Call) → asked_of t.wants c ≡ none → (s' : State) → s' ≡ apply_of (head_of t.wants c) s → marked m ≡ s'.said → Stepped c t s zs (advanced_to t c e m) s' zs
   no_want c a s' is q = (comes_to c a s' is q, refl)
 
 -- one that is a want and is answered
@@ -222,7 +260,7 @@ module _ (t : Sofar) (s : State) (zs : List ℕ) (r : Request) (ready : Ready (s
         let g : wanted_to t e m ≡ told t e (n + 1) m = goes_to (n + 1) (ap (λ (v : Said). elim (eqb v.number 0) [ true ↦ n + 1 | false ↦ n ]) w) in
         let came : ask before r ≡ sofar (suc t.lines) (granting cs first) (suc n) (take a zs ++ us cs) (granting cs first).said = asks_into ∙ ap (answered before) (want_record r first cs sound_first q) in (
           ap (λ (u : Sofar). sofar_of u s₂ zs₂) g
-              ∙ (λ i. sofar (add-one t.lines i) (st i) (add-one n i) ((ap (take (record_size * (n + 1))) rs ∙ more cs) i) (w i)) ∙ sym came,
+              ∙ (λ i. sofar (add-one t.lines i) (st i) (add-one n i) ((ap (take (record_size * (n + 1))) rs ∙ more cs) i) (said_left m silence w (λ q. refl) i)) ∙ sym came,
           ap (λ (u : Sofar). behind u zs₂) g ∙ ap (drop (record_size * (n + 1))) rs ∙ rest_stays cs ∙ ap (λ (u : Sofar). behind u zs) (sym g),
         )
 
@@ -238,7 +276,7 @@ module _ (t : Sofar) (s : State) (zs : List ℕ) (r : Request) (ready : Ready (s
         let came : ask before r ≡ next before u =
         asks_into ∙ ap (answered before) (sym (into_refused kinds r first (replicate record_size 0) sound_first (omega arith) x q))
         ∙ ap (λ (b : Bool). elim b [ true ↦ sofar (suc t.lines) (after first (refused x)) (suc n) (take a zs ++ replicate record_size 0) (tell 0 x) | false ↦ next before u ]) (ne_eqb (tell 0 x).number 0 (tell_number 0 x)) in (
-          ap (λ (v : Sofar). sofar_of v s₂ zs₂) g ∙ (λ i. sofar (add-one t.lines i) (st i) n (take a (rs i)) (w i)) ∙ sym came,
+          ap (λ (v : Sofar). sofar_of v s₂ zs₂) g ∙ (λ i. sofar (add-one t.lines i) (st i) n (take a (rs i)) (said_left m u.said w (λ h. absurd (tell_number 0 x h)) i)) ∙ sym came,
           ap (behind (wanted_to t e m)) rs,
         )
 
@@ -258,18 +296,35 @@ advanced_at t (some (hold o h)) e m = either (λ (u : Sofar). u.at ≡ e) _ _ (e
 advanced_at t (some start) e m = refl
 advanced_at t (some (want r)) e m = either (λ (u : Sofar). u.at ≡ e) _ _ (ltb t.wants plan_limit) (λ q. refl) (λ q. refl)
 
-module _ (t : Sofar) (s : State) (zs : List ℕ) (ready : Ready (sofar_of t s zs)) (long : length zs ≡ results_size) where
-  pub steady_at : (c : Option Call) → asks_of t.wants c ≡ true → (s₁ : State) → s₁ ≡ apply_of (head_of t.wants c) s → Steady s₁
-  steady_at none a s₁ is = off a
-  steady_at (some (pool u p)) a s₁ is = off a
-  steady_at (some (hold o h)) a s₁ is = off a
-  steady_at (some start) a s₁ is = off a
-  steady_at (some (want r)) a s₁ is = steady t s zs r ready a long s₁ is
+-- a refusal that is left has a number
+left_named : (m : Marks) → accepts (said_of (left_by m)) ≡ is_none (left_by m)
+left_named m = go (eqb m.number 0) refl
+  where
+    go : (b : Bool) → eqb m.number 0 ≡ b → let o : P.Option Reason = elim b [ true ↦ None | false ↦ Some (record { number = m.number; index = m.index; namespace = m.namespace; owner = m.owner; detail = m.detail }) ] in accepts (said_of o) ≡ is_none o
+    go true q = refl
+    go false q = q
 
-  pub stepped_at : (c : Option Call) → asks_of t.wants c ≡ true → (s₁ : State) → s₁ ≡ apply_of (head_of t.wants c) s → (e : ℕ) (m : Marks) (s₂ : State) (zs₂ : List ℕ) → marked m ≡ s₂.said
-      → lent s₂ zs₂ ≡ turned t.wants (wanted_by c) s₁ zs → Stepped c t s zs (advanced_to t c e m) s₂ zs₂
-  stepped_at none a s₁ is e m s₂ zs₂ said did = off a
-  stepped_at (some (pool u p)) a s₁ is e m s₂ zs₂ said did = off a
-  stepped_at (some (hold o h)) a s₁ is e m s₂ zs₂ said did = off a
-  stepped_at (some start) a s₁ is e m s₂ zs₂ said did = off a
-  stepped_at (some (want r)) a s₁ is e m s₂ zs₂ said did = a_want t s zs r ready a long e m s₂ zs₂ said s₁ is did
+pub advanced_named : (t : Sofar) (c : Option Call) (e : ℕ) (m : Marks) → Named (advanced_to t c e m)
+advanced_named t none e m = refl
+advanced_named t (some (pool u p)) e m = either Named _ _ (eqb t.wants 0) (λ q. left_named m) (λ q. refl)
+advanced_named t (some (hold o h)) e m = either Named _ _ (eqb t.wants 0) (λ q. left_named m) (λ q. refl)
+advanced_named t (some start) e m = refl
+advanced_named t (some (want r)) e m = either Named _ _ (ltb t.wants plan_limit) (λ q. left_named m) (λ q. refl)
+
+module _ (t : Sofar) (s : State) (zs : List ℕ) (ready : Ready (sofar_of t s zs)) (long : length zs ≡ results_size) (q : Request) where
+  pub steady_at : (c : Option Call) → asked_of t.wants c ≡ some q → (s₁ : State) → s₁ ≡ apply_of (head_of t.wants c) s → Steady s₁
+  steady_at none a s₁ is = nobody q a
+  steady_at (some (pool u p)) a s₁ is = nobody q a
+  steady_at (some (hold o h)) a s₁ is = nobody q a
+  steady_at (some start) a s₁ is = nobody q a
+  steady_at (some (want r)) a s₁ is = steady t s zs r ready (is_asked r q (ltb t.wants plan_limit) a).0 long s₁ is
+
+  pub stepped_at : (c : Option Call) → asked_of t.wants c ≡ some q → (s₁ : State) → s₁ ≡ apply_of (head_of t.wants c) s → (e : ℕ) (m : Marks) (s₂ : State) (zs₂ : List ℕ) → marked m ≡ s₂.said
+      → lent s₂ zs₂ ≡ turned t.wants q s₁ zs → Stepped c t s zs (advanced_to t c e m) s₂ zs₂
+  stepped_at none a s₁ is e m s₂ zs₂ said did = nobody q a
+  stepped_at (some (pool u p)) a s₁ is e m s₂ zs₂ said did = nobody q a
+  stepped_at (some (hold o h)) a s₁ is e m s₂ zs₂ said did = nobody q a
+  stepped_at (some start) a s₁ is e m s₂ zs₂ said did = nobody q a
+  stepped_at (some (want r)) a s₁ is e m s₂ zs₂ said did =
+      let (few, same) = is_asked r q (ltb t.wants plan_limit) a in
+      a_want t s zs r ready few long e m s₂ zs₂ said s₁ is (did ∙ ap (λ x. turned t.wants x s₁ zs) (sym same))

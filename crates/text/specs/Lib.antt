@@ -1,3 +1,4 @@
 pub mod Sofar
 pub mod Step
 pub mod Respond
+pub mod Reply

@@ -1,11 +1,11 @@
 -- What the text call promises. Assumes nothing.
-use Rattle.std.specs.Prelude.{true, false, List, ◌++◌, ℕ, eqb, leb, length}
+use Rattle.std.specs.Prelude.{true, false, None, Some, List, ◌++◌, ℕ, leb, length}
+use Rattle.definition.specs.Base.{says}
 use Rattle.definition.specs.Plan.{written}
 use Rattle.lines.specs.Output.{got_lines, end_line, no_line, output_limit}
 use Rattle.definition.specs.Calls.{State}
 use Rattle.lines.specs.Text as Text
 use Rattle.lines.specs.Text.{beginning, feed, close, output}
-use Rattle.text.specs.Sofar.{said_in}
 use Rattle.text.specs.declared.feed.sofar.Sofar.{Sofar}
 
 -- an answer's number, how many bytes were written, and the buffer afterwards
@@ -33,7 +33,7 @@ tables_after text = (close (feed Text.step beginning text)).state
 -- the answer to a text that has come so far: rs begins with the wants' records
 unfoldable pub answered_by : Sofar → List ℕ → List ℕ
 answered_by t rs =
-    elim (eqb t.number 0) [
-      | true ↦ got_lines t.wants rs ++ end_line t.wants
-      | false ↦ no_line t.lines (said_in t)
+    elim t.refusal [
+      | None ↦ got_lines t.wants rs ++ end_line t.wants
+      | Some r ↦ no_line t.lines (says r.index r.number r.namespace r.owner r.detail)
     ]

@@ -7,7 +7,7 @@ use Rattle.lines.specs.Place.{next_at}
 use Rattle.lines.specs.Text as Text
 use Rattle.lines.specs.Text.{beginning_on, take_line, feed, close}
 use Rattle.plan.specs.Steps.{clear}
-use Rattle.text.specs.Sofar.{sofar_of}
+use Rattle.text.specs.Sofar.{sofar_of, Named}
 use Rattle.text.specs.declared.feed.sofar.Sofar.{Sofar}
 
 -- the tables are sound by law, so no line tests them: pools and reservations always, and all tables once a want was accepted
@@ -38,3 +38,4 @@ pub record Fed (text : List ℕ) (s : State) (zs : List ℕ) (t' : Sofar) (s' : 
   pub stays : behind t' zs' ≡ behind t' zs
   pub few : t'.wants ≤ plan_limit
   pub at : t'.at ≡ start_of text t'.lines
+  pub named : Named t'

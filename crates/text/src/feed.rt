@@ -3,12 +3,12 @@ ghost use Rattle.std.specs.Prelude.{◌≡◌, ◌<◌, T, length};
 ghost use Rattle.definition.specs.Tables.{kinds};
 ghost use Rattle.definition.specs.Calls.{given};
 ghost use Rattle.tables.specs.Views.{state_view};
-ghost use Rattle.request.specs.Calls.{call_of};
-ghost use Rattle.text.specs.Sofar.{sofar_of};
+ghost use Rattle.reader.specs.Kinds.{says};
+ghost use Rattle.text.specs.Sofar.{sofar_of, Named};
 ghost use Rattle.text.specs.Step.{Ready, results_size, Stepped, Fed};
 
 use line::{Line, line_at};
-use sofar::{Sofar, accepted, advanced, asks, beginning, goes, head_of, want_of};
+use sofar::Sofar;
 use tables::State;
 
 pub mod line; // line.rt: the line that starts at a place of a text
@@ -17,19 +17,15 @@ pub mod sofar; // sofar.rt: how far a text has come, and what its next line does
 // THE LINE STEP: a `pool` or a `hold` is made, the first want starts, a want is answered and its record written behind those before it.
 pub fn step(s: &mut State, l: Line, t: Sofar, results: &mut [u64]) -> Sofar
     requires { (Ready (sofar_of t (state_view s.old) results.old)) × (length results.old ≡ results_size) × (t.lines < l.next) }
-    ensures { (Stepped (call_of l.call) t (state_view s.old) results.old result (state_view s.new) results.new) × (result.at ≡ l.next) }
+    ensures { (Stepped (says l.call) t (state_view s.old) results.old result (state_view s.new) results.new) × (result.at ≡ l.next) × (Named result) }
 {
-    let c = head_of(t, l);
-    door::apply::apply(s, c);
-    if asks(t, l) {
-        let r = want_of(l);
-        let i = accepted(t);
-        plan::turn(s, r, i, results);
-        let m = inplace::marks::peek(s);
-        return advanced(t, l, m);
+    if let Some(head) = t.head_of(l.call) {
+        door::apply::apply(s, head);
     }
-    let m = inplace::marks::peek(s);
-    advanced(t, l, m)
+    if let Some(r) = t.asked(l.call) {
+        plan::turn(s, r, t.wants, results);
+    }
+    t.advanced(l, inplace::marks::peek(s))
 }
 
 // A whole text on pools and reservations that are sound: line by line, up to its end or to the first refusal.
@@ -37,11 +33,10 @@ pub fn feed(s: &mut State, text: &[u8], results: &mut [u64]) -> Sofar
     requires { (T (given kinds (state_view s.old))) × (length results.old ≡ results_size) }
     ensures { Fed text.now (state_view s.old) results.old result (state_view s.new) results.new }
 {
-    let mut t = beginning();
-    while goes(t, text.len()) {
-        let l = line_at(text, t);
-        let next = step(s, l, t, results);
-        t = next;
+    let mut t = Sofar::beginning();
+    // not a `for`: a line's end says where the next one starts, and a refusal ends the text
+    while t.goes(text.len()) {
+        t = step(s, line_at(text, t.at), t, results);
     }
     t
 }

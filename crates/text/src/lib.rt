@@ -5,13 +5,15 @@ ghost use Rattle.std.specs.Prelude.{◌≡◌, ◌*◌, ◌≤◌, length};
 ghost use Rattle.definition.specs.Tables.{record_size};
 ghost use Rattle.definition.specs.Calls.{fresh};
 ghost use Rattle.lines.specs.Output.{got_lines};
-ghost use Rattle.writers.specs.Put.{Put};
+ghost use Rattle.writers.specs.Put.{Room, Puts};
 ghost use Rattle.text.specs.Step.{results_size, Fed};
-ghost use Rattle.text.specs.Respond.{tables_after, answered_by, replied, responds_to};
+ghost use Rattle.text.specs.Respond.{tables_after, answered_by, responds_to};
+ghost use Rattle.text.specs.Reply.{replied_by};
 
 use crate::feed::sofar::Sofar;
 use tables::{PLAN, RECORD};
-use writers::output::{END, GOT, put_end, put_got, put_no};
+use writers::output::{BAD_LINE, END, GOT, Refused};
+use writers::put::Page;
 
 pub mod feed;
 
@@ -24,12 +26,9 @@ pub const TEXT: usize = 65536;
 // Numbers of the results of the longest plan.
 pub const RESULTS: usize = RECORD * PLAN;
 
-// 0 and how many bytes were written; or 11 where the buffer is too short for the longest output, and nothing written.
-#[derive(Clone, Copy)]
-pub struct Response {
-    pub number: u64,
-    pub length: usize,
-}
+// The buffer is too short for the longest output. That is refusal 11, and nothing is written.
+#[derive(Clone, Copy, Debug, PartialEq, Eq)]
+pub struct Short;
 
 // A text's lines, taken in order on fresh tables: the one state that they are taken on stands here.
 pub fn read(text: &[u8], results: &mut [u64]) -> Sofar
@@ -41,55 +40,44 @@ pub fn read(text: &[u8], results: &mut [u64]) -> Sofar
 }
 
 // The `got` lines of the first n records.
-pub fn put_gots(out: &mut [u8], n: usize, results: &[u64]) -> usize
-    requires { (record_size * n ≤ length results.now) × (length (got_lines n results.now) ≤ length out.old) }
-    ensures { Put out.old 0 (got_lines n results.now) result out.new }
+pub fn put_gots(page: &mut Page, n: usize, results: &[u64])
+    requires whole { record_size * n ≤ length results.now }
+    requires room { Room page.old (got_lines n results.now) }
+    ensures { Puts page.old (got_lines n results.now) page.new }
 {
-    let mut e: usize = 0;
-    let mut i: usize = 0;
-    while i < n {
-        let from = RECORD * i;
-        e = put_got(out, e, &results[from..]);
-        i += 1;
+    for i in 0..n {
+        page.put_got(&results[RECORD * i..]);
     }
-    e
 }
 
 // The answer to a text whose lines are taken: a `got` line for each want and `end`; or the one `no` line, so nothing is written before the last line is.
-pub fn answer(out: &mut [u8], t: Sofar, results: &[u64]) -> usize
-    requires { (record_size * t.wants ≤ length results.now) × (length (answered_by t results.now) ≤ length out.old) }
-    ensures { Put out.old 0 (answered_by t results.now) result out.new }
+pub fn answer(page: &mut Page, t: Sofar, results: &[u64])
+    requires whole { record_size * t.wants ≤ length results.now }
+    requires room { Room page.old (answered_by t results.now) }
+    ensures { Puts page.old (answered_by t results.now) page.new }
 {
-    if t.number != 0 {
-        return put_no(out, 0, t.lines, t.number, t.namespace, t.owner, t.detail);
+    if let Some(no) = t.refused() {
+        page.put_no(no);
+        return;
     }
-    let n = t.wants;
-    let e = put_gots(out, n, results);
-    put_end(out, e, n as u64)
+    put_gots(page, t.wants, results);
+    page.put_end(t.wants as u64);
 }
 
-// A text over the limit is 10 at line 0, before all else.
-pub fn respond(text: &[u8], out: &mut [u8]) -> Response
-    ensures { replied result.number result.length out.new ≡ responds_to text.now out.old }
+// How many bytes were written. A text over the limit is 10 at line 0, before all else.
+pub fn respond(text: &[u8], out: &mut [u8]) -> Result<usize, Short>
+    ensures { replied_by result out.new ≡ responds_to text.now out.old }
 {
     if out.len() < OUTPUT {
-        return Response {
-            number: 11,
-            length: 0,
-        };
+        return Err(Short);
     }
+    let mut page = Page::new(out);
     if TEXT < text.len() {
-        let e = put_no(out, 0, 0, 10, 0, 0, 0);
-        return Response {
-            number: 0,
-            length: e,
-        };
+        page.put_no(Refused::bare(BAD_LINE));
+        return Ok(page.at);
     }
     let mut results = [0u64; RESULTS];
     let t = read(text, &mut results);
-    let e = answer(out, t, &results);
-    Response {
-        number: 0,
-        length: e,
-    }
+    answer(&mut page, t, &results);
+    Ok(page.at)
 }

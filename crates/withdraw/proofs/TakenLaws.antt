@@ -1,13 +1,13 @@
 -- What the code answers is the definition's withdrawal: where it is refused first, and where rows were taken out or none was found. Assumes nothing.
 use mathlib.Core.Path.{◌≡◌, refl, sym, ap, ◌∙◌}
-use mathlib.Core.Bool.{Bool, true, false, not}
+use mathlib.Core.Bool.{Bool, true, false}
 use mathlib.Core.Logic.{◌⊎◌, inl, inr}
-use Prim.Native.Nat.{ℕ, ◌≤◌, ◌<◌}
+use Prim.Native.Nat.{ℕ, ◌<◌}
 use native.Mathlib.Omega.{arith}
-use lib.Dec.{T, ltb, leb, eqb, ltb→lt, lt→ltb, leb→le}
+use lib.Dec.{T, ltb, leb, ltb→lt, lt→ltb}
 use borrow.Author.Tests.{le-ltb}
 use Rattle.definition.specs.Base.{any_of, tell, not_found, silence}
-use Rattle.definition.proofs.BaseLaws.{and_l, and_r, T_true, T_false, true_T, not_T→, either, in_any}
+use Rattle.definition.proofs.BaseLaws.{and_l, T_true, T_false, true_T, not_T→, either, in_any}
 use Rattle.definition.specs.Tables.{top, Kind, kinds, Row, Table, blank_row}
 use Rattle.definition.proofs.RowLaws.{every_kind}
 use Rattle.definition.specs.Calls as C
@@ -16,39 +16,45 @@ use Rattle.definition.specs.Withdraw.{owned_by, holds_grant, a_requester, withdr
 use Rattle.definition.proofs.WithdrawLaws.{withdraw_malformed, withdraw_nobody, withdraw_none, withdraw_takes, close_withdraws, close_none, close_shorter}
 use Rattle.tables.specs.Views.{state_view}
 use Rattle.tables.specs.declared.State.{State}
-use Rattle.insert.specs.Answers.{heard}
+use Rattle.std.specs.Prelude.{Ok, Err}
+use Rattle.std.specs.Bool.{then_some}
+use Rattle.std.specs.Result.{IsErrAnd}
+use Rattle.insert.specs.Answers.{Reply, heard}
+use Rattle.insert.specs.declared.Refused.{Refused}
+use Rattle.insert.specs.declared.Refused.TheVariants as R
 use Rattle.inplace.specs.Marks.{marks_of, reserved_of, counts_in, taken_out}
 use Rattle.inplace.specs.declared.marks.Marks.{Marks}
 use Rattle.inplace.proofs.CutViews.{counts_view, owned_view}
-use Rattle.withdraw.specs.Answers.{judged_of, shorter_of, found_of}
+use Rattle.withdraw.specs.Answers.{requester_of, judged_of, shorter_of, found_of}
 
 -- ---- refused before a table is touched
 
-pub stopped : (q : ℕ) (s t : C.State) (y : Bool) → y ≡ C.sound kinds s → T (not (eqb (judged_of y (a_requester q)).number 0)) → t ≡ C.saying (heard (judged_of y (a_requester q))) s → t ≡ withdraw q s
-stopped q s t y e = go y e (a_requester q) refl
+pub stopped : (q : ℕ) (s : C.State) (r : Reply) (y : Refused) → IsErrAnd r (λ x. x ≡ y) → judged_of (C.sound kinds s) (requester_of q) ≡ Err y → C.saying (heard r) s ≡ withdraw q s
+stopped q s (Ok given) y h e = absurd h
+stopped q s (Err x) y h e = ap (λ (x : Refused). C.saying (heard (Err x)) s) h ∙ go (C.sound kinds s) refl (a_requester q) refl e
   where
-    go : (y : Bool) → y ≡ C.sound kinds s → (w : Bool) → a_requester q ≡ w → T (not (eqb (judged_of y w).number 0)) → t ≡ C.saying (heard (judged_of y w)) s → t ≡ withdraw q s
-    go false e w u n p = p ∙ sym (withdraw_malformed q s (not_T→ (C.sound kinds s) (rw (sym e) tt)))
-    go true e false u n p = p ∙ sym (withdraw_nobody q s (true_T (C.sound kinds s) (sym e)) (not_T→ (a_requester q) (rw u tt)))
-    go true e true u n p = absurd n
+    go : (b : Bool) → C.sound kinds s ≡ b → (w : Bool) → a_requester q ≡ w → judged_of b (then_some w q) ≡ Err y → C.saying (heard (Err y)) s ≡ withdraw q s
+    go false n w u e =
+        let p : y ≡ R.Malformed = cc in
+        ap (λ (x : Refused). C.saying (heard (Err x)) s) p ∙ sym (withdraw_malformed q s (not_T→ (C.sound kinds s) (rw n tt)))
+    go true n false u e =
+        let p : y ≡ R.BadInput = cc in
+        ap (λ (x : Refused). C.saying (heard (Err x)) s) p ∙ sym (withdraw_nobody q s (true_T (C.sound kinds s) n) (not_T→ (a_requester q) (rw u tt)))
+    go true n true u e = cc
 
 -- ---- else the tables are sound, and the number is a requester's
 
-pub goes_on : (q : ℕ) (s : C.State) (y : Bool) → y ≡ C.sound kinds s → T (eqb (judged_of y (a_requester q)).number 0) → T (C.sound kinds s) × T (a_requester q)
-goes_on q s y e = go y e (a_requester q) refl
+pub goes_on : (q whose : ℕ) (b : Bool) → judged_of b (requester_of q) ≡ Ok whose → T b × T (a_requester q) × (whose ≡ q)
+goes_on q whose b = go b (a_requester q) refl
   where
-    go : (y : Bool) → y ≡ C.sound kinds s → (w : Bool) → a_requester q ≡ w → T (eqb (judged_of y w).number 0) → T (C.sound kinds s) × T (a_requester q)
-    go false e w u n = absurd n
-    go true e false u n = absurd n
-    go true e true u n = (true_T (C.sound kinds s) (sym e), true_T (a_requester q) u)
+    go : (b w : Bool) → a_requester q ≡ w → judged_of b (then_some w q) ≡ Ok whose → T b × T (a_requester q) × (whose ≡ q)
+    go false w u e = cc
+    go true false u e = cc
+    go true true u e = (tt, true_T (a_requester q) u, cc)
 
 pub someone : (q : ℕ) → T (a_requester q) → 0 < q
 unfolding a_requester
 someone q t = ltb→lt 0 q (and_l (ltb 0 q) (leb q (top 32)) t)
-
-pub fits : (q : ℕ) → T (a_requester q) → q ≤ top 32
-unfolding a_requester
-fits q t = leb→le q (top 32) (and_r (ltb 0 q) (leb q (top 32)) t)
 
 -- ---- the rows taken out, and what is found of the counts
 
@@ -76,8 +82,8 @@ module _ (q : ℕ) (h : State) (sounds : T (C.sound kinds (state_view h))) (who 
   unfolding shorter_of
   shorter_is i = any_of (λ k. shortens k i) kinds
 
-  done : (t : C.State) → t ≡ C.saying (heard (found_of (shorter_of (marks_of h) (marks_of d)))) (state_view d) → t ≡ withdraw q s
-  done t e = e ∙ ap (λ (b : Bool). C.saying (heard (found_of b)) (state_view d)) shorter_is ∙ ap (λ (z : C.State). C.saying (heard (found_of (any_of (holds_grant q s) kinds))) z) taken ∙ go (either (any_of (holds_grant q s) kinds))
+  pub done : C.saying (heard (found_of (shorter_of (marks_of h) (marks_of d)))) (state_view d) ≡ withdraw q s
+  done = (λ i. C.saying (heard (found_of (shorter_is i))) (taken i)) ∙ go (either (any_of (holds_grant q s) kinds))
     where
       go : T (any_of (holds_grant q s) kinds) ⊎ (T (any_of (holds_grant q s) kinds) → ⊥) → C.saying (heard (found_of (any_of (holds_grant q s) kinds))) (closing (owned_by q) (λ k. (s.held k).count) s) ≡ withdraw q s
       go (inl t) =
@@ -88,8 +94,8 @@ module _ (q : ℕ) (h : State) (sounds : T (C.sound kinds (state_view h))) (who 
           ∙ (λ i. C.state s.pools s.held (λ k. close_none q s sounds k (λ t. u (in_any (holds_grant q s) (every_kind k) t)) i) (tell 0 not_found)) ∙ sym (withdraw_none q s sounds who u)
 
 -- .. of what was read before, and what is read after
-pub taken_done : (q : ℕ) (h : State) → T (C.sound kinds (state_view h)) → T (a_requester q) → (before held after : Marks) (d : State) (t : C.State)
-    → before ≡ marks_of h → held ≡ reserved_of h → d ≡ taken_out held q h → after ≡ marks_of d → t ≡ C.saying (heard (found_of (shorter_of before after))) (state_view d) → t ≡ withdraw q (state_view h)
-taken_done q h sounds who before held after d t e₁ e₂ e₃ e₄ said =
-    let g : d ≡ taken_out (reserved_of h) q h = e₃ ∙ ap (λ (m : Marks). taken_out m q h) e₂ in
-    done q h sounds who t (said ∙ (λ i. C.saying (heard (found_of (shorter_of (e₁ i) ((e₄ ∙ ap marks_of g) i)))) (state_view (g i))))
+pub taken_done : (q whose : ℕ) (h : State) → T (C.sound kinds (state_view h)) × T (a_requester q) × (whose ≡ q) → {before held after : Marks} {d : State} {r : Reply}
+    → before ≡ marks_of h → held ≡ reserved_of h → d ≡ taken_out held whose h → after ≡ marks_of d → r ≡ found_of (shorter_of before after) → C.saying (heard r) (state_view d) ≡ withdraw q (state_view h)
+taken_done q whose h on {before} {held} {after} {d} {r} e₁ e₂ e₃ e₄ e₅ =
+    let g : d ≡ taken_out (reserved_of h) q h = e₃ ∙ (λ i. taken_out (e₂ i) (on.2 i) h) in
+    ap (λ (x : Reply). C.saying (heard x) (state_view d)) e₅ ∙ (λ i. C.saying (heard (found_of (shorter_of (e₁ i) ((e₄ ∙ ap marks_of g) i)))) (state_view (g i))) ∙ done q h on.0 on.1

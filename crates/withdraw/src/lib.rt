@@ -1,72 +1,45 @@
 // A withdrawal on a lent state: everything that was granted to one requester goes from the owner tables, in place.
 #![tactic(auto)]
 
-ghost use Rattle.std.specs.Prelude.{◌≡◌, ◌||◌, ◌≤◌, ltb};
-ghost use Rattle.definition.specs.Tables.{top};
-ghost use Rattle.definition.specs.Withdraw.{a_requester, withdraw};
+ghost use Rattle.std.specs.Prelude.{◌≡◌};
+ghost use Rattle.definition.specs.Calls.{saying};
+ghost use Rattle.definition.specs.Withdraw.{withdraw};
 ghost use Rattle.tables.specs.Views.{state_view};
-ghost use Rattle.withdraw.specs.Answers.{judged_of, shorter_of, found_of};
+ghost use Rattle.insert.specs.Answers.{heard};
+ghost use Rattle.withdraw.specs.Answers.{requester_of, judged_of, shorter_of, found_of};
 
-use inplace::marks::Marks;
-use insert::Reply;
+use inplace::marks::{Marks, peek, reserved, take_out};
+use insert::{Refused, Reply};
 use tables::State;
 
 // ---- what is judged, over plain values
 
-// 0 is nobody, and a requester has 32 bits.
-#[tactic(auto, using(crate::proofs::AnswerLaws::somebody, crate::proofs::AnswerLaws::nobody))]
-pub fn a_requester(requester: u64) -> bool
-    ensures { result ≡ a_requester requester }
+// A requester's number as owner columns hold it: 0 is nobody, and a requester has 32 bits.
+pub fn requester(number: u64) -> Option<u32>
+    ensures { result ≡ requester_of number }
 {
-    requester != 0 && requester <= 4294967295
+    u32::try_from(number).ok().filter(|whose| *whose != 0)
 }
 
-// 1 where the tables are not sound, 2 where nobody has the number, else 0.
-pub fn judged(sound: bool, requester: u64) -> Reply
-    ensures { result ≡ judged_of sound (a_requester requester) }
+// 1 where the tables are not sound, 2 where nobody has the number.
+pub fn judged(sound: bool, number: u64) -> Result<u32, Refused>
+    ensures { result ≡ judged_of sound (requester_of number) }
 {
     if sound {
-        if a_requester(requester) {
-            return adding::plain(0);
-        }
-        return adding::plain(2);
+        requester(number).ok_or(Refused::BadInput)
+    } else {
+        Err(Refused::Malformed)
     }
-    adding::plain(1)
-}
-
-// A requester's number as owner columns hold it.
-pub fn narrow(requester: u64) -> u32
-    requires { requester ≤ top 32 }
-    ensures { result ≡ requester }
-{
-    requester as u32
 }
 
 // ---- what came of it
 
-// Whether a count is below another, or what was found of the others.
-#[tactic(auto, using(crate::proofs::AnswerLaws::less_here, crate::proofs::AnswerLaws::less_else))]
-fn less_or(a: usize, b: usize, others: bool) -> bool
-    ensures { result ≡ ltb a b || others }
-{
-    if a < b {
-        return true;
-    }
-    others
-}
-
 // Whether a table has become shorter.
-#[tactic(auto, unfolding(crate::specs::Answers::shorter_of, definition::specs::Base::any_of))]
 pub fn shorter(before: Marks, after: Marks) -> bool
     ensures { result ≡ shorter_of before after }
 {
-    let lpi = less_or(after.lpi, before.lpi, false);
-    let event = less_or(after.event, before.event, lpi);
-    let device = less_or(after.device, before.device, event);
-    let host = less_or(after.host, before.host, device);
-    let input = less_or(after.input, before.input, host);
-    let pio = less_or(after.pio, before.pio, input);
-    less_or(after.mmio, before.mmio, pio)
+    let (before, after) = (before.counts(), after.counts());
+    before.iter().zip(after.iter()).any(|(was, is)| is < was)
 }
 
 // 13 where none has: nothing was granted to the requester.
@@ -74,28 +47,29 @@ pub fn found(before: Marks, after: Marks) -> Reply
     ensures { result ≡ found_of (shorter_of before after) }
 {
     if shorter(before, after) {
-        return adding::plain(0);
+        Ok(())
+    } else {
+        Err(Refused::NotFound)
     }
-    adding::plain(13)
 }
 
 // ---- the call
 
-// 1, 2, 13. The granted rows are those behind as many as the reservation table has; a reservation stays whoever owns it.
+// The rows are taken out: 1, 2, 13. The granted rows are those behind as many as the reservation table has; a reservation stays whoever owns it.
+fn taken(s: &mut State, number: u64) -> Reply
+    ensures { saying (heard result) (state_view s.new) ≡ withdraw number (state_view s.old) }
+{
+    let whose = judged(sound::lent::sound(s), number)?;
+    let before = peek(s);
+    let held = reserved(s);
+    take_out(s, held, whose);
+    found(before, peek(s))
+}
+
+// .. and what came of it is said.
 pub fn withdraw(s: &mut State, requester: u64)
     ensures { state_view s.new ≡ withdraw requester (state_view s.old) }
 {
-    let sound = sound::lent::sound(s);
-    let r = judged(sound, requester);
-    if door::stands(r) {
-        let before = inplace::marks::peek(s);
-        let held = inplace::marks::reserved(s);
-        let whose = narrow(requester);
-        inplace::marks::take_out(s, held, whose);
-        let after = inplace::marks::peek(s);
-        let answer = found(before, after);
-        door::apply::say(s, answer);
-        return;
-    }
-    door::apply::say(s, r);
+    let reply = taken(s, requester);
+    door::apply::say(s, reply);
 }

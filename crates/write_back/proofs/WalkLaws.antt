@@ -2,17 +2,17 @@
 use mathlib.Core.Path.{◌≡◌, refl, sym, subst, ◌∙◌, ap}
 use mathlib.Core.Bool.{Bool, true, false}
 use mathlib.Core.List.{List, [], ◌∷◌, ◌++◌, append_assoc, append-nil}
-use Prim.Native.Nat.{ℕ, suc, ◌+◌, ◌-◌, ◌*◌, ◌≤◌, ◌<◌}
+use Prim.Native.Nat.{ℕ, suc, ◌+◌, ◌*◌, ◌≤◌, ◌<◌}
 use native.Mathlib.Omega.{arith}
-use lib.ListN.{length, take, drop, set, length-append, length-drop}
-use lib.Seq.{drop-drop, length-take-le}
+use lib.ListN.{length, drop, length-append, length-drop}
+use lib.Dec.{eqb}
 use Rattle.definition.specs.Tables.{record_size}
-use Rattle.lines.specs.Base.{newline, split}
+use Rattle.lines.specs.Base.{newline, pick, grow, split}
 use Rattle.lines.specs.Output.{field}
-use Rattle.lines.specs.Code.{first}
-use Rattle.lines.proofs.PartLaws.{part_next, part_last, split_some}
-use Rattle.writers.specs.Put.{Put}
-use Rattle.writers.proofs.PutLaws.{put_then, put_one}
+use Rattle.lines.proofs.PartLaws.{split_some}
+use Rattle.writers.specs.declared.put.Page.{Page}
+use Rattle.writers.specs.Put.{Room, Puts}
+use Rattle.writers.proofs.PutLaws.{puts_length, puts_then, room_first, room_then}
 use Rattle.write_back.specs.Bytes.{is_want, pinned_bytes, Pinnable, used_by, back_bytes, wants_of, Plain, Tidy}
 use Rattle.write_back.proofs.LineLaws.{pinned_short, used_one}
 
@@ -55,74 +55,79 @@ module _ (p xs : List ℕ) where
 abbrev growth : ℕ
 growth = 3 * field + 2
 
--- the next line starts at `at`, and its record at `from`; what the rest of the text gives, behind what is done, is the whole
-pub record Walked (text rs : List ℕ) (at from : ℕ) (done : List ℕ) : Type 0 where
-  pub inside : at ≤ length text
-  pub left : from + record_size * wants_of (split newline (drop at text)) ≤ length rs
-  pub tidy : Tidy (split newline (drop at text))
-  pub small : length done ≤ growth * at
-  pub comes : done ++ back_bytes (split newline (drop at text)) (drop from rs) ≡ back_bytes (split newline text) rs
+-- rest is still to be gone over, with the records rs'; what it gives, behind what is done, is the whole
+pub record Walked (text rs rest rs' done : List ℕ) : Type 0 where
+  pub left : record_size * wants_of (split newline rest) ≤ length rs'
+  pub tidy : Tidy (split newline rest)
+  pub small : length done + growth * length rest ≤ growth * length text
+  pub comes : done ++ back_bytes (split newline rest) rs' ≡ back_bytes (split newline text) rs
 
 -- one line more: it can be written, there is room for it, and what is then done
-pub record Turn (text rs : List ℕ) (from : ℕ) (done line : List ℕ) (next : ℕ) : Type 0 where
-  pub pinnable : Pinnable line (drop from rs)
-  pub room : length done + length (pinned_bytes line (drop from rs)) + 1 ≤ length (back_bytes (split newline text) rs)
+pub record Turn (text rs rest rs' done line behind : List ℕ) : Type 0 where
+  pub shorter : length behind < length rest
+  pub pinnable : Pinnable line rs'
+  pub used : used_by line ≤ length rs'
   pub then : List ℕ
-  pub long : length then ≡ length done + length (pinned_bytes line (drop from rs)) + 1
-  pub goes : Walked text rs next (from + used_by line) then
-  pub puts : (out : List ℕ) (p q : ℕ) (o₁ o₂ : List ℕ) → Put out 0 done p o₁ → Put o₁ p (pinned_bytes line (drop from rs)) q o₂ → Put out 0 then (q + 1) (set o₂ q newline)
+  pub long : length then ≡ length done + length (pinned_bytes line rs') + 1
+  pub goes : Walked text rs behind (drop (used_by line) rs') then
+  pub line_room : (page q : Page) → Room page (back_bytes (split newline text) rs) → Puts page done q → Room q (pinned_bytes line rs')
+  pub close_room : (page q r : Page) → Room page (back_bytes (split newline text) rs) → Puts page done q → Puts q (pinned_bytes line rs') r → Room r (newline ∷ [])
+  pub puts : (page q r s : Page) → Puts page done q → Puts q (pinned_bytes line rs') r → Puts r (newline ∷ []) s → Puts page then s
 
-pub walk_starts : (text rs : List ℕ) → record_size * wants_of (split newline text) ≤ length rs → Tidy (split newline text) → Walked text rs 0 0 []
-walk_starts text rs few tidy = record { inside = omega arith; left = omega arith; tidy = tidy; small = omega arith; comes = refl }
+pub walk_starts : (text rs : List ℕ) → record_size * wants_of (split newline text) ≤ length rs → Tidy (split newline text) → Walked text rs text rs []
+walk_starts text rs few tidy = record { left = few; tidy = tidy; small = omega arith; comes = refl }
 
-module _ (text rs : List ℕ) (at from : ℕ) (done : List ℕ) (w : Walked text rs at from done) (e : ℕ) (end : e ≡ at + first newline (drop at text)) where
+-- ---- parts are as long as the whole
+
+total : List (List ℕ) → ℕ
+total [] = 0
+total (p ∷ ps) = suc (length p) + total ps
+
+total_split : (c : ℕ) (s : List ℕ) → total (split c s) ≡ suc (length s)
+unfolding split total grow
+total_split c [] = refl
+total_split c (x ∷ xs) =
+    let (p, ps, e) = split_some c xs in
+    let below : total (p ∷ ps) ≡ suc (length xs) = ap total (sym e) ∙ total_split c xs in
+    rw e (go (eqb x c) p ps below)
+  where
+    go : (t : Bool) (p : List ℕ) (ps : List (List ℕ)) → total (p ∷ ps) ≡ suc (length xs) → total (pick t ([] ∷ p ∷ ps) (grow x (p ∷ ps))) ≡ suc (suc (length xs))
+    go true p ps h = omega (arith, h)
+    go false p ps h = omega (arith, h)
+
+cut_lengths : (c : ℕ) (s p q : List ℕ) → split c s ≡ p ∷ split c q → length s ≡ length p + 1 + length q
+unfolding total
+cut_lengths c s p q e = omega (arith, total_split c s, ap total e, total_split c q)
+
+module _ (text rs rest rs' done : List ℕ) (w : Walked text rs rest rs' done) where
   -- no newline comes: all is done
-  pub walk_ends : length text ≤ e → done ≡ back_bytes (split newline text) rs
+  pub walk_ends : split newline rest ≡ rest ∷ [] → done ≡ back_bytes (split newline text) rs
   unfolding back_bytes
-  walk_ends l =
-      let none_left : back_bytes (split newline (drop at text)) (drop from rs) ≡ [] = rw (part_last newline text at e w.inside end l) in
+  walk_ends e =
+      let none_left : back_bytes (split newline rest) rs' ≡ [] = rw e in
       sym (append-nil done) ∙ ap (λ (b : List ℕ). done ++ b) (sym none_left) ∙ w.comes
 
-  module _ (closed : e < length text) where
-    abbrev line : List ℕ
-    line = take (e - at) (drop at text)
-
+  module _ (line behind : List ℕ) (parts : split newline rest ≡ line ∷ split newline behind) where
     abbrev pinned : List ℕ
-    pinned = pinned_bytes line (drop from rs)
-
-    abbrev behind_it : List (List ℕ)
-    behind_it = split newline (drop (e + 1) text)
+    pinned = pinned_bytes line rs'
 
     abbrev more : List ℕ
-    more = back_bytes behind_it (drop (from + used_by line) rs)
+    more = back_bytes (split newline behind) (drop (used_by line) rs')
 
-    parts : split newline (drop at text) ≡ line ∷ behind_it
-    parts = part_next newline text at e w.inside end closed
+    plain : Plain line × Tidy (split newline behind)
+    plain = tidy_more line behind (subst Tidy parts w.tidy)
 
-    plain : Plain line × Tidy behind_it
-    plain = tidy_more line (drop (e + 1) text) (subst Tidy parts w.tidy)
+    wants_left : used_by line + record_size * wants_of (split newline behind) ≤ length rs'
+    wants_left = omega (arith, w.left, ap wants_of parts, wants_more line behind)
 
-    used : from + (used_by line + record_size * wants_of behind_it) ≤ length rs
-    used = omega (arith, w.left, ap wants_of parts, wants_more line (drop (e + 1) text))
-
-    here : back_bytes (split newline (drop at text)) (drop from rs) ≡ pinned ++ (newline ∷ more)
-    here =
-        ap (λ (ps : List (List ℕ)). back_bytes ps (drop from rs)) parts
-        ∙ back_more line (drop (e + 1) text) (drop from rs)
-        ∙ ap (λ (l : List ℕ). pinned ++ (newline ∷ back_bytes behind_it l)) (drop-drop (used_by line) from rs)
+    here : back_bytes (split newline rest) rs' ≡ pinned ++ (newline ∷ more)
+    here = ap (λ (ps : List (List ℕ)). back_bytes ps rs') parts ∙ back_more line behind rs'
 
     fits : length done + length pinned + 1 ≤ length (back_bytes (split newline text) rs)
-    fits =
-        omega (
-          arith,
-          ap length w.comes,
-          length-append done (back_bytes (split newline (drop at text)) (drop from rs)),
-          ap length here,
-          length-append pinned (newline ∷ more),
-        )
+    fits = omega (arith, ap length w.comes, length-append done (back_bytes (split newline rest) rs'), ap length here, length-append pinned (newline ∷ more))
 
-    can : Pinnable line (drop from rs)
-    can auto = let (wanted, long) = plain.0 auto in (long, omega (arith, used, used_one line wanted, length-drop from rs))
+    can : Pinnable line rs'
+    can auto = let (wanted, long) = plain.0 auto in (long, omega (arith, wants_left, used_one line wanted))
 
     abbrev written : List ℕ
     written = pinned ++ (newline ∷ [])
@@ -130,19 +135,35 @@ module _ (text rs : List ℕ) (at from : ℕ) (done : List ℕ) (w : Walked text
     grown : length (done ++ written) ≡ length done + length pinned + 1
     grown = omega (arith, length-append done written, length-append pinned (newline ∷ []))
 
-    walked : Walked text rs (e + 1) (from + used_by line) (done ++ written)
+    walked : Walked text rs behind (drop (used_by line) rs') (done ++ written)
     walked = record {
-      inside = omega arith;
-      left = omega (arith, used);
+      left = omega (arith, wants_left, length-drop (used_by line) rs');
       tidy = plain.1;
-      small = omega (arith, w.small, grown, pinned_short line (drop from rs), length-take-le (e - at) (drop at text) (omega (arith, length-drop at text)));
+      small = omega (arith, w.small, grown, pinned_short line rs', cut_lengths newline rest line behind parts);
       comes = simp append_assoc (ap (λ (b : List ℕ). done ++ b) (sym here) ∙ w.comes);
     }
 
-    put : (out : List ℕ) (p q : ℕ) (o₁ o₂ : List ℕ) → Put out 0 done p o₁ → Put o₁ p pinned q o₂ → Put out 0 (done ++ written) (q + 1) (set o₂ q newline)
-    put out p q o₁ o₂ a b =
-        let b' : Put o₁ p written (q + 1) (set o₂ q newline) = put_then o₁ p pinned q o₂ b (newline ∷ []) (q + 1) (set o₂ q newline) (put_one o₂ q newline) in
-        put_then out 0 done p o₁ a written (q + 1) (set o₂ q newline) b'
+    pinned_room : (page q : Page) → Room page (back_bytes (split newline text) rs) → Puts page done q → Room q (pinned ++ (newline ∷ []))
+    pinned_room page q room a = omega (arith, room, a.put.0, puts_length page done q a, fits, length-append pinned (newline ∷ []))
 
-    pub walk_turn : Turn text rs from done line (e + 1)
-    walk_turn = record { pinnable = can; room = fits; then = done ++ written; long = grown; goes = walked; puts = put }
+    line_fits : (page q : Page) → Room page (back_bytes (split newline text) rs) → Puts page done q → Room q pinned
+    line_fits page q room a = room_first q pinned (newline ∷ []) (pinned_room page q room a)
+
+    close_fits : (page q r : Page) → Room page (back_bytes (split newline text) rs) → Puts page done q → Puts q pinned r → Room r (newline ∷ [])
+    close_fits page q r room a b = room_then q pinned r b (newline ∷ []) (pinned_room page q room a)
+
+    put : (page q r s : Page) → Puts page done q → Puts q pinned r → Puts r (newline ∷ []) s → Puts page (done ++ written) s
+    put page q r s a b c = puts_then page done q a written s (puts_then q pinned r b (newline ∷ []) s c)
+
+    pub walk_turn : Turn text rs rest rs' done line behind
+    walk_turn = record {
+      shorter = omega (arith, cut_lengths newline rest line behind parts);
+      pinnable = can;
+      used = omega (arith, wants_left);
+      then = done ++ written;
+      long = grown;
+      goes = walked;
+      line_room = line_fits;
+      close_room = close_fits;
+      puts = put;
+    }

@@ -8,7 +8,7 @@ use native.Mathlib.Omega.{arith}
 use lib.Dec.{leb}
 use lib.ListN.{length, drop, take-append-drop}
 use lib.Seq.{sets, sets-eq}
-use borrow.Author.Tests.{le-leb, lt-leb, eq-eqb, ne_eqb}
+use borrow.Author.Tests.{le-leb, lt-leb, eqb-false}
 use Rattle.definition.proofs.BaseLaws.{and_false}
 use Rattle.definition.specs.Tables.{record_size}
 use Rattle.definition.specs.Base.{silence, short, tell}
@@ -25,11 +25,18 @@ use Rattle.lines.proofs.FeedLaws.{ended_long, ended_within}
 use Rattle.lines.proofs.TakesLaws.{closed_of}
 use Rattle.lines.proofs.RunTextLaws.{standing}
 use Rattle.lines.proofs.BackLaws.{took, requests_are, ends}
-use Rattle.writers.specs.Put.{Put}
-use Rattle.text.specs.Sofar.{sofar_of}
+use Rattle.std.proofs.lemmas.Option.{none-some, same_Some}
+use Rattle.std.specs.Prelude as P
+use Rattle.std.specs.Prelude.{None, Some}
+use Rattle.writers.specs.declared.put.Page.{Page}
+use Rattle.writers.specs.declared.output.Refused.{Refused}
+use Rattle.writers.specs.Put.{Puts}
+use Rattle.text.specs.Sofar.{said_of, said_in, is_none, Named, no_of, refused_of, sofar_of}
+use Rattle.text.specs.declared.feed.sofar.Reason.{Reason}
 use Rattle.text.specs.Step.{results_size, Fed}
 use Rattle.text.specs.declared.feed.sofar.Sofar.{Sofar}
 use Rattle.write_back.specs.Bytes.{back_bytes, Writable}
+use Rattle.write_back.specs.Answer.{numbers_of}
 use Rattle.write_back.proofs.PinnedLaws.{Known, known}
 
 -- ---- the definition's answer, case by case
@@ -38,18 +45,42 @@ pub pins_long : (text out : List ℕ) → text_limit < length text → pinning (
 unfolding pins_to
 pins_long text out l = sym (ap (λ (u : Text.Sofar). pinned_by u (back text) out) (ended_long text l))
 
+-- what a text was refused with, and that it was not
+refused_said : (t : Sofar) (x : Refused) → refused_of t ≡ Some x → Named t → (accepts (said_in t) ≡ false) × (no_numbers t.lines (said_in t) ≡ numbers_of x)
+refused_said t x = go t.refusal
+  where
+    go : (o : P.Option Reason) → no_of o t.lines ≡ Some x → accepts (said_of o) ≡ is_none o → (accepts (said_of o) ≡ false) × (no_numbers t.lines (said_of o) ≡ numbers_of x)
+    go None e n = absurd (none-some x e)
+    go (Some r) e n = (n, ap numbers_of (same_Some _ _ e))
+
+pub refused_numbered : (t : Sofar) (x : Refused) → refused_of t ≡ Some x → Named t → x.number ≡ 0 → ⊥
+refused_numbered t x = go t.refusal
+  where
+    go : (o : P.Option Reason) → no_of o t.lines ≡ Some x → accepts (said_of o) ≡ is_none o → x.number ≡ 0 → ⊥
+    go None e n z = none-some x e
+    go (Some r) e n z = eqb-false r.number 0 n (ap (λ (y : Refused). y.number) (same_Some _ _ e) ∙ z)
+
+accepted_said : (t : Sofar) → refused_of t ≡ None → accepts (said_in t) ≡ true
+accepted_said t = go t.refusal
+  where
+    go : (o : P.Option Reason) → no_of o t.lines ≡ None → accepts (said_of o) ≡ true
+    go None e = refl
+    go (Some r) e = absurd (none-some _ (sym e))
+
 module _ (text zs₀ : List ℕ) (t : Sofar) (s : State) (zs : List ℕ) (fed : Fed text fresh zs₀ t s zs) (long : length zs ≡ results_size) (fits : length text ≤ text_limit) where
   came : ended text ≡ sofar_of t s zs
   came = ended_within text fits ∙ sym fed.comes
 
-  pub pins_refused : (out : List ℕ) → (t.number ≡ 0 → ⊥) → pinning (t.lines ∷ t.number ∷ t.namespace ∷ t.owner ∷ t.detail ∷ []) 0 out ≡ pins_to text out
+  pub pins_refused : (out : List ℕ) (x : Refused) → refused_of t ≡ Some x → pinning (numbers_of x) 0 out ≡ pins_to text out
   unfolding pins_to
-  pins_refused out f = sym (ap (λ (u : Text.Sofar). pinned_by u (back text) out) came ∙ rw (pinned_by, ne_eqb t.number 0 f) refl)
+  pins_refused out x f =
+      let (a, b) = refused_said t x f fed.named in
+      sym (ap (λ (u : Text.Sofar). pinned_by u (back text) out) came ∙ rw (pinned_by, a) (ap (λ l. pinning l 0 out) b))
 
   -- accepted
-  module _ (e : t.number ≡ 0) where
+  module _ (e : refused_of t ≡ None) where
     accepted_text : accepts (ended text).said ≡ true
-    accepted_text = rw (came, eq-eqb t.number 0 e) refl
+    accepted_text = rw came (accepted_said t e)
 
     abbrev gs : List Grant
     gs = grants text
@@ -96,14 +127,15 @@ module _ (text zs₀ : List ℕ) (t : Sofar) (s : State) (zs : List ℕ) (fed : 
       pub pins_over : text_limit < n → pinning (0 ∷ 11 ∷ 0 ∷ 0 ∷ 0 ∷ []) 0 out ≡ pins_to text out
       pins_over l = sym (accepted_pins out ∙ rw (length_is, lt-leb n text_limit l, and_false (leb n (length out))) refl)
 
-      pub pins_written : (r : ℕ) (out' : List ℕ) → n ≤ length out → n ≤ text_limit → Put out 0 (back_bytes (split newline text) zs) r out'
-          → pinning (0 ∷ 0 ∷ 0 ∷ 0 ∷ 0 ∷ []) r out' ≡ pins_to text out
-      pins_written r out' l m p =
-          let k : r ≡ length (back text) = omega (arith, p.0, is, length_is) in
+      pub pins_written : (p q : Page) → p.out.now ≡ out → p.at ≡ 0 → n ≤ length out → n ≤ text_limit → Puts p (back_bytes (split newline text) zs) q → (out' : List ℕ) → out' ≡ q.out.now
+          → pinning (0 ∷ 0 ∷ 0 ∷ 0 ∷ 0 ∷ []) q.at out' ≡ pins_to text out
+      pins_written p q e₁ e₂ l m w out' same =
+          let k : q.at ≡ length (back text) = omega (arith, w.put.0, e₂, is, length_is) in
           let z : 0 + length (back text) ≡ length (back text) = omega arith in
           let b : out' ≡ written (back text) out =
-          p.1
-          ∙ ap (λ bs. sets out 0 bs) bytes_are
+          same
+          ∙ w.put.1
+          ∙ (λ i. sets (e₁ i) (e₂ i) (bytes_are i))
           ∙ sets-eq (back text) out 0 (omega (arith, length_is))
           ∙ ap (λ (j : ℕ). back text ++ drop j out) z in
           sym (accepted_pins out ∙ rw (le-leb (length (back text)) (length out) (omega (arith, length_is)), le-leb (length (back text)) text_limit (omega (arith, length_is))) (λ i. pinning (0 ∷ 0 ∷ 0 ∷ 0 ∷ 0 ∷ []) (sym k i) (sym b i)))

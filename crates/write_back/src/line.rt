@@ -1,14 +1,13 @@
 // One line of a text, written back: as it stands, or with the numbers granted in place of its last field `auto`.
-ghost use Rattle.std.specs.Prelude.{◌≡◌, map, ◌+◌, ◌≤◌, length};
+ghost use Rattle.std.specs.Prelude.{◌≡◌, map, ◌≤◌, length, drop};
 ghost use Rattle.definition.specs.Tables.{record_size};
 ghost use Rattle.lines.specs.Numbers.{digits};
 ghost use Rattle.lines.specs.Line.{behind};
-ghost use Rattle.writers.specs.Put.{Put};
-ghost use Rattle.text.specs.Step.{results_size};
+ghost use Rattle.writers.specs.Put.{Room, Puts};
 ghost use Rattle.write_back.specs.Bytes.{is_want, ends_in_auto, granted_in, pinned_bytes, Pinnable, used_by};
 
 use tables::RECORD;
-use writers::put::{put_bytes, put_numbers};
+use writers::put::Page;
 
 // The bytes of the last field `auto` and of the tab before it.
 const AUTO: usize = 5;
@@ -20,8 +19,9 @@ pub fn digit_count(n: u64) -> usize
 {
     let mut rest = n;
     let mut count: usize = 1;
+    // not a `for`: the digits are counted off the number
     while 10 <= rest {
-        rest = rest / 10;
+        rest /= 10;
         count += 1;
     }
     count
@@ -34,37 +34,26 @@ pub fn numbers_length(xs: &[u64]) -> usize
     ensures { result ≡ length (behind (map digits xs.now)) }
 {
     let mut count: usize = 0;
-    let mut i: usize = 0;
-    while i < xs.len() {
-        let x = xs[i];
-        let more = digit_count(x);
-        count += 1 + more;
-        i += 1;
+    for x in xs {
+        count += 1 + digit_count(*x);
     }
     count
 }
 
 // Whether the line is a `want`: a `pool` and a `hold` begin otherwise.
-#[tactic(auto, using(crate::proofs::LineLaws::empty_no_want), unfolding(crate::specs::Bytes::is_want))]
+#[tactic(auto, unfolding(crate::specs::Bytes::is_want))]
 pub fn is_want(line: &[u8]) -> bool
     ensures { result ≡ is_want line.now }
 {
-    if line.len() == 0 {
-        return false;
-    }
-    line[0] == 119
+    matches!(line, [b'w', ..])
 }
 
 // Whether the line's last field is `auto`: every other line ends in a digit.
-#[tactic(auto, using(crate::proofs::LineLaws::empty_no_auto), unfolding(crate::specs::Bytes::ends_in_auto))]
+#[tactic(auto, unfolding(crate::specs::Bytes::ends_in_auto))]
 pub fn ends_in_auto(line: &[u8]) -> bool
     ensures { result ≡ ends_in_auto line.now }
 {
-    let n = line.len();
-    if n == 0 {
-        return false;
-    }
-    line[n - 1] == 111
+    matches!(line, [.., b'o'])
 }
 
 // The numbers that a record grants, by its kind.
@@ -73,14 +62,11 @@ pub fn granted(r: &[u64]) -> &[u64]
     requires { record_size ≤ length r.now }
     ensures { result.now ≡ granted_in r.now }
 {
-    let k = r[0];
-    if k == 3 {
-        return &r[4..5];
+    match r[0] {
+        3 => &r[4..5],
+        5 => &r[5..8],
+        _ => &r[3..4],
     }
-    if k == 5 {
-        return &r[5..8];
-    }
-    &r[3..4]
 }
 
 // How many bytes the line has when it is pinned by the record r.
@@ -90,33 +76,34 @@ pub fn pinned_length(line: &[u8], r: &[u64]) -> usize
     ensures { result ≡ length (pinned_bytes line.now r.now) }
 {
     if ends_in_auto(line) {
-        let added = numbers_length(granted(r));
-        return line.len() - AUTO + added;
+        return line.len() - AUTO + numbers_length(granted(r));
     }
     line.len()
 }
 
-// Those bytes, put from `at` on.
-pub fn put_pinned(out: &mut [u8], at: usize, line: &[u8], r: &[u64]) -> usize
-    requires { Pinnable line.now r.now × (at + length (pinned_bytes line.now r.now) ≤ length out.old) }
-    ensures { Put out.old at (pinned_bytes line.now r.now) result out.new }
+// Those bytes, put on a page.
+pub fn put_pinned(page: &mut Page, line: &[u8], r: &[u64])
+    requires pinnable { Pinnable line.now r.now }
+    requires room { Room page.old (pinned_bytes line.now r.now) }
+    ensures { Puts page.old (pinned_bytes line.now r.now) page.new }
 {
     if ends_in_auto(line) {
-        let kept = line.len() - AUTO;
-        let e = put_bytes(out, at, &line[..kept]);
-        return put_numbers(out, e, granted(r));
+        page.put_bytes(&line[..line.len() - AUTO]);
+        page.put_numbers(granted(r));
+        return;
     }
-    put_bytes(out, at, line)
+    page.put_bytes(line);
 }
 
-// Where the records stand that the lines behind this one are granted: a want takes one.
+// The records of the lines behind this one: a want takes one.
 #[tactic(auto, using(crate::proofs::LineLaws::used_one, crate::proofs::LineLaws::used_none))]
-pub fn past_record(line: &[u8], from: usize) -> usize
-    requires { from ≤ results_size }
-    ensures { result ≡ from + used_by line.now }
+pub fn records_behind<'a>(line: &[u8], records: &'a [u64]) -> &'a [u64]
+    requires { used_by line.now ≤ length records.now }
+    ensures { result.now ≡ drop (used_by line.now) records.now }
 {
     if is_want(line) {
-        return from + RECORD;
+        &records[RECORD..]
+    } else {
+        records
     }
-    from
 }

@@ -1,13 +1,14 @@
 -- Lines put one after the other, each from its own numbers of a list: once over the line and over how many numbers it has. Assumes nothing.
-use mathlib.Core.Path.{◌≡◌, refl, sym, ap, ◌∙◌}
+use mathlib.Core.Path.{◌≡◌, sym, ap, ◌∙◌}
 use mathlib.Core.List.{List, [], ◌++◌, append_assoc, append-nil}
-use Prim.Native.Nat.{ℕ, zero, suc, ◌+◌, ◌-◌, ◌*◌, ◌≤◌, ◌<◌}
+use Prim.Native.Nat.{ℕ, zero, suc, ◌+◌, ◌-◌, ◌*◌, ◌<◌}
 use native.Mathlib.Nat.{mul-zero, mul-suc, add_comm}
 use native.Mathlib.Omega.{arith}
 use lib.ListN.{length, take, drop, length-append, length-drop}
 use lib.Seq.{drop-drop, take_all}
-use Rattle.writers.specs.Put.{Put}
-use Rattle.writers.proofs.PutLaws.{put_then}
+use Rattle.writers.specs.declared.put.Page.{Page}
+use Rattle.writers.specs.Put.{Room, Puts}
+use Rattle.writers.proofs.PutLaws.{puts_none, puts_length, puts_then}
 
 -- a list from k on, as the code lends it
 pub rest_is : (rs : List ℕ) (k : ℕ) → take (length rs - k) (drop k rs) ≡ drop k rs
@@ -32,21 +33,25 @@ module _ (line : List ℕ → List ℕ) (size : ℕ) (lines : ℕ → List ℕ �
       let r : List ℕ = drop (size * i) rs in
       lines_part i 1 rs ∙ ap (λ (b : List ℕ). lines i rs ++ b) (next 0 r ∙ ap (λ (b : List ℕ). line r ++ b) (none (drop size r)) ∙ append-nil (line r))
 
-  pub lines_none : (out rs : List ℕ) → Put out 0 (lines 0 rs) 0 out
-  lines_none out rs = rw (none rs) (refl, refl)
+  pub lines_none : (p : Page) (rs : List ℕ) → Puts p (lines 0 rs) p
+  lines_none p rs = rw (none rs) (puts_none p)
 
-  -- the room of one more of n
-  pub lines_room : (n i : ℕ) (rs : List ℕ) → i < n → length (lines i rs) + length (line (drop (size * i) rs)) ≤ length (lines n rs)
-  lines_room n i rs l =
-      let e : i + 1 + (n - (i + 1)) ≡ n = omega arith in
-      omega (
-        arith,
-        ap (λ (j : ℕ). length (lines j rs)) (sym e),
-        ap length (lines_part (i + 1) (n - (i + 1)) rs),
-        length-append (lines (i + 1) rs) (lines (n - (i + 1)) (drop (size * (i + 1)) rs)),
-        ap length (lines_more i rs),
-        length-append (lines i rs) (line (drop (size * i) rs)),
-      )
+  -- one more of n
+  module _ (p : Page) (rs : List ℕ) (i : ℕ) (q : Page) (a : Puts p (lines i rs) q) where
+    pub lines_room : (n : ℕ) → i < n → Room p (lines n rs) → Room q (line (drop (size * i) rs))
+    lines_room n l room =
+        let e : i + 1 + (n - (i + 1)) ≡ n = omega arith in
+        omega (
+          arith,
+          room,
+          a.put.0,
+          puts_length p (lines i rs) q a,
+          ap (λ (j : ℕ). length (lines j rs)) (sym e),
+          ap length (lines_part (i + 1) (n - (i + 1)) rs),
+          length-append (lines (i + 1) rs) (lines (n - (i + 1)) (drop (size * (i + 1)) rs)),
+          ap length (lines_more i rs),
+          length-append (lines i rs) (line (drop (size * i) rs)),
+        )
 
-  pub lines_turn : (out rs : List ℕ) (i e f : ℕ) (o₁ o₂ : List ℕ) → Put out 0 (lines i rs) e o₁ → Put o₁ e (line (drop (size * i) rs)) f o₂ → Put out 0 (lines (i + 1) rs) f o₂
-  lines_turn out rs i e f o₁ o₂ a b = rw (lines_more i rs) (put_then out 0 (lines i rs) e o₁ a (line (drop (size * i) rs)) f o₂ b)
+    pub lines_turn : (r : Page) → Puts q (line (drop (size * i) rs)) r → Puts p (lines (i + 1) rs) r
+    lines_turn r b = rw (lines_more i rs) (puts_then p (lines i rs) q a (line (drop (size * i) rs)) r b)

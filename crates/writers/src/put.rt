@@ -1,60 +1,75 @@
-// Numbers and bytes, put into a buffer from a place on. Each hands back the place behind them.
-ghost use Rattle.std.specs.Prelude.{map, ◌+◌, ◌≤◌, length};
+// Numbers and bytes, put one behind the other into a buffer that the caller lends.
+ghost use Rattle.std.specs.Prelude.{◌≡◌, [], ◌∷◌, map};
 ghost use Rattle.lines.specs.Numbers.{digits};
 ghost use Rattle.lines.specs.Line.{behind, line_with};
-ghost use Rattle.writers.specs.Put.{Put};
+ghost use Rattle.writers.specs.Put.{Room, Puts};
 
-// The digits of n.
-pub fn put_number(out: &mut [u8], at: usize, n: u64) -> usize
-    requires { at + length (digits n) ≤ length out.old }
-    ensures { Put out.old at (digits n) result out.new }
-{
-    if n < 10 {
-        out[at] = 48 + n as u8;
-        return at + 1;
-    }
-    let p = put_number(out, at, n / 10);
-    out[p] = 48 + (n % 10) as u8;
-    p + 1
+// A lent buffer, and the place in it where the next byte is put.
+#[derive(Drop)]
+pub struct Page<'a> {
+    pub out: &'a mut [u8],
+    pub at: usize,
 }
 
-// The bytes w.
-pub fn put_bytes(out: &mut [u8], at: usize, w: &[u8]) -> usize
-    requires { at + length w.now ≤ length out.old }
-    ensures { Put out.old at w.now result out.new }
-{
-    let mut i: usize = 0;
-    while i < w.len() {
-        let j = at + i;
-        out[j] = w[i];
-        i += 1;
+impl<'a> Page<'a> {
+    // Nothing is put yet.
+    pub fn new(out: &'a mut [u8]) -> Page<'a>
+        ensures same_reference { result.out.ghost_name ≡ out.entry.ghost_name }
+        ensures untouched { result.out.now ≡ out.old }
+        ensures front { result.at ≡ 0 }
+    {
+        Page { out, at: 0 }
     }
-    at + i
-}
 
-// Each number after a tab.
-pub fn put_numbers(out: &mut [u8], at: usize, xs: &[u64]) -> usize
-    requires { at + length (behind (map digits xs.now)) ≤ length out.old }
-    ensures { Put out.old at (behind (map digits xs.now)) result out.new }
-{
-    let mut p = at;
-    let mut i: usize = 0;
-    while i < xs.len() {
-        out[p] = 9;
-        let x = xs[i];
-        p = put_number(out, p + 1, x);
-        i += 1;
+    // The byte b.
+    pub fn put_byte(&mut self, b: u8)
+        requires { Room self.old (b ∷ []) }
+        ensures { Puts self.old (b ∷ []) self.new }
+    {
+        self.out[self.at] = b;
+        self.at += 1;
     }
-    p
-}
 
-// A word, numbers behind it, and the newline.
-pub fn put_line(out: &mut [u8], at: usize, w: &[u8], xs: &[u64]) -> usize
-    requires { at + length (line_with w.now (map digits xs.now)) ≤ length out.old }
-    ensures { Put out.old at (line_with w.now (map digits xs.now)) result out.new }
-{
-    let p = put_bytes(out, at, w);
-    let q = put_numbers(out, p, xs);
-    out[q] = 10;
-    q + 1
+    // The bytes w.
+    pub fn put_bytes(&mut self, w: &[u8])
+        requires { Room self.old w.now }
+        ensures { Puts self.old w.now self.new }
+    {
+        let past = self.at + w.len();
+        self.out[self.at..past].copy_from_slice(w);
+        self.at = past;
+    }
+
+    // The digits of n.
+    pub fn put_number(&mut self, n: u64)
+        requires { Room self.old (digits n) }
+        ensures { Puts self.old (digits n) self.new }
+    {
+        if 10 <= n {
+            self.put_number(n / 10);
+        }
+        self.put_byte(b'0' + (n % 10) as u8);
+    }
+
+    // Each number after a tab.
+    pub fn put_numbers(&mut self, xs: &[u64])
+        requires { Room self.old (behind (map digits xs.now)) }
+        ensures { Puts self.old (behind (map digits xs.now)) self.new }
+    {
+        for x in xs {
+            self.put_byte(b'\t');
+            self.put_number(*x);
+        }
+    }
+
+    // A word, numbers behind it, and the newline.
+    #[tactic(auto, using(crate::proofs::PutLaws::word_room, crate::proofs::PutLaws::numbers_room, crate::proofs::PutLaws::close_room, crate::proofs::PutLaws::puts_line))]
+    pub fn put_line(&mut self, w: &[u8], xs: &[u64])
+        requires { Room self.old (line_with w.now (map digits xs.now)) }
+        ensures { Puts self.old (line_with w.now (map digits xs.now)) self.new }
+    {
+        self.put_bytes(w);
+        self.put_numbers(xs);
+        self.put_byte(b'\n');
+    }
 }

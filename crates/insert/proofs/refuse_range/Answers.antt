@@ -1,19 +1,23 @@
 -- A law for each way out. Assumes nothing.
-use Rattle.std.proofs.Common.{◌∙◌, sym}
+use Rattle.std.proofs.Common.{rules, ◌≡◌, ◌∙◌, sym, ap}
+use Rattle.std.specs.Prelude.{Err}
+use Rattle.insert.specs.Answers.{heard}
 use Rattle.insert.proofs.HoldLaws.{tell_owner, tell_fault, tell_met, tell_full, tell_taken}
 use Rattle.insert.proofs.refuse_range.Goals as goal
 
 pub returns-then-r-eq0-clause-told : goal.returns-then-r-eq0-clause-told
 returns-then-r-eq0-clause-told c = tell_owner _ _ _ _ c.requires c.if-r-eq0.true
 
-pub returns-then-fault-ne0-clause-told : goal.returns-then-fault-ne0-clause-told
-returns-then-fault-ne0-clause-told c = rw c.range_fault-fault.ensures (tell_fault _ _ _ _ c.requires c.if-r-eq0.false (rw c.range_fault-fault.ensures at c.if-fault-ne0.true))
+pub returns-in_err-range_fault-clause-told : goal.returns-in_err-range_fault-clause-told
+returns-in_err-range_fault-clause-told c =
+    let e : c.from_residual.result ≡ Err c.in_err-range_fault.field-0.0 = search rules in
+    ap heard e ∙ tell_fault _ _ _ _ c.requires c.if-r-eq0.false _ (sym c.range_fault.ensures ∙ c.in_err-range_fault.was)
 
-pub returns-in-At-clause-told : goal.returns-in-At-clause-told
-returns-in-At-clause-told c = rw c.wide.ensures.0 (tell_met _ _ _ _ c.requires c.if-r-eq0.false (sym c.range_fault-fault.ensures ∙ c.if-fault-ne0.false) _ (sym c.in-At.is ∙ c.first_overlap-hit.ensures))
+pub returns-in-Some-clause-told : goal.returns-in-Some-clause-told
+returns-in-Some-clause-told c = tell_met _ _ _ _ c.requires c.if-r-eq0.false (sym c.range_fault.ensures ∙ c.in_ok-range_fault.was) _ (sym c.in-Some.is ∙ c.first_overlap.ensures)
 
-pub returns-then-n-ge-ROWS-clause-told : goal.returns-then-n-ge-ROWS-clause-told
-returns-then-n-ge-ROWS-clause-told c = tell_full _ _ _ _ c.requires c.if-r-eq0.false (sym c.range_fault-fault.ensures ∙ c.if-fault-ne0.false) (sym c.in_default.is ∙ c.first_overlap-hit.ensures) c.if-n-ge-ROWS.true
+pub returns-then-t-ge-ROWS-clause-told : goal.returns-then-t-ge-ROWS-clause-told
+returns-then-t-ge-ROWS-clause-told c = tell_full _ _ _ _ c.requires c.if-r-eq0.false (sym c.range_fault.ensures ∙ c.in_ok-range_fault.was) (sym c.in_default.is ∙ c.first_overlap.ensures) c.if-t-ge-ROWS.true
 
 pub returns-clause-told : goal.returns-clause-told
-returns-clause-told c = tell_taken _ _ _ _ c.requires c.if-r-eq0.false (sym c.range_fault-fault.ensures ∙ c.if-fault-ne0.false) (sym c.in_default.is ∙ c.first_overlap-hit.ensures) c.if-n-ge-ROWS.false
+returns-clause-told c = tell_taken _ _ _ _ c.requires c.if-r-eq0.false (sym c.range_fault.ensures ∙ c.in_ok-range_fault.was) (sym c.in_default.is ∙ c.first_overlap.ensures) c.if-t-ge-ROWS.false

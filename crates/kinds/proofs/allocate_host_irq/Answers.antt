@@ -6,4 +6,4 @@ use Rattle.kinds.proofs.allocate_host_irq.Goals as goal
 
 pub returns : goal.returns
 unfolding claims
-returns c = range_serves _ _ _ _ _ _ _ refl (λ i. refl) (rw c.good_request-good.ensures at c.range_answer.ensures)
+returns c = range_serves _ _ _ _ _ _ _ refl (λ i. refl) (rw (c.makes_sense-good.ensures, c.needing-need.ensures) at c.range_answer.ensures)

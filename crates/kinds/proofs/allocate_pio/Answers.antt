@@ -6,8 +6,8 @@ use Rattle.request.proofs.GoodLaws.{request_says, pio_says}
 use Rattle.kinds.proofs.allocate_pio.Goals as goal
 
 pub range_answer-requires : goal.range_answer-requires
-range_answer-requires c = (refl, λ h. let g = pio_says _ _ _ (request_says _ (sym c.good_request-good.ensures ∙ h)) in record { size = g.size; alignment = g.alignment })
+range_answer-requires c = rw c.needing-need.ensures (refl, λ h. let g = pio_says _ _ _ (request_says _ (sym c.makes_sense-good.ensures ∙ h)) in record { size = g.size; alignment = g.alignment })
 
 pub returns : goal.returns
 unfolding claims
-returns c = range_serves _ _ _ _ _ _ _ refl (λ i. refl) (rw c.good_request-good.ensures at c.range_answer.ensures)
+returns c = range_serves _ _ _ _ _ _ _ refl (λ i. refl) (rw (c.makes_sense-good.ensures, c.needing-need.ensures) at c.range_answer.ensures)

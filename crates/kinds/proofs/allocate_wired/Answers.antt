@@ -6,4 +6,4 @@ use Rattle.kinds.proofs.allocate_wired.Goals as goal
 
 pub returns : goal.returns
 unfolding claims
-returns c = input_serves _ _ _ _ _ _ _ (λ i. refl) (rw c.good_request-good.ensures at c.input_answer.ensures)
+returns c = input_serves _ _ _ _ _ _ _ (λ i. refl) (rw c.makes_sense-good.ensures at c.input_answer.ensures)

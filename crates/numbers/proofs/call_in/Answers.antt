@@ -10,5 +10,5 @@ pub returns : goal.returns
 returns c =
     let xs = c.args.numbers.now in
     let s = state_view c.args.state.now in
-    call_told_is xs s (state_view c.serve_as.new.s) c.peek-m.result c.args.answer.now c.tell-room.new.out c.tell-room.result
-    (c.serve_as.ensures ∙ served_read xs c.read_call-k.result s c.read_call-k.ensures) (ap said_by c.peek-m.ensures) c.tell-room.ensures
+    call_told_is xs s (state_view c.serve_as.new.s) c.peek.result c.args.answer.now c.tell.new.out _
+    (c.serve_as.ensures ∙ served_read xs s c.read_call-read.result c.read_call-read.ensures) (ap said_by c.peek.ensures) c.tell.ensures

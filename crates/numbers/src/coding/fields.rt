@@ -1,48 +1,35 @@
-// Numbers that fit the fields of a call, and the call that stands for those that do not.
+// Numbers that fit the fields of a call.
 ghost use Rattle.std.specs.Prelude.{◌≡◌, [], ◌∷◌};
 ghost use Rattle.definition.specs.Base.{all_of};
-ghost use Rattle.request.specs.Calls.{call_of};
-ghost use Rattle.numbers.specs.Coding.{bad, below};
+ghost use Rattle.flat.specs.Read.{if_read};
+ghost use Rattle.numbers.specs.Coding.{below};
 
-use request::call::Call;
+use request::call::Ids;
+use tables::Id;
 
-// The largest number of 32 bits.
-pub const TOP_32: u64 = 4294967295;
-
-// The largest number of 16 bits.
-pub const TOP_16: u64 = 65535;
-
-// What cannot be read.
-pub fn bad() -> Call
-    ensures { call_of result ≡ bad }
+// A number that a field of 16 bits holds.
+pub(crate) fn port(n: u64) -> Option<u16>
+    ensures { result ≡ if_read (below 16 n) n }
 {
-    Call::Bad
+    u16::try_from(n).ok()
 }
 
-// Both fit fields of 16 bits.
-#[tactic(auto, unfolding(definition::specs::Base::all_of))]
-pub fn narrow_16(a: u64, b: u64) -> bool
-    ensures { result ≡ all_of (below 16) (a ∷ b ∷ []) }
+// .. of 32 bits.
+pub(crate) fn narrow(n: u64) -> Option<u32>
+    ensures { result ≡ if_read (below 32 n) n }
 {
-    if TOP_16 < a {
-        return false;
-    }
-    b <= TOP_16
+    u32::try_from(n).ok()
 }
 
-// All four fit fields of 32 bits.
-#[tactic(auto, unfolding(definition::specs::Base::all_of))]
-pub fn narrow_32(a: u64, b: u64, c: u64, d: u64) -> bool
-    ensures { result ≡ all_of (below 32) (a ∷ b ∷ c ∷ d ∷ []) }
+// A range of DeviceIDs, EventIDs or LPIs.
+#[tactic(auto, using(flat::proofs::ReadLaws::none_read, flat::proofs::ReadLaws::some_read), unfolding(definition::specs::Base::all_of))]
+pub(crate) fn ids<T: Id>(start: u64, end: u64) -> Option<Ids<T>>
+    ensures { result ≡ if_read (all_of (below 32) (start ∷ end ∷ [])) (record { start = T.of start; end = T.of end }) }
 {
-    if TOP_32 < a {
-        return false;
-    }
-    if TOP_32 < b {
-        return false;
-    }
-    if TOP_32 < c {
-        return false;
-    }
-    d <= TOP_32
+    let start = narrow(start)?;
+    let end = narrow(end)?;
+    Some(Ids {
+        start: T::new(start),
+        end: T::new(end),
+    })
 }

@@ -9,9 +9,9 @@ use Rattle.plan.proofs.IntoLaws.{turn_is_into}
 use Rattle.plan.proofs.allocate_into.Goals as goal
 
 pub turn-requires : goal.turn-requires
-turn-requires c = subst Steady (sym c.open-turns.ensures.0) (opened_steady 1 (length c.args.out.now) (state_view c.args.s.now))
+turn-requires c = subst Steady (sym c.open-judged.ensures.said) (opened_steady 1 (length c.args.out.now) (state_view c.args.s.now))
 
 pub returns : goal.returns
 returns c =
     let a = c.args in
-    c.turn.ensures ∙ ap (λ (t : C.State). turned 0 (request_of a.r) t a.out.now) c.open-turns.ensures.0 ∙ turn_is_into (request_of a.r) (state_view a.s.now) a.out.now
+    c.turn.ensures ∙ ap (λ (t : C.State). turned 0 (request_of a.r) t a.out.now) c.open-judged.ensures.said ∙ turn_is_into (request_of a.r) (state_view a.s.now) a.out.now

@@ -7,11 +7,11 @@ use Rattle.plan.proofs.StepLaws.{turned_skips}
 use Rattle.plan.proofs.TurnLaws.{ready, answered_in_place}
 use Rattle.plan.proofs.turn.Goals as goal
 
-pub returns-then-go : goal.returns-then-go
-returns-then-go c =
+pub returns-then-goes : goal.returns-then-goes
+returns-then-goes c =
     let a = c.args in
-    answered_in_place a.s.now a.r a.i a.results.now c.requires (ready a.s.now a.r a.i a.results.now c.goes-go.result c.goes-go.ensures (true_T _ c.if-go.true))
-    c.resolve-b.new.s c.resolve-b.result c.index-s.result c.write.new.results c.resolve-b.ensures c.index-s.ensures c.write.ensures
+    answered_in_place a.s.now a.r a.i a.results.now c.requires (ready a.s.now a.r a.i a.results.now c.goes.result c.goes.ensures (true_T _ c.if-goes.true))
+    c.resolve-granted.new.s c.resolve-granted.result c.index-s.result c.write.new.results c.resolve-granted.ensures c.index-s.ensures c.write.ensures
 
-pub returns-else-go : goal.returns-else-go
-returns-else-go c = let a = c.args in turned_skips a.i (request_of a.r) (state_view a.s.now) a.results.now (sym c.goes-go.ensures ∙ c.if-go.false)
+pub returns-else-goes : goal.returns-else-goes
+returns-else-goes c = let a = c.args in turned_skips a.i (request_of a.r) (state_view a.s.now) a.results.now (sym c.goes.ensures ∙ c.if-goes.false)

@@ -1,39 +1,60 @@
 -- The registers one after the other. Assumes nothing.
-use Rattle.std.proofs.Common.{◌+◌, refl, sym, ap, ◌∙◌, subst, arith}
-use Rattle.registers.proofs.CollectLaws.{added_long, Holding, holding_none, holding_stop, holding_on, holding_end, holding_fault, judged_words, past_word, asked_wants, asked_fault}
+use Rattle.std.proofs.Common.{◌≡◌, suc, ◌-◌, length, Err, refl, sym, ap, ◌∙◌, arith, rules}
+use Rattle.definition.specs.Base.{accepted}
+use Rattle.definition.specs.Registers.{register_count, register_of, takes_next, asked}
+use Rattle.flat.specs.Flat.{numbers_of_want}
+use Rattle.registers.specs.Told.{want_of, wants_of}
+use Rattle.registers.specs.Gathered.{past_in}
+use Rattle.registers.proofs.WordsLaws.{first_fits, rest_fits}
+use Rattle.registers.proofs.CollectLaws.{past_length, past_fits, holding_none, holding_end, holding_fault, holding_over, holding_on}
 use Rattle.registers.proofs.collect.Goals as goal
+use Rattle.registers.proofs.collect.Goals.{in-Some-2, in_default-2}
 
-pub loop-i-init : goal.loop-i-init
-loop-i-init c = (refl, holding_none _ _ _)
+pub loop-word-init : goal.loop-word-init
+loop-word-init c = record { long = refl; fit = c.requires.t; held = holding_none _ _ _ c.requires.words_len }
 
-pub returns-then-fault-ne0 : goal.returns-then-fault-ne0
-returns-then-fault-ne0 c =
-    let x = c.args in
-    let l = c.loop-i in
-    let a = c.judge-asked.result in
-    let judged = judged_words x.words.now l.i _ c.word_at-w.ensures _ a c.word_at-next.ensures c.judge-asked.ensures in
-    let said = c.refusal_of-fault.ensures in
-    let (y, e, t) = asked_fault a (λ z. c.if-fault-ne0.true (said ∙ z)) in
-    holding_fault x.words.now x.requester l.list y _ _
-    (holding_stop x.words.now x.requester l.i c.requires.words_len c.loop-i-test.true a judged l.list l.count l.invariant.1 y e)
-    (ap (λ r. r.number) c.refused.ensures ∙ said ∙ t)
+pub overflow_cast-w : goal.overflow_cast-w
+overflow_cast-w c = let t = rw c.in-Some.ensures.cases.0 at c.loop-word.invariant.fit in omega (arith, first_fits _ t)
 
-pub loop-i-preserved : goal.loop-i-preserved
-loop-i-preserved c =
-    let x = c.args in
-    let l = c.loop-i in
-    let a = c.judge-asked.result in
-    let e = c.past-i.ensures ∙ past_word x.words.now l.i _ c.word_at-w.ensures c.takes_next.result c.register_of.result c.register_of.ensures c.takes_next.ensures in
-    let judged = judged_words x.words.now l.i _ c.word_at-w.ensures _ a c.word_at-next.ensures c.judge-asked.ensures in
-    let wants = asked_wants a (sym c.refusal_of-fault.ensures ∙ c.if-fault-ne0.false) in
-    let added = c.put_asked-count.ensures in (
-      added_long added ∙ l.invariant.0,
-      subst (λ k. Holding x.words.now x.requester c.put_asked-count.new.list (l.count + c.put_asked-count.result) k) (sym e)
-          (holding_on x.words.now x.requester l.i c.requires.words_len c.loop-i-test.true a judged l.list l.count l.invariant.1 _ _ wants (omega (arith, l.invariant.0, c.requires.register_count_in_bounds)) added),
-    )
+pub next_word-requires : goal.next_word-requires
+next_word-requires c = let t = rw c.in-Some.ensures.cases.0 at c.loop-word.invariant.fit in rest_fits _ _ t
+
+pub loop-word-smaller : goal.loop-word-smaller
+loop-word-smaller c = omega (arith, ap length c.past-rest.ensures, past_length c.takes_next.result c.in-Some.behind.now, c.in-Some.ensures.cases.1)
+
+pub loop-word-preserved : goal.loop-word-preserved
+loop-word-preserved c =
+    let word = c.in-Some.word.now in
+    let behind = c.in-Some.behind.now in
+    let here = c.in-Some.ensures.cases.0 in
+    let h = rw here at c.loop-word.invariant.held in
+    let t = rw here at c.loop-word.invariant.fit in
+    let on : c.past-rest.result.now ≡ past_in (takes_next (register_of word)) behind =
+    c.past-rest.ensures ∙ ap (λ b. past_in b behind) (c.takes_next.ensures ∙ ap takes_next c.register_of.ensures) in
+    let judged = ap (asked (register_of word) word) (sym c.next_word.ensures) ∙ sym c.in_ok-ask.ensures in
+    let slot : register_count - length c.loop-word.rest.now ≡ register_count - suc (length behind) = omega (arith, c.in-Some.ensures.cases.1) in
+    record {
+      long = search rules;
+      fit = rw on (past_fits _ behind (rest_fits word behind t));
+      held =
+          elim c.match-branch-2.branch [
+            | in-Some-2 w ↦ (
+                let want = want_of w.in-Some-2.ask in
+                let numbers = w.copy_from_slice.ensures.after ∙ w.numbers.ensures ∙ ap (λ k. numbers_of_want c.args.requester k want) slot in
+                let asks = judged ∙ ap (λ o. accepted (wants_of o)) w.in-Some-2.is in
+                rw (w.list-is, w.count-is, on) (holding_on _ _ _ _ word behind h want _ asks numbers (omega (arith, c.requires.register_count_in_bounds, c.loop-word.invariant.long)))
+                )
+            | in_default-2 w ↦ rw (w.list-is, w.count-is, on) (holding_over _ _ _ _ word behind h (judged ∙ ap (λ o. accepted (wants_of o)) w.in_default-2.is))
+          ];
+    }
+
+pub returns-in_err-ask : goal.returns-in_err-ask
+returns-in_err-ask c =
+    let r : c.from_residual.result ≡ Err c.in_err-ask.field-0.0 = search rules in
+    let word = c.in-Some.word.now in
+    let h = rw c.in-Some.ensures.cases.0 at c.loop-word.invariant.held in
+    let judged = ap (asked (register_of word) word) (sym c.next_word.ensures) ∙ sym c.in_err-ask.ensures in
+    rw r (holding_fault _ _ _ _ word c.in-Some.behind.now h c.in_err-ask.field-0.0 judged)
 
 pub returns : goal.returns
-returns c =
-    let x = c.args in
-    let l = c.loop-i in
-    holding_end x.words.now x.requester l.list l.count l.i c.requires.words_len (omega arith) c.requires.t l.invariant.1
+returns c = holding_end _ _ _ _ _ c.in_default.ensures.cases c.loop-word.invariant.held

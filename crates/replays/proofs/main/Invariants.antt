@@ -1,6 +1,6 @@
--- The loop ends. Assumes nothing.
-use Rattle.std.proofs.Common.{◌-◌}
+-- No more plans are counted than were tried. Assumes nothing.
+use Rattle.std.proofs.Common.{◌+◌, ◌≤◌}
 use Rattle.replays.proofs.main.Given as goal
 
-abbrev pub decreases-loop-seed : goal.decreases-loop-seed
-decreases-loop-seed l = 600 - l.seed
+abbrev pub invariant-loop-seed : goal.invariant-loop-seed
+invariant-loop-seed l = l.passed + l.refused ≤ l.seed-counter

@@ -1,6 +1,6 @@
--- Nothing where a read failed, else the definition's output. Assumes nothing.
-use Rattle.std.proofs.Common.{take, false, rules}
-use Rattle.standard_input.proofs.ReadLaws.{read_back, prints_front}
+-- The definition's output of the bytes that were read. Assumes nothing.
+use Rattle.std.proofs.Common.{◌∙◌, take, rules}
+use Rattle.standard_input.proofs.ReadLaws.{prints_front}
 use Rattle.sizer.specs.Sizes.{sizes_output}
 use Rattle.sizer.proofs.SizeLaws.{alike_sizes, front_inside, front_is}
 use Rattle.sizer.proofs.printed.Goals as goal
@@ -8,7 +8,11 @@ use Rattle.sizer.proofs.printed.Goals as goal
 pub returns : goal.returns
 returns c =
     let a = c.args in
-    let x = c.sizes in
-    let q = c.requires in
-    prints_front sizes_output alike_sizes a.buf.now x.new.out a.input.n x.result a.input.last (read_back a.input.last (search rules) false c.if-input-lt0.false) q.size_text_limit_in_bounds q.stopped
-    (front_inside (take a.input.n a.buf.now) a.out.now x.result x.new.out q.sizes_limit_in_bounds x.ensures) (front_is (take a.input.n a.buf.now) a.out.now x.result x.new.out q.sizes_limit_in_bounds x.ensures)
+    let room = c.requires.sizes_limit_in_bounds in
+    let p = c.new-page in
+    let s = c.sizes in
+    let text = take c.in-Ok.n a.buf.now in
+    rw c.in-Ok.is
+    (prints_front sizes_output alike_sizes a.buf.now _ c.in-Ok.n s.new.page.at c.requires.size_text_limit_in_bounds (rw c.in-Ok.is at c.requires.stopped)
+    (front_inside text a.out.now p.result s.new.page p.ensures.front p.ensures.untouched room s.ensures _ (let same = s.ensures.same ∙ p.ensures.same_reference in search rules))
+    (front_is text a.out.now p.result s.new.page p.ensures.front p.ensures.untouched room s.ensures _ (let same = s.ensures.same ∙ p.ensures.same_reference in search rules)))

@@ -1,33 +1,31 @@
 -- The answer to a text: `got` lines and `end`, or the line `no`. Assumes nothing.
-use Rattle.std.proofs.Common.{ap, length, length-append, arith}
+use Rattle.std.proofs.Common.{sym, subst, ◌∙◌}
 use Rattle.lines.specs.Output.{got_lines, end_line}
-use Rattle.writers.proofs.PutLaws.{put_then, put_length}
+use Rattle.writers.specs.Put.{Room}
+use Rattle.writers.proofs.PutLaws.{puts_then, room_first, room_then}
 use Rattle.text.proofs.OutputLaws.{answered_refused, answered_whole}
 use Rattle.text.proofs.answer.Goals as goal
 
 pub put_no-requires : goal.put_no-requires
-put_no-requires c = omega (arith, ap length (answered_refused c.args.t c.args.results.now c.if-t-ne0.true))
+put_no-requires c = subst (Room c.args.page.now) (answered_refused c.args.t c.args.results.now c.in-Some.no (sym c.refused.ensures ∙ c.in-Some.is)) c.requires.room
 
-pub returns-then-t-ne0 : goal.returns-then-t-ne0
-returns-then-t-ne0 c = rw (answered_refused c.args.t c.args.results.now c.if-t-ne0.true) c.put_no.ensures
+pub returns-in-Some : goal.returns-in-Some
+returns-in-Some c = rw (answered_refused c.args.t c.args.results.now c.in-Some.no (sym c.refused.ensures ∙ c.in-Some.is)) c.put_no.ensures
 
-pub put_gots-e-requires : goal.put_gots-e-requires
-put_gots-e-requires c =
+pub put_gots-requires-clause-room : goal.put_gots-requires-clause-room
+put_gots-requires-clause-room c =
     let a = c.args in
-    let e = answered_whole a.t a.results.now c.if-t-ne0.false in
-    (omega arith, omega (arith, ap length e, length-append (got_lines a.t.wants a.results.now) (end_line a.t.wants)))
+    let e = answered_whole a.t a.results.now (sym c.refused.ensures ∙ c.in_default.is) in
+    room_first a.page.now (got_lines a.t.wants a.results.now) (end_line a.t.wants) (subst (Room a.page.now) e c.requires.room)
 
 pub put_end-requires : goal.put_end-requires
 put_end-requires c =
     let a = c.args in
-    let p = c.put_gots-e in
-    let g = got_lines a.t.wants a.results.now in
-    let e = answered_whole a.t a.results.now c.if-t-ne0.false in
-    omega (arith, p.ensures.0, ap length e, length-append g (end_line a.t.wants), put_length a.out.now 0 g p.result p.new.out p.ensures)
+    let e = answered_whole a.t a.results.now (sym c.refused.ensures ∙ c.in_default.is) in
+    room_then a.page.now (got_lines a.t.wants a.results.now) c.put_gots.new.page c.put_gots.ensures (end_line a.t.wants) (subst (Room a.page.now) e c.requires.room)
 
 pub returns : goal.returns
 returns c =
     let a = c.args in
-    let p = c.put_gots-e in
-    let g = got_lines a.t.wants a.results.now in
-    rw (answered_whole a.t a.results.now c.if-t-ne0.false) (put_then a.out.now 0 g p.result p.new.out p.ensures (end_line a.t.wants) c.put_end.result c.put_end.new.out c.put_end.ensures)
+    rw (answered_whole a.t a.results.now (sym c.refused.ensures ∙ c.in_default.is))
+    (puts_then a.page.now (got_lines a.t.wants a.results.now) c.put_gots.new.page c.put_gots.ensures (end_line a.t.wants) c.put_end.new.self c.put_end.ensures)

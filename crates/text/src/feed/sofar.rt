@@ -1,23 +1,18 @@
 // How far a text has come, and what its next line does: decided over plain values.
-ghost use Rattle.std.specs.Prelude.{◌≡◌, ◌&&◌, ◌<◌, eqb, ltb};
-ghost use Rattle.definition.specs.Tables.{plan_limit};
-ghost use Rattle.request.specs.Asked.{request_of};
-ghost use Rattle.request.specs.Calls.{call_of};
-ghost use Rattle.text.specs.Sofar.{started, failed, told, head_of, asks_of, nobodys, wanted_by, added_to, wanted_to, advanced_to};
+ghost use Rattle.std.specs.Prelude.{◌≡◌, ◌<◌};
+ghost use Rattle.reader.specs.Kinds.{says};
+ghost use Rattle.text.specs.Sofar.{bare, left_by, started, goes_of, failed, told, head_of, asked_of, asked_as, advanced_to, refused_of};
 
 use crate::feed::line::Line;
-use choose::Choice;
 use inplace::marks::Marks;
+use request::Request;
 use request::call::Call;
-use request::{Request, Want};
 use tables::PLAN;
+use writers::output::{BAD_LINE, Refused, SHORT};
 
-// Where the next line starts; the lines taken and the wants accepted; the five numbers that the last line was answered.
-#[derive(Clone, Copy)]
-pub struct Sofar {
-    pub at: usize,
-    pub lines: u64,
-    pub wants: usize,
+// The five numbers of a refusal, as the state says them.
+#[derive(Clone, Copy, Debug, PartialEq, Eq)]
+pub struct Reason {
     pub number: u64,
     pub index: u64,
     pub namespace: u64,
@@ -25,168 +20,142 @@ pub struct Sofar {
     pub detail: u64,
 }
 
-// No line is taken yet.
-pub fn beginning() -> Sofar
-    ensures { result ≡ started }
-{
-    Sofar {
-        at: 0,
-        lines: 0,
-        wants: 0,
-        number: 0,
-        index: 0,
-        namespace: 0,
-        owner: 0,
-        detail: 0,
+impl Reason {
+    // A number alone.
+    fn bare(number: u64) -> Reason
+        ensures { result ≡ bare number }
+    {
+        Reason {
+            number,
+            index: 0,
+            namespace: 0,
+            owner: 0,
+            detail: 0,
+        }
+    }
+
+    // What a call has left in the state, if it was refused.
+    fn left_by(m: Marks) -> Option<Reason>
+        ensures { result ≡ left_by m }
+    {
+        if m.number == 0 {
+            return None;
+        }
+        Some(Reason {
+            number: m.number,
+            index: m.index,
+            namespace: m.namespace,
+            owner: m.owner,
+            detail: m.detail,
+        })
     }
 }
 
-// Whether one more line of a text of n bytes is taken: none was refused, and the text goes on.
-pub fn goes(t: Sofar, n: usize) -> bool
-    ensures { result ≡ eqb t.number 0 && ltb t.at n }
-{
-    if t.number == 0 {
-        return t.at < n;
-    }
-    false
+// Where the next line starts; the lines taken and the wants accepted; and why the last line was refused, if it was.
+#[derive(Clone, Copy, Debug, PartialEq, Eq)]
+pub struct Sofar {
+    pub at: usize,
+    pub lines: u64,
+    pub wants: usize,
+    pub refusal: Option<Reason>,
 }
 
-// How many wants were accepted.
-pub fn accepted(t: Sofar) -> usize
-    ensures { result ≡ t.wants }
-{
-    t.wants
-}
+impl Sofar {
+    // No line is taken yet.
+    pub fn beginning() -> Sofar
+        ensures { result ≡ started }
+    {
+        Sofar {
+            at: 0,
+            lines: 0,
+            wants: 0,
+            refusal: None,
+        }
+    }
 
-// What a line does to the tables before a want is answered: a `pool` or a `hold` is made before the first want, and the first want starts.
-pub fn head_of(t: Sofar, l: Line) -> Call
-    ensures { call_of result ≡ head_of t.wants (call_of l.call) }
-{
-    let call = l.call;
-    if t.wants != 0 {
-        return Call::Bad;
+    // Whether one more line of a text of n bytes is taken: none was refused, and the text goes on.
+    pub fn goes(&self, n: usize) -> bool
+        ensures { result ≡ goes_of self.now n }
+    {
+        self.refusal.is_none() && self.at < n
     }
-    match call {
-        Call::Pool(_, _) => call,
-        Call::Hold(_, _) => call,
-        Call::Start => Call::Bad,
-        Call::Want(_) => Call::Start,
-        Call::Bad => Call::Bad,
-    }
-}
 
-// Whether a line is a want that is answered.
-pub fn asks(t: Sofar, l: Line) -> bool
-    ensures { result ≡ asks_of t.wants (call_of l.call) }
-{
-    let call = l.call;
-    match call {
-        Call::Pool(_, _) => false,
-        Call::Hold(_, _) => false,
-        Call::Start => false,
-        Call::Want(_) => t.wants < PLAN,
-        Call::Bad => false,
+    // What a line does to the tables before a want is answered: a `pool` or a `hold` is made before the first want, and the first want starts.
+    pub fn head_of(&self, call: Option<Call>) -> Option<Call>
+        ensures { says result ≡ head_of self.now.wants (says call) }
+    {
+        match call {
+            Some(Call::Pool(_, _) | Call::Hold(_, _)) if self.wants == 0 => call,
+            Some(Call::Want(_)) if self.wants == 0 => Some(Call::Start),
+            _ => None,
+        }
     }
-}
 
-// A request that nobody makes.
-fn nobodys() -> Request
-    ensures { request_of result ≡ nobodys }
-{
-    Request {
-        requester: 0,
-        slot: 0,
-        want: Want::Host {
-            choice: Choice::Auto,
-        },
+    // The request of a want that is answered.
+    pub fn asked(&self, call: Option<Call>) -> Option<Request>
+        ensures { asked_as result ≡ asked_of self.now.wants (says call) }
+    {
+        match call {
+            Some(Call::Want(r)) if self.wants < PLAN => Some(r),
+            _ => None,
+        }
     }
-}
 
-// The request of a want; any other line is nobody's.
-pub fn want_of(l: Line) -> Request
-    ensures { request_of result ≡ wanted_by (call_of l.call) }
-{
-    let call = l.call;
-    match call {
-        Call::Pool(_, _) => nobodys(),
-        Call::Hold(_, _) => nobodys(),
-        Call::Start => nobodys(),
-        Call::Want(r) => r,
-        Call::Bad => nobodys(),
+    // A line that is refused by the rules of lines alone.
+    fn failed(&self, next: usize, number: u64) -> Sofar
+        requires { self.now.lines < next }
+        ensures { result ≡ failed self.now next number }
+    {
+        Sofar {
+            at: next,
+            lines: self.lines + 1,
+            wants: self.wants,
+            refusal: Some(Reason::bare(number)),
+        }
     }
-}
 
-// A line that is refused by the rules of lines alone.
-fn refused(t: Sofar, next: usize, number: u64) -> Sofar
-    requires { t.lines < next }
-    ensures { result ≡ failed t next number }
-{
-    Sofar {
-        at: next,
-        lines: t.lines + 1,
-        wants: t.wants,
-        number,
-        index: 0,
-        namespace: 0,
-        owner: 0,
-        detail: 0,
+    // A line that was answered by its call.
+    fn told(&self, next: usize, wants: usize, m: Marks) -> Sofar
+        requires { self.now.lines < next }
+        ensures { result ≡ told self.now next wants m }
+    {
+        Sofar {
+            at: next,
+            lines: self.lines + 1,
+            wants,
+            refusal: Reason::left_by(m),
+        }
     }
-}
 
-// A line that was answered by its call.
-fn answered(t: Sofar, next: usize, wants: usize, m: Marks) -> Sofar
-    requires { t.lines < next }
-    ensures { result ≡ told t next wants m }
-{
-    Sofar {
-        at: next,
-        lines: t.lines + 1,
-        wants,
-        number: m.number,
-        index: m.index,
-        namespace: m.namespace,
-        owner: m.owner,
-        detail: m.detail,
+    // How far the text has come behind the line, by the five numbers that its call left in the state: 10 before any other number, and 11 for one want more than a plan has.
+    pub fn advanced(&self, l: Line, m: Marks) -> Sofar
+        requires { self.now.lines < l.next }
+        ensures { result ≡ advanced_to self.now (says l.call) l.next m }
+    {
+        match l.call {
+            Some(Call::Pool(_, _) | Call::Hold(_, _)) if self.wants == 0 => {
+                self.told(l.next, self.wants, m)
+            }
+            Some(Call::Want(_)) if PLAN <= self.wants => self.failed(l.next, SHORT),
+            Some(Call::Want(_)) if m.number == 0 => self.told(l.next, self.wants + 1, m),
+            Some(Call::Want(_)) => self.told(l.next, self.wants, m),
+            _ => self.failed(l.next, BAD_LINE),
+        }
     }
-}
 
-// A `pool` or a `hold`, by what its call left: 10 after a want.
-fn added(t: Sofar, next: usize, m: Marks) -> Sofar
-    requires { t.lines < next }
-    ensures { result ≡ added_to t next m }
-{
-    if t.wants == 0 {
-        return answered(t, next, t.wants, m);
-    }
-    refused(t, next, 10)
-}
-
-// A want, by what its request left: one more than a plan has is 11.
-fn wanted(t: Sofar, next: usize, m: Marks) -> Sofar
-    requires { t.lines < next }
-    ensures { result ≡ wanted_to t next m }
-{
-    if PLAN <= t.wants {
-        return refused(t, next, 11);
-    }
-    if m.number == 0 {
-        return answered(t, next, t.wants + 1, m);
-    }
-    answered(t, next, t.wants, m)
-}
-
-// How far the text has come behind the line, by the five numbers that its call left in the state: 10 before any other number.
-pub fn advanced(t: Sofar, l: Line, m: Marks) -> Sofar
-    requires { t.lines < l.next }
-    ensures { result ≡ advanced_to t (call_of l.call) l.next m }
-{
-    let call = l.call;
-    let next = l.next;
-    match call {
-        Call::Pool(_, _) => added(t, next, m),
-        Call::Hold(_, _) => added(t, next, m),
-        Call::Start => refused(t, next, 10),
-        Call::Want(_) => wanted(t, next, m),
-        Call::Bad => refused(t, next, 10),
+    // The `no` line of a text that was refused.
+    pub fn refused(&self) -> Option<Refused>
+        ensures { result ≡ refused_of self.now }
+    {
+        let Some(r) = self.refusal else {
+            return None;
+        };
+        Some(Refused {
+            line: self.lines,
+            number: r.number,
+            namespace: r.namespace,
+            owner: r.owner,
+            detail: r.detail,
+        })
     }
 }

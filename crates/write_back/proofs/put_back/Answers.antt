@@ -1,58 +1,55 @@
--- The pinned text put into a buffer: one line more, and where the lines end. Assumes nothing.
-use Rattle.std.proofs.Common.{refl, arith}
-use Rattle.lines.specs.Place.{end_at}
-use Rattle.writers.proofs.PutLaws.{put_length}
-use Rattle.writers.proofs.EachLaws.{rest_is}
+-- The pinned text put on a page: one line more, and where the lines end. Assumes nothing.
 use Rattle.write_back.proofs.WalkLaws.{walk_ends, walk_turn}
 use Rattle.write_back.proofs.put_back.Goals as goal
 
-pub returns-then-n-e : goal.returns-then-n-e
-returns-then-n-e c =
-    let a = c.args in
-    let l = c.loop-at in
+pub put_pinned-requires-clause-pinnable : goal.put_pinned-requires-clause-pinnable
+put_pinned-requires-clause-pinnable c =
+    let l = c.loop-line in
     let i = l.invariant in
-    rw (← walk_ends a.text.now a.results.now l.at l.from i.done i.walked c.find-e.result c.find-e.ensures c.if-n-e.true) i.written
+    let t = walk_turn c.args.text.now c.args.results.now l.rest.now l.records.now i.done i.walked c.in-Some.line.now c.in-Some.behind.now c.in-Some.ensures in
+    t.pinnable
 
-pub put_pinned-q-requires : goal.put_pinned-q-requires
-put_pinned-q-requires c =
-    let a = c.args in
-    let l = c.loop-at in
+pub put_pinned-requires-clause-room : goal.put_pinned-requires-clause-room
+put_pinned-requires-clause-room c =
+    let l = c.loop-line in
     let i = l.invariant in
-    let t = walk_turn a.text.now a.results.now l.at l.from i.done i.walked c.find-e.result c.find-e.ensures c.if-n-e.false in
-    rw (rest_is a.results.now l.from) (t.pinnable, omega (arith, c.requires.1, i.written.0, t.room, put_length a.out.now 0 i.done l.p l.out i.written))
+    let t = walk_turn c.args.text.now c.args.results.now l.rest.now l.records.now i.done i.walked c.in-Some.line.now c.in-Some.behind.now c.in-Some.ensures in
+    t.line_room c.args.page.now l.page c.requires.room i.written
 
-pub bounds-out-q : goal.bounds-out-q
-bounds-out-q c =
-    let a = c.args in
-    let l = c.loop-at in
+pub put_byte-requires : goal.put_byte-requires
+put_byte-requires c =
+    let l = c.loop-line in
     let i = l.invariant in
-    let t = walk_turn a.text.now a.results.now l.at l.from i.done i.walked c.find-e.result c.find-e.ensures c.if-n-e.false in
-    let q = c.put_pinned-q in
-    let m = rw (rest_is a.results.now l.from) at q.ensures in
-    omega (arith, m.0, q.auto.out, c.requires.1, i.written.0, t.room, put_length a.out.now 0 i.done l.p l.out i.written)
+    let t = walk_turn c.args.text.now c.args.results.now l.rest.now l.records.now i.done i.walked c.in-Some.line.now c.in-Some.behind.now c.in-Some.ensures in
+    t.close_room c.args.page.now l.page c.put_pinned.new.page c.requires.room i.written c.put_pinned.ensures
 
-pub overflow_add-p : goal.overflow_add-p
-overflow_add-p c =
-    let a = c.args in
-    let l = c.loop-at in
+pub records_behind-records-requires : goal.records_behind-records-requires
+records_behind-records-requires c =
+    let l = c.loop-line in
     let i = l.invariant in
-    let t = walk_turn a.text.now a.results.now l.at l.from i.done i.walked c.find-e.result c.find-e.ensures c.if-n-e.false in
-    let m = rw (rest_is a.results.now l.from) at c.put_pinned-q.ensures in
-    omega (arith, m.0, c.requires.1, i.written.0, t.room)
+    let t = walk_turn c.args.text.now c.args.results.now l.rest.now l.records.now i.done i.walked c.in-Some.line.now c.in-Some.behind.now c.in-Some.ensures in
+    t.used
 
-pub loop-at-preserved : goal.loop-at-preserved
-loop-at-preserved c =
-    let a = c.args in
-    let l = c.loop-at in
+pub loop-line-smaller : goal.loop-line-smaller
+loop-line-smaller c =
+    let l = c.loop-line in
     let i = l.invariant in
-    let t = walk_turn a.text.now a.results.now l.at l.from i.done i.walked c.find-e.result c.find-e.ensures c.if-n-e.false in
-    let q = c.put_pinned-q in
-    let m = rw (rest_is a.results.now l.from) at q.ensures in
-    record { done = t.then; walked = rw c.past_record-next.ensures t.goes; written = t.puts a.out.now l.p q.result l.out q.new.out i.written m }
+    let t = walk_turn c.args.text.now c.args.results.now l.rest.now l.records.now i.done i.walked c.in-Some.line.now c.in-Some.behind.now c.in-Some.ensures in
+    t.shorter
+
+pub loop-line-preserved : goal.loop-line-preserved
+loop-line-preserved c =
+    let l = c.loop-line in
+    let i = l.invariant in
+    let t = walk_turn c.args.text.now c.args.results.now l.rest.now l.records.now i.done i.walked c.in-Some.line.now c.in-Some.behind.now c.in-Some.ensures in
+    record {
+      done = t.then;
+      walked = rw c.records_behind-records.ensures t.goes;
+      written = t.puts c.args.page.now l.page c.put_pinned.new.page c.put_byte.new.self i.written c.put_pinned.ensures c.put_byte.ensures;
+    }
 
 pub returns : goal.returns
 returns c =
-    let a = c.args in
-    let l = c.loop-at in
+    let l = c.loop-line in
     let i = l.invariant in
-    rw (← walk_ends a.text.now a.results.now l.at l.from i.done i.walked (end_at a.text.now l.at) refl (omega arith)) i.written
+    rw (← walk_ends c.args.text.now c.args.results.now l.rest.now l.records.now i.done i.walked c.in_default.ensures) i.written

@@ -2,36 +2,35 @@
 use Rattle.std.proofs.Common.{arith, refl, sym, ◌∙◌}
 use Rattle.definition.specs.Tables.{meets}
 use Rattle.definition.specs.Request.{row_at}
-use Rattle.tables.specs.Views.{ranges}
 use Rattle.tables.proofs.IndexLaws.{first_tells}
-use Rattle.search.proofs.AllowedLaws.{allowed_high}
-use Rattle.search.proofs.FoundLaws.{range_in}
-use Rattle.choose.proofs.PlaceLaws.{fixed_outside, fixed_met, fixed_clear}
-use Rattle.choose.proofs.HitLaws.{top_fits, range_obstacle}
+use Rattle.search.specs.Asks.{need_of}
+use Rattle.search.specs.Rows.{range_rows}
+use Rattle.choose.proofs.HitLaws.{range_obstacle}
+use Rattle.choose.proofs.PlaceLaws.{fixed_outside, fixed_met, fixed_clear, told_err}
 use Rattle.choose.proofs.range.fixed.Goals as goal
 
-pub overflow_add-e : goal.overflow_add-e
-overflow_add-e c = omega (arith, allowed_high _ _ _ (sym c.range_allowed.ensures ∙ c.if-range_allowed.true), top_fits c.args.need.kind)
+pub returns-in_err-run : goal.returns-in_err-run
+returns-in_err-run c =
+    let a = c.in_err-run.ensures in
+    λ ps. told_err (need_of c.args.need) _ _ c.from_residual.ensures.1 ∙ rw a.1 (fixed_outside ps _ _ _ _ _ refl (sym a.0))
 
-pub returns-in-Clear : goal.returns-in-Clear
-unfolding row_at meets
-returns-in-Clear c =
-    let a = c.args in
-    λ ps. fixed_clear ps _ _ _ _ (sym c.if-range_allowed.true ∙ c.range_allowed.ensures)
-    (range_obstacle (ranges a.on a.oc.now a.oi.now a.od.now a.os.now a.oe.now a.ow.now) a.need a.b _ (omega arith) c.in-Clear.ensures)
+pub offset_bounds-owners-k : goal.offset_bounds-owners-k
+offset_bounds-owners-k c = let h = first_tells _ _ _ c.in-Some.ensures in omega arith
 
-pub offset_bounds-ow-k : goal.offset_bounds-ow-k
-offset_bounds-ow-k c = let h = first_tells _ _ _ c.in-At.ensures in omega arith
+pub bounds-owners-k : goal.bounds-owners-k
+bounds-owners-k c = let h = first_tells _ _ _ c.in-Some.ensures in omega arith
 
-pub bounds-ow-k : goal.bounds-ow-k
-bounds-ow-k c = let h = first_tells _ _ _ c.in-At.ensures in omega arith
-
-pub returns-in-At : goal.returns-in-At
+pub returns-in-Some : goal.returns-in-Some
 unfolding meets row_at
-returns-in-At c =
+returns-in-Some c =
     let a = c.args in
-    λ ps. fixed_met ps _ _ _ _ (range_in (ranges a.on a.oc.now a.oi.now a.od.now a.os.now a.oe.now a.ow.now) c.in-At.k) _ _ c.namespace-space.ensures (c.detail-why.ensures _ _ refl refl) (sym c.if-range_allowed.true ∙ c.range_allowed.ensures)
-    (range_obstacle (ranges a.on a.oc.now a.oi.now a.od.now a.os.now a.oe.now a.ow.now) a.need a.b _ (omega arith) c.in-At.ensures)
+    let h = c.in_ok-run.ensures in
+    λ ps. fixed_met ps _ _ _ _ (range_rows a.owners.now c.in-Some.k) _ _ c.namespace.ensures (c.detail.ensures _ _ refl refl) (sym h.0)
+    (range_obstacle a.owners.now a.need a.b _ (omega arith) (rw h.1 at c.in-Some.ensures))
 
 pub returns : goal.returns
-returns c = λ ps. fixed_outside ps _ _ _ _ _ c.namespace-space.ensures (sym c.if-range_allowed.false ∙ c.range_allowed.ensures)
+unfolding row_at meets
+returns c =
+    let a = c.args in
+    let h = c.in_ok-run.ensures in
+    λ ps. rw h.1 (fixed_clear ps _ _ _ _ (sym h.0) (range_obstacle a.owners.now a.need a.b _ (omega arith) (rw h.1 at c.in_default.ensures)))

@@ -1,10 +1,13 @@
 -- A start, or what the verdict on the call stores. Assumes nothing.
-use Rattle.std.proofs.Common.{sym, ◌∙◌}
+use Rattle.std.proofs.Common.{sym, ◌∙◌, ap}
+use Rattle.request.specs.Calls.{call_of}
+use Rattle.tables.specs.Views.{state_view}
+use Rattle.door.specs.Applied.{apply_of}
 use Rattle.door.proofs.ApplyLaws.{begun}
 use Rattle.door.proofs.apply.apply.Goals as goal
 
-pub returns-then-starts : goal.returns-then-starts
-returns-then-starts c = begun c.args.c _ _ c.requires (rw (sym c.starts.ensures ∙ c.if-starts.true) tt) c.start.ensures
+pub returns-in-Start : goal.returns-in-Start
+returns-in-Start c = begun _ _ c.requires c.start.ensures ∙ ap (λ x. apply_of (call_of x) (state_view c.args.s.now)) (sym c.in-Start.is)
 
-pub returns : goal.returns
-returns c = c.look-v.ensures.after (rw (sym c.passes.ensures ∙ c.if-passes.false) tt) (rw (sym c.starts.ensures ∙ c.if-starts.false) tt) c.keep.new.s c.keep.ensures
+pub returns-in-Some : goal.returns-in-Some
+returns-in-Some c = c.in-Some.ensures.after c.keep.new.s c.keep.ensures

@@ -1,7 +1,7 @@
--- The first row that passes decides. Assumes nothing.
-use Rattle.std.proofs.Common.{arith, sym}
-use Rattle.tables.proofs.BelowLaws.{first_found}
+-- Each row is asked up to the first that passes. Assumes nothing.
+use Rattle.std.proofs.Common.{rules}
+use Rattle.tables.proofs.ChainLaws.{find_first}
 use Rattle.insert.proofs.wired.first_input.Goals as goal
 
-pub returns-then-same_input : goal.returns-then-same_input
-returns-then-same_input c = sym (first_found _ c.loop-k.k _ (cc) (cc) (omega arith))
+pub returns : goal.returns
+returns c = find_first _ _ _ _ _ c.find.ensures.ran (λ x b p h. search rules)

@@ -1,5 +1,5 @@
 -- The plan, then the front part that its answer names. Assumes nothing.
-use Rattle.std.proofs.Common.{ap, sym, ◌∙◌, map, length, List}
+use Rattle.std.proofs.Common.{ap, refl, sym, ◌∙◌, map, length, List}
 use Rattle.std.proofs.Math.ListN.{length-map}
 use Rattle.definition.specs.Request as R
 use Rattle.definition.specs.Plan.{Lent, plan}
@@ -16,7 +16,7 @@ returns c =
     let qs : List R.Request = map request_of a.requests.now in
     let p : Lent = plan qs (state_view a.state.now) a.results.now in (
       ap (λ (x : Lent). x.state) c.plan_in.ensures,
-      c.front.ensures.0 ∙ answer_front c.plan_in.new.state c.plan_in.new.results p c.peek-m.result c.count-n.result (length a.requests.now) c.plan_in.ensures c.peek-m.ensures c.count-n.ensures
+      c.front.ensures.0 ∙ answer_front c.plan_in.new.state c.plan_in.new.results p c.peek-m.result (length a.requests.now) (length a.requests.now) c.plan_in.ensures c.peek-m.ensures refl
           ∙ (ap (front_of p) (sym (length-map a.requests.now request_of)) ∙ plan_front qs (state_view a.state.now) a.results.now),
       c.front.ensures.1,
     )

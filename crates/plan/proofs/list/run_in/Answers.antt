@@ -11,19 +11,18 @@ use Rattle.plan.proofs.list.run_in.Goals as goal
 pub loop-i-init : goal.loop-i-init
 loop-i-init c =
     let a = c.args in
-    let o = c.open-turns in
-    starts (map request_of a.requests.now) (request_of nobody) (state_view a.state.now) a.results.now a.n o.result (state_view o.new.s) o.ensures.0 o.ensures.1
+    starts (map request_of a.requests.now) (request_of nobody) (state_view a.state.now) a.results.now a.n c.turns-turns.result (state_view c.open.new.s) c.open.ensures.said (c.turns-turns.ensures ∙ c.open.ensures.turns)
 
 pub loop-i-preserved : goal.loop-i-preserved
 loop-i-preserved c =
     let a = c.args in
     let l = c.loop-i in
-    goes_on (map request_of a.requests.now) (request_of nobody) (state_view a.state.now) a.results.now a.n (length-map a.requests.now request_of ∙ sym c.requires) c.open-turns.result l.i (state_view l.state) l.results (request_of c.read-r.result)
+    goes_on (map request_of a.requests.now) (request_of nobody) (state_view a.state.now) a.results.now a.n (length-map a.requests.now request_of ∙ sym c.requires) c.turns-turns.result l.i (state_view l.state) l.results (request_of c.read-r.result)
     (state_view c.turn.new.s) c.turn.new.results c.loop-i-test.true l.invariant (ap request_of c.read-r.ensures ∙ sym (get_or-map request_of a.requests.now l.i nobody)) c.turn.ensures
 
 pub returns : goal.returns
 returns c =
     let a = c.args in
     let l = c.loop-i in
-    run_ends (map request_of a.requests.now) (request_of nobody) a.state.now a.results.now a.n c.peek-m.result c.open-turns.result l.i (state_view l.state) l.results (state_view c.settle.new.s)
+    run_ends (map request_of a.requests.now) (request_of nobody) a.state.now a.results.now a.n c.peek-m.result c.turns-turns.result l.i (state_view l.state) l.results (state_view c.settle.new.s)
     (length-map a.requests.now request_of ∙ sym c.requires) c.peek-m.ensures c.loop-i-test.false l.invariant c.settle.ensures

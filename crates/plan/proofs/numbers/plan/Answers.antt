@@ -12,7 +12,7 @@ returns c =
     let a = c.args in
     let p : Lent = flat_plan a.requests.now (state_view a.state.now) a.results.now in (
       ap (λ (x : Lent). x.state) c.plan_in.ensures,
-      c.front.ensures.0 ∙ answer_front c.plan_in.new.state c.plan_in.new.results p c.peek-m.result c.count-n.result (whole_count (length a.requests.now)) c.plan_in.ensures c.peek-m.ensures c.count-n.ensures
+      c.front.ensures.0 ∙ answer_front c.plan_in.new.state c.plan_in.new.results p c.peek-m.result c.count.result (whole_count (length a.requests.now)) c.plan_in.ensures c.peek-m.ensures c.count.ensures
           ∙ flat_front a.requests.now (state_view a.state.now) a.results.now,
       c.front.ensures.1,
     )

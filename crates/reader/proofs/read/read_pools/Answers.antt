@@ -1,17 +1,17 @@
--- Behind `pool`: auto, fixed, or no pool. Assumes nothing.
-use Rattle.std.proofs.Common.{sym}
-use Rattle.lines.specs.Base.{when, ◌and_then◌, ◌or_else◌}
-use Rattle.lines.specs.Line.{use_of, behind_pool}
+-- Behind `pool` a use and a range are read, or none of them says a call. Assumes nothing.
+use Rattle.std.proofs.Common.{sym, ◌∙◌}
+use Rattle.reader.proofs.LineLaws.{pool_no_use, pool_said}
+use Rattle.reader.proofs.ReadLaws.{no_pool}
 use Rattle.reader.proofs.read.read_pools.Goals as goal
 
-pub returns-then-equal : goal.returns-then-equal
-unfolding behind_pool use_of when ◌and_then◌ ◌or_else◌
-returns-then-equal c = rw (sym c.if-equal.ensures) c.read_pool.ensures
+pub returns-in_err-user : goal.returns-in_err-user
+returns-in_err-user c = rw c.from_residual.ensures (sym (pool_no_use _ _ _ (sym c.in_err-user.ensures)))
 
-pub returns-then-equal-2 : goal.returns-then-equal-2
-unfolding behind_pool use_of when ◌and_then◌ ◌or_else◌
-returns-then-equal-2 c = rw (sym c.if-equal.ensures, sym c.if-equal-2.ensures) c.read_pool-then-equal-2.ensures
+pub returns-in_err-of : goal.returns-in_err-of
+returns-in_err-of c = rw c.from_residual-in_err-of.ensures (sym (pool_said _ _ _ _ (sym c.in_ok-user.ensures) ∙ no_pool _ _ c.in_err-of.ensures _))
+
+pub returns-in_err-range : goal.returns-in_err-range
+returns-in_err-range c = rw c.from_residual-in_err-range.ensures (sym (pool_said _ _ _ _ (sym c.in_ok-user.ensures) ∙ rw c.in_ok-of.ensures (sym (c.in_err-range.ensures _))))
 
 pub returns : goal.returns
-unfolding behind_pool use_of when ◌and_then◌ ◌or_else◌
-returns c = rw (sym c.if-equal.ensures, sym c.if-equal-2.ensures)
+returns c = sym (pool_said _ _ _ _ (sym c.in_ok-user.ensures) ∙ rw c.in_ok-of.ensures (sym (c.in_ok-range.ensures _)))

@@ -1,20 +1,21 @@
--- A line by its first word: `pool`, `hold`, `want`, or no call. Assumes nothing.
-use Rattle.std.proofs.Common.{sym}
+-- A line's first word is what `==` says of it. Assumes nothing.
+use Rattle.lines.specs.Base.{bytes}
 use Rattle.lines.specs.Line.{by_word}
+use Rattle.lines.proofs.PartLaws.{same_says}
 use Rattle.reader.proofs.read.read_words.Goals as goal
 
-pub returns-then-equal : goal.returns-then-equal
+pub returns-then-eq : goal.returns-then-eq
 unfolding by_word
-returns-then-equal c = rw (sym c.if-equal.ensures) c.read_pools.ensures
+returns-then-eq c = rw (same_says c.args.w.now (bytes "pool") _ _ c.as_slice.ensures c.if-eq.ensures) c.read_pools.ensures
 
-pub returns-then-equal-2 : goal.returns-then-equal-2
+pub returns-then-eq-2 : goal.returns-then-eq-2
 unfolding by_word
-returns-then-equal-2 c = rw (sym c.if-equal.ensures, sym c.if-equal-2.ensures) c.read_holds.ensures
+returns-then-eq-2 c = rw (same_says c.args.w.now (bytes "pool") _ _ c.as_slice.ensures c.if-eq.ensures, same_says c.args.w.now (bytes "hold") _ _ c.as_slice-else-eq.ensures c.if-eq-2.ensures) c.read_holds.ensures
 
-pub returns-then-equal-3 : goal.returns-then-equal-3
+pub returns-then-eq-3 : goal.returns-then-eq-3
 unfolding by_word
-returns-then-equal-3 c = rw (sym c.if-equal.ensures, sym c.if-equal-2.ensures, sym c.if-equal-3.ensures) c.read_wants.ensures
+returns-then-eq-3 c = rw (same_says c.args.w.now (bytes "pool") _ _ c.as_slice.ensures c.if-eq.ensures, same_says c.args.w.now (bytes "hold") _ _ c.as_slice-else-eq.ensures c.if-eq-2.ensures, same_says c.args.w.now (bytes "want") _ _ c.as_slice-else-eq-2.ensures c.if-eq-3.ensures) c.read_wants.ensures
 
-pub returns : goal.returns
+pub returns-else-eq-3 : goal.returns-else-eq-3
 unfolding by_word
-returns c = rw (sym c.if-equal.ensures, sym c.if-equal-2.ensures, sym c.if-equal-3.ensures)
+returns-else-eq-3 c = rw (same_says c.args.w.now (bytes "pool") _ _ c.as_slice.ensures c.if-eq.ensures, same_says c.args.w.now (bytes "hold") _ _ c.as_slice-else-eq.ensures c.if-eq-2.ensures, same_says c.args.w.now (bytes "want") _ _ c.as_slice-else-eq-2.ensures c.if-eq-3.ensures)

@@ -1,25 +1,19 @@
--- One line more is taken. Assumes nothing.
-use Rattle.std.proofs.Common.{◌≡◌, ℕ, ◌-◌, length, min, refl, sym, ap, ◌∙◌, arith, rules}
-use Rattle.replay.proofs.TakeLaws.{turn, left_none, left_length_none, left_all, left_length_all}
+-- No line at first, one more at each turn. Assumes nothing.
+use Rattle.std.proofs.Common.{◌+◌, ◌≤◌, length, ap, arith, rules}
+use Rattle.definition.specs.Plan.{written}
+use Rattle.replay.proofs.TakeLaws.{none_yet, turn}
 use Rattle.replay.proofs.take.take.Goals as goal
 
-pub loop-j-init : goal.loop-j-init
-loop-j-init c =
+pub loop-i-init : goal.loop-i-init
+loop-i-init c =
     let a = c.args in
-    record { within = omega arith; long = refl; room = omega arith; left = left_all a.lines.now a.selection.now a.chosen.now; count = left_length_all a.lines.now a.selection.now (length a.chosen.now) }
+    let e = none_yet a.lines.now a.selection.now (length a.chosen.now) in
+    record { front = ap (λ v. written v a.chosen.now) e; count = ap length e; room = omega arith }
 
-pub loop-j-preserved : goal.loop-j-preserved
-loop-j-preserved c =
+pub loop-i-preserved : goal.loop-i-preserved
+loop-i-preserved c =
     let a = c.args in
-    let l = c.loop-j in
-    let same : length l.chosen ≡ length a.chosen.now = l.invariant.long in
-    let t =
-    turn a.lines.now a.selection.now l.chosen c.copy.new.other (length a.chosen.now) l.at l.j _ _ _ (omega arith) c.begins-from.ensures c.lesser-whole.ensures
-    (c.lesser-n.ensures ∙ ap (λ (k : ℕ). min c.lesser-whole.result (k - l.at)) same) c.copy.ensures in
-    record { within = omega arith; long = search rules; room = omega arith; left = t.0 ∙ l.invariant.left; count = t.1 ∙ l.invariant.count }
-
-pub returns : goal.returns
-returns c =
-    let a = c.args in
-    let l = c.loop-j in
-    (sym (left_none a.lines.now a.selection.now l.chosen (length a.chosen.now) l.at l.j (omega arith)) ∙ l.invariant.left, sym (left_length_none a.lines.now a.selection.now (length a.chosen.now) l.at l.j (omega arith)) ∙ l.invariant.count)
+    let l = c.loop-i in
+    let room : l.at + c.min-n.result ≤ length a.chosen.now = omega arith in
+    let t = turn a.lines.now a.selection.now a.chosen.now l.chosen c.copy_from_slice.new.self l.at l.i-index c.begins.result c.min-n.result _ c.loop-i-test.true l.invariant.front l.invariant.count c.begins.ensures (search rules) (omega arith) (search rules) in
+    record { front = t.0; count = t.1; room = room }

@@ -1,40 +1,21 @@
 -- The parts of the line, each behind the other. Assumes nothing.
-use Rattle.std.proofs.Common.{arith}
-use Rattle.sizer.proofs.WantLaws.{ask_length, put_ask_parts}
+use Rattle.sizer.proofs.WantLaws.{want_room, places_room, kind_room, sizes_room, auto_room, puts_want}
 use Rattle.sizer.proofs.wants.put_want.Goals as goal
 
-pub put_bytes-a-requires : goal.put_bytes-a-requires
-put_bytes-a-requires c = omega (arith, c.requires.1, ask_length c.args.r.now c.requires.0)
-
-pub put_numbers-b-requires : goal.put_numbers-b-requires
-put_numbers-b-requires c = let w = c.put_bytes-a in omega (arith, c.requires.1, ask_length c.args.r.now c.requires.0, w.ensures.0, w.auto.out)
-
-pub put_kind-c-requires : goal.put_kind-c-requires
-put_kind-c-requires c =
-    let w = c.put_bytes-a in
-    let q = c.put_numbers-b in
-    omega (arith, c.requires.1, ask_length c.args.r.now c.requires.0, w.ensures.0, w.auto.out, q.ensures.0, q.auto.out)
-
-pub put_numbers-d-requires : goal.put_numbers-d-requires
-put_numbers-d-requires c =
-    let w = c.put_bytes-a in
-    let q = c.put_numbers-b in
-    let k = c.put_kind-c in
-    omega (arith, c.requires.1, ask_length c.args.r.now c.requires.0, w.ensures.0, w.auto.out, q.ensures.0, q.auto.out, k.ensures.0, k.auto.out)
-
 pub put_bytes-requires : goal.put_bytes-requires
-put_bytes-requires c =
-    let w = c.put_bytes-a in
-    let q = c.put_numbers-b in
-    let k = c.put_kind-c in
-    let z = c.put_numbers-d in
-    omega (arith, c.requires.1, ask_length c.args.r.now c.requires.0, w.ensures.0, w.auto.out, q.ensures.0, q.auto.out, k.ensures.0, k.auto.out, z.ensures.0, z.auto.out)
+put_bytes-requires c = want_room c.args.r.now c.requires.whole c.args.page.now c.requires.room
+
+pub put_numbers-requires : goal.put_numbers-requires
+put_numbers-requires c = places_room c.args.r.now c.requires.whole c.args.page.now c.requires.room _ c.put_bytes.ensures
+
+pub put_kind-requires : goal.put_kind-requires
+put_kind-requires c = kind_room c.args.r.now c.requires.whole c.args.page.now c.requires.room _ c.put_bytes.ensures _ c.put_numbers.ensures
+
+pub put_numbers-requires-2 : goal.put_numbers-requires-2
+put_numbers-requires-2 c = sizes_room c.args.r.now c.requires.whole c.args.page.now c.requires.room _ c.put_bytes.ensures _ c.put_numbers.ensures _ c.put_kind.ensures
+
+pub put_bytes-requires-2 : goal.put_bytes-requires-2
+put_bytes-requires-2 c = auto_room c.args.r.now c.requires.whole c.args.page.now c.requires.room _ c.put_bytes.ensures _ c.put_numbers.ensures _ c.put_kind.ensures _ c.put_numbers-2.ensures
 
 pub returns : goal.returns
-returns c =
-    let w = c.put_bytes-a in
-    let q = c.put_numbers-b in
-    let k = c.put_kind-c in
-    let z = c.put_numbers-d in
-    let u = c.put_bytes in
-    put_ask_parts c.args.r.now c.requires.0 c.args.out.now c.args.at w.result q.result k.result z.result u.result w.new.out q.new.out k.new.out z.new.out u.new.out w.ensures q.ensures k.ensures z.ensures u.ensures
+returns c = puts_want c.args.r.now c.requires.whole c.args.page.now _ _ _ _ _ c.put_bytes.ensures c.put_numbers.ensures c.put_kind.ensures c.put_numbers-2.ensures c.put_bytes-2.ensures

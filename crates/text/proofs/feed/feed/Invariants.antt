@@ -4,8 +4,8 @@ use Rattle.tables.specs.Views.{state_view}
 use Rattle.text.proofs.LoopLaws.{Left}
 use Rattle.text.proofs.feed.feed.Given as goal
 
-abbrev pub invariant-loop-l : goal.invariant-loop-l
-invariant-loop-l l = Left l.text (state_view l.fn.s) l.fn.results l.t (state_view l.s) l.results
+abbrev pub invariant-loop-s : goal.invariant-loop-s
+invariant-loop-s l = Left l.text (state_view l.fn.s) l.fn.results l.t (state_view l.s) l.results
 
-abbrev pub decreases-loop-l : goal.decreases-loop-l
-decreases-loop-l l = length l.text - l.t.at
+abbrev pub decreases-loop-s : goal.decreases-loop-s
+decreases-loop-s l = length l.text - l.t.at

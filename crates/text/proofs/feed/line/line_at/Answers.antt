@@ -7,10 +7,10 @@ pub returns-then-n-e : goal.returns-then-n-e
 returns-then-n-e c =
     let a = c.args in
     let e = c.find-e in
-    (sym (call_open a.text.now a.t.at e.result e.ensures c.if-n-e.true), sym (next_open a.text.now a.t.at e.result e.ensures c.if-n-e.true))
+    (sym (call_open a.text.now a.at e.result e.ensures c.if-n-e.true), sym (next_open a.text.now a.at e.result e.ensures c.if-n-e.true))
 
 pub returns : goal.returns
 returns c =
     let a = c.args in
     let e = c.find-e in
-    (c.read_line-call.ensures ∙ sym (call_closed a.text.now a.t.at e.result e.ensures c.if-n-e.false), sym (next_closed a.text.now a.t.at e.result e.ensures c.if-n-e.false))
+    (c.read_call.ensures ∙ sym (call_closed a.text.now a.at e.result e.ensures c.if-n-e.false), sym (next_closed a.text.now a.at e.result e.ensures c.if-n-e.false))
