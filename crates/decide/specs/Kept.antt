@@ -64,6 +64,15 @@ stored_in rows s =
       detail = s.detail;
     }
 
+-- rows, if there are any, and the five numbers, whatever they are
+abbrev pub kept_with : Option Rows → Said → State → State
+kept_with (Some rows) w s = said_in w (stored_in rows s)
+kept_with None w s = said_in w s
+
+abbrev pub RoomFor : Option Rows → Holders → Type 0
+RoomFor (Some rows) h = RowsFree rows h
+RoomFor None h = Unit {0}
+
 -- rows and zeros, or the numbers of a refusal
 abbrev pub kept : Result Granted Refusal → State → State
 kept (Ok g) s = said_in (saying 0 0 0 0) (stored_in g.rows s)

@@ -31,7 +31,7 @@ use Rattle.request.specs.declared.call.Hold.TheVariants as H
 use Rattle.request.specs.declared.call.Call.{Call}
 use Rattle.request.specs.declared.call.Call.TheVariants as C
 use Rattle.adding.specs.Adds.{keep_if, ranges_in, pool_adds, adds_of, FitCall}
-use Rattle.adding.specs.Judged.{judged, verdict_of, for_use, entered_view}
+use Rattle.adding.specs.Judged.{judged, verdict_of, same_to, for_use, entered_view}
 use Rattle.adding.specs.Looks.{pool_for, Adding}
 use Rattle.adding.specs.declared.Adds.{Adds}
 use Rattle.adding.specs.declared.Adds.TheVariants as A
@@ -63,6 +63,13 @@ puts_one u j r o k = ap (λ b. for_use o (keep_if b (u, r))) (same_in k j) ∙ g
     go U.Fixed U.Automatic false = refl
     go U.Fixed U.Fixed true = refl
     go U.Fixed U.Fixed false = refl
+
+-- a verdict on pools is for the use that the call names
+pub goes_to_use : (u v : Named) → same_to u v ≡ same_use (use_of v) (use_of u)
+goes_to_use U.Automatic U.Automatic = refl
+goes_to_use U.Automatic U.Fixed = refl
+goes_to_use U.Fixed U.Automatic = refl
+goes_to_use U.Fixed U.Fixed = refl
 
 -- the three of an MSI domain
 abbrev three : PoolRow → PoolRow → PoolRow → Kind → PoolRow

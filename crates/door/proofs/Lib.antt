@@ -1,5 +1,6 @@
 pub mod KindLaws
 pub mod KeptLaws
+pub mod ToldLaws
 pub mod GivenLaws
 pub mod AfterLaws
 pub mod HoldLaws

@@ -16,7 +16,7 @@ use Rattle.request.specs.declared.call.Use.TheVariants as U
 use Rattle.request.specs.declared.call.Call.{Call}
 use Rattle.request.specs.declared.call.Call.TheVariants as C
 use Rattle.lent_table.specs.Store.{Free, put_range, put_input}
-use Rattle.adding.specs.Adds.{ranges_in, rows_in, inputs_in}
+use Rattle.adding.specs.Adds.{adds_of, ranges_in, rows_in, inputs_in}
 use Rattle.adding.specs.Judged.{pool_put_of, held_put_of, input_put_of, entered_view}
 use Rattle.adding.specs.Looks.{Tells, TellsInput}
 use Rattle.adding.specs.declared.Adds.{Adds}
@@ -97,9 +97,10 @@ pub record Decides (s : State) (c : Call) (v : Verdict) : Type 0 where
   pub ready : Ready v s
   pub after : (t : State) → Kept v s t → state_view t ≡ apply_of (call_of c) (state_view s)
 
+-- every call that adds has a verdict
 abbrev pub Looks : State → Call → Option Verdict → Type 0
 Looks s c (Some v) = Decides s c v
-Looks s c None = (c ≡ C.Start → ⊥) → state_view s ≡ apply_of (call_of c) (state_view s)
+Looks s c None = (None ≡ adds_of c) × ((c ≡ C.Start → ⊥) → state_view s ≡ apply_of (call_of c) (state_view s))
 
 -- what all tables answer to a call
 pub record AllTell (s : State) (q : Adds) (r : Replies) : Type 0 where

@@ -1,19 +1,21 @@
 // A call that adds, or starts, on a lent state whose pools and reservations are sound, in place: tables are read through references, and only those of the call's use and kinds are written.
 ghost use Rattle.std.specs.Prelude.{◌≡◌, T as Holds};
-ghost use Rattle.definition.specs.Tables.{kinds};
+ghost use Rattle.definition.specs.Tables.{kinds, nature};
 ghost use Rattle.definition.specs.Calls.{given, saying, starting};
-ghost use Rattle.tables.specs.Views.{pool_view, state_view};
+ghost use Rattle.tables.specs.Views.{kind_of, pool_view, state_view};
 ghost use Rattle.insert.specs.Answers.{heard};
 ghost use Rattle.request.specs.Calls.{call_of};
-ghost use Rattle.adding.specs.Looks.{Tidy};
+ghost use Rattle.adding.specs.Adds.{ranges_in, rows_in};
+ghost use Rattle.adding.specs.Looks.{Tidy, Fit, Tells};
 ghost use Rattle.adding.specs.Judged.{entered_view};
 ghost use Rattle.door.specs.Kept.{TidyPools, held_with, HeldFree, with_held, with_owners, PoolsKept, Kept, Ready, Looks};
 ghost use Rattle.door.specs.Applied.{apply_of};
 
-use adding::{Replies, Verdict, answer};
+use adding::{Adds, Replies, Verdict, answer};
 use insert::Reply;
 use request::call::{Call, Use};
-use tables::{Kind, Pool, PoolRow, Pools, State};
+use table_tests::limits::limits_of;
+use tables::{Kind, Pool, PoolRow, Pools, Ranges, State};
 
 // ---- what is stored
 
@@ -103,6 +105,14 @@ pub fn start(s: &mut State)
 
 // ---- a call
 
+// What the tables of a kind answer, whose ranges start where the kind says.
+fn told(kind: Kind, auto: &Pool, fixed: &Pool, held: &Ranges, q: Adds) -> Reply
+    requires { Fit auto.now fixed.now held.now.n }
+    ensures { Tells auto.now fixed.now held.now (nature (kind_of kind)).floor (ranges_in q kind) (rows_in q kind) result }
+{
+    answer::range(kind, auto, fixed, held, limits_of(kind).floor, q)
+}
+
 // What comes of a call that adds: nothing is stored yet.
 pub fn look(s: &State, c: Call) -> Option<Verdict>
     requires { Holds (given kinds (state_view s.now)) }
@@ -111,13 +121,19 @@ pub fn look(s: &State, c: Call) -> Option<Verdict>
     let q = adding::asked(c)?;
     let (a, f, h) = (&s.auto, &s.fixed, &s.held);
     let replies = Replies {
-        mmio: answer::range(Kind::Mmio, &a.mmio, &f.mmio, &h.mmio, q),
-        pio: answer::range(Kind::Pio, &a.pio, &f.pio, &h.pio, q),
-        input: answer::input(&a.input, &f.input, &h.input, q),
-        host: answer::range(Kind::Host, &a.host, &f.host, &h.host, q),
-        device: answer::range(Kind::Device, &a.device, &f.device, &h.device, q),
-        event: answer::range(Kind::Event, &a.event, &f.event, &h.event, q),
-        lpi: answer::range(Kind::Lpi, &a.lpi, &f.lpi, &h.lpi, q),
+        mmio: told(Kind::Mmio, &a.mmio, &f.mmio, &h.mmio, q),
+        pio: told(Kind::Pio, &a.pio, &f.pio, &h.pio, q),
+        input: answer::input(
+            &a.input,
+            &f.input,
+            &h.input,
+            limits_of(Kind::Input).floor,
+            q,
+        ),
+        host: told(Kind::Host, &a.host, &f.host, &h.host, q),
+        device: told(Kind::Device, &a.device, &f.device, &h.device, q),
+        event: told(Kind::Event, &a.event, &f.event, &h.event, q),
+        lpi: told(Kind::Lpi, &a.lpi, &f.lpi, &h.lpi, q),
     };
     Some(adding::judge(q, replies))
 }

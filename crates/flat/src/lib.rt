@@ -23,6 +23,16 @@ fn narrow(n: u64) -> Option<u32>
     u32::try_from(n).ok()
 }
 
+// Code 0 leaves the choice to the planner, any other names the number.
+pub fn choice_of(code: u64, n: u64) -> Choice<u64>
+    ensures { choice_of result ≡ choice_at code n }
+{
+    if code == 0 {
+        return Choice::Auto;
+    }
+    Choice::Fixed(n)
+}
+
 // A choice as the caller's list has it: code 0 leaves it to the planner, code 1 asks for the number. Not an Option: another code can't be read, and pinning writes both.
 #[derive(Clone, Copy, Debug, PartialEq, Eq)]
 pub struct Coded {
@@ -35,11 +45,7 @@ impl Coded {
     pub fn choice(self) -> Option<Choice<u64>>
         ensures { option_map choice_of result ≡ if_read (known self.code) (choice_at self.code self.number) }
     {
-        match self.code {
-            0 => Some(Choice::Auto),
-            1 => Some(Choice::Fixed(self.number)),
-            _ => None,
-        }
+        (self.code <= 1).then_some(choice_of(self.code, self.number))
     }
 
     // A DeviceID, an EventID or an LPI: a number that is asked for has 32 bits.

@@ -7,15 +7,15 @@ ghost use Rattle.definition.specs.Calls.{sound};
 ghost use Rattle.tables.specs.Views.{state_view};
 ghost use Rattle.request.specs.Asked.{request_of};
 ghost use Rattle.decide.specs.Outcome.{bases_in, after};
-ghost use Rattle.decide.specs.Kept.{RowsFree, Room, said_in, stored_in, kept, answer};
+ghost use Rattle.decide.specs.Kept.{RowsFree, RoomFor, said_in, stored_in, kept_with, answer};
 
-use choose::Refusal;
-use decide::{Bases, Granted, Rows};
+use decide::{Bases, Rows};
 use lent_table::store::{push_input, push_range};
 use request::{Request, Said};
 use tables::State;
 
 pub mod marks; // marks.rt: what is read of a state, and rows taken out of it
+mod wired; // wired.rt: .. out of the table of inputs
 
 // The five numbers of an answer that names no request.
 pub fn say(s: &mut State, said: Said)
@@ -46,18 +46,15 @@ pub fn store(s: &mut State, rows: Rows)
     }
 }
 
-// What was granted, stored, or why nothing was; and what is said of it.
-pub fn keep(s: &mut State, found: Result<Granted, Refusal>)
-    requires { Room found s.old.owners }
-    ensures { s.new ≡ kept found s.old }
+// Rows, if there are any, stored, and what is said beside them.
+pub fn keep(s: &mut State, rows: Option<Rows>, said: Said)
+    requires { RoomFor rows s.old.owners }
+    ensures { s.new ≡ kept_with rows said s.old }
 {
-    match found {
-        Ok(granted) => {
-            store(s, granted.rows);
-            say(s, Said::plain(0));
-        }
-        Err(refusal) => say(s, Said::from(refusal)),
+    if let Some(rows) = rows {
+        store(s, rows);
     }
+    say(s, said);
 }
 
 // One request: the state afterwards is the definition's, and the first numbers of the rows are answered, if it is accepted.
@@ -65,7 +62,14 @@ pub fn resolve(s: &mut State, r: Request) -> Option<Bases>
     requires { T (sound kinds (state_view s.old)) }
     ensures { (state_view s.new ≡ after (state_view s.old) (answer s.old (request_of r))) × (result ≡ bases_in (request_of r).want (answer s.old (request_of r))) }
 {
-    let found = decide::find(s, r);
-    keep(s, found);
-    found.ok().map(|granted| granted.bases)
+    match decide::find(s, r) {
+        Ok(granted) => {
+            keep(s, Some(granted.rows), Said::plain(0));
+            Some(granted.bases)
+        }
+        Err(refusal) => {
+            keep(s, None, Said::from(refusal));
+            None
+        }
+    }
 }

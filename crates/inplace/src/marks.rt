@@ -1,11 +1,11 @@
 // A lent state: the counts and the numbers that are read of it, and rows taken out of its owner tables, in place.
 ghost use Rattle.std.specs.Prelude.{◌≡◌, ◌<◌, get_or, map};
 ghost use Rattle.definition.specs.Tables.{row_limit, kinds};
-ghost use Rattle.inplace.specs.Cut.{goes, Layout, Closes, of_ranges, of_inputs, ranges_close, inputs_close};
+ghost use Rattle.inplace.specs.Cut.{goes, Layout, Closes, of_ranges, ranges_close};
 ghost use Rattle.inplace.specs.Marks.{counts_in, marks_by, marks_of, reserved_of, taken_out};
 
-use lent_table::store::{set_input, set_range};
-use tables::{Holders, InputRow, Inputs, ROWS, RangeRow, Ranges, State};
+use lent_table::store::set_range;
+use tables::{Holders, ROWS, RangeRow, Ranges, State};
 
 // The row counts of seven tables, and the five numbers of the last answer: as they stand in the state, read one by one.
 #[derive(Clone, Copy, Debug, PartialEq, Eq)]
@@ -92,34 +92,6 @@ impl Rows for Ranges {
         let row = self.row(k);
         self.clear(k);
         set_range(self, to, row);
-    }
-
-    fn cut(&mut self, n: usize) {
-        self.n = n;
-    }
-}
-
-impl Rows for Inputs {
-    ghost layout = { of_inputs };
-
-    ghost closes = { inputs_close };
-
-    fn len(&self) -> usize {
-        self.n
-    }
-
-    fn owner(&self, k: usize) -> u32 {
-        self.owner[k]
-    }
-
-    fn clear(&mut self, k: usize) {
-        set_input(self, k, InputRow::default());
-    }
-
-    fn shift(&mut self, k: usize, to: usize) {
-        let row = self.row(k);
-        self.clear(k);
-        set_input(self, to, row);
     }
 
     fn cut(&mut self, n: usize) {

@@ -79,7 +79,7 @@ impl RangeTables {
     }
 
     // Whether the tables of a kind of ranges are sound.
-    fn is_sound(&self, kind: Kind) -> bool
+    pub fn is_sound(&self, kind: Kind) -> bool
         ensures { result ≡ set_of (kind_of kind) self.now }
     {
         ranges_set(kind, &self.auto, &self.fixed, &self.held, &self.owners)
@@ -88,7 +88,7 @@ impl RangeTables {
 
 impl InputTables {
     // Whether all tables of inputs are sound.
-    fn is_sound(&self) -> bool
+    pub fn is_sound(&self) -> bool
         ensures { result ≡ set_inputs self.now.auto self.now.fixed self.now.held self.now.owners }
     {
         inputs_set(&self.auto, &self.fixed, &self.held, &self.owners)
@@ -98,7 +98,7 @@ impl InputTables {
 impl MsiTables {
     // Whether the tables of all three kinds are sound.
     #[tactic(auto, unfolding(crate::specs::Msis::set_msi))]
-    fn is_sound(&self) -> bool
+    pub fn is_sound(&self) -> bool
         ensures { result ≡ set_msi self.now }
     {
         self.device.is_sound(Kind::Device)

@@ -132,7 +132,7 @@ within_more : (i v : ℕ) (xs : List Field) (ns : List ℕ) → Within i xs ns �
 within_more i v [] ns w = tt
 within_more i v (x ∷ xs) ns (p, q) = (p, within_more (suc i) v xs ns q)
 
-row_within : (form : List Field) (fs : List (List ℕ)) (ns : List ℕ) → Some ns ≡ row_of (numbers_by field_says form fs) → Within 0 form ns
+pub row_within : (form : List Field) (fs : List (List ℕ)) (ns : List ℕ) → Some ns ≡ row_of (numbers_by field_says form fs) → Within 0 form ns
 unfolding numbers_by ◌and_then◌
 row_within [] fs ns e = tt
 row_within (x ∷ xs) [] ns e = absurd (let z : ◌≡◌ {A = ℕ} 0 1 = cc in omega arith)

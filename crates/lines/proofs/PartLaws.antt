@@ -8,7 +8,7 @@ use native.Mathlib.Numerals.{add-one}
 use native.Mathlib.Decide.{dec_lt}
 use lib.Dec.{eqb}
 use lib.ListN.{length, take, drop, length-drop}
-use lib.Seq.{take_all, drop-drop}
+use lib.Seq.{take_all, drop-drop, length-take-le}
 use borrow.Author.Tests.{eq-eqb, ne_eqb}
 use Rattle.std.specs.Prelude.{Option, None, Some, MatchOption, unwrap_or, ◌≢◌}
 use Rattle.std.specs.Str.{bytes_eq}
@@ -126,3 +126,7 @@ split_some c (x ∷ xs) = go (eqb x c) (split c xs)
     go true qs = ([], qs, refl)
     go false [] = (x ∷ [], [], refl)
     go false (q ∷ qs) = (x ∷ q, qs, refl)
+
+-- a part has its own length
+pub part_length : (c : ℕ) (s : List ℕ) (e : ℕ) → e ≡ 0 + first c (drop 0 s) → e ≡ length (take e s)
+part_length c s e end = sym (length-take-le e s (omega (arith, first_within c s)))

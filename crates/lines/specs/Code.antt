@@ -51,6 +51,11 @@ abbrev pub row_of : Option (List ℕ) → code.Option (List ℕ)
 row_of none = code.None
 row_of (some ns) = code.Some ns
 
+-- .. as they stand in a list that was lent, if they were read
+abbrev pub filled : {A : Type 0} → code.Option A → List ℕ → code.Option (List ℕ)
+filled code.None ns = code.None
+filled (code.Some u) ns = code.Some ns
+
 -- P of what the answers of a function say, where they say it of a field and an x
 abbrev pub ReadAs : {A : Type 0} → (Bor (List ℕ) → A → code.Option ℕ → Type 0) → ((A → List ℕ → Option ℕ) → Type 0) → Type 0
 ReadAs {A} Answers P = (says : A → List ℕ → Option ℕ) → ((f : Bor (List ℕ)) (x : A) (r : code.Option ℕ) → Answers f x r → number_says r ≡ says x f.now) → P says

@@ -5,10 +5,15 @@ use Rattle.definition.specs.Tables.{pool_limit, row_limit, Kind, good_span, used
 use Rattle.tables.specs.Views.{pool_view}
 use Rattle.tables.specs.declared.Pool.{Pool}
 use Rattle.tables.specs.declared.Ranges.{Ranges}
+use Rattle.tables.specs.declared.DeviceId.{DeviceId}
+use Rattle.search.specs.Asks.{need_of}
 use Rattle.search.specs.Finds.{InOrder}
+use Rattle.choose.specs.Told.{told}
+use Rattle.choose.specs.Ids.{event_choice, lpi_choice}
+use Rattle.choose.specs.declared.Run.{Run}
 use Rattle.choose.specs.declared.Refusal.{Refusal}
 use Rattle.choose.specs.declared.Refusal.TheVariants.{Full}
-use Rattle.msi.specs.Msi.{all_room, part, told_msi, msi_in}
+use Rattle.msi.specs.Msi.{event_need, lpi_need, all_room, part, place_part, told_msi, msi_in}
 use Rattle.msi.specs.declared.Msi.{Msi}
 use Rattle.msi.specs.declared.MsiIds.{MsiIds}
 
@@ -18,6 +23,14 @@ pub record Ready (k : Kind) (a f : Pool) (t : Ranges) : Type 0 where
   pub fixed : f.n ≤ pool_limit
   pub rows : t.n ≤ row_limit
   pub goods : T (all_of (good_span k) (used (pool_view a)))
+
+-- the run is what the tables of events answer for the device: its events stand
+abbrev pub EventsStand : Pool → Pool → Ranges → Msi → DeviceId → Run → Type 0
+EventsStand a f t m d run = told (need_of (event_need m d)) (Ok run) ≡ place_part (part a f t) (need_of (event_need m d)) (event_choice m.event)
+
+-- what the tables of LPIs answer
+abbrev pub LpisAre : Pool → Pool → Ranges → Msi → Result Run Refusal → Type 0
+LpisAre a f t m r = told (need_of (lpi_need m)) r ≡ place_part (part a f t) (need_of (lpi_need m)) (lpi_choice m.lpi)
 
 -- what stands has a free row in each table
 abbrev pub RoomIs : MsiIds → ℕ → ℕ → ℕ → Result MsiIds Refusal → Type 0

@@ -18,6 +18,7 @@ use Rattle.search.specs.declared.Need.{Need}
 use Rattle.choose.specs.Told.{refusal_of, place_in}
 use Rattle.choose.specs.Ids.{device_choice, event_choice, lpi_choice}
 use Rattle.choose.specs.declared.Refusal.{Refusal}
+use Rattle.choose.specs.declared.Refusal.TheVariants.{Full}
 use Rattle.msi.specs.declared.Msi.{Msi}
 use Rattle.msi.specs.declared.MsiIds.{MsiIds}
 use Rattle.msi.specs.declared.MsiRows.{MsiRows}
@@ -48,6 +49,17 @@ narrowed b = if_fits (ltb b (2 ^ 32)) b
 -- each of the three tables has a free row
 abbrev pub all_room : ℕ → ℕ → ℕ → Bool
 all_room dn en ln = ltb dn row_limit && (ltb en row_limit && ltb ln row_limit)
+
+abbrev pub pick_room : Bool → MsiIds → Result MsiIds Refusal
+pick_room true ids = Ok ids
+pick_room false ids = Err Full
+
+-- each refusal in its turn, and room last
+abbrev pub chained : Result DeviceId Refusal → Result EventId Refusal → Result Lpi Refusal → ℕ → ℕ → ℕ → Result MsiIds Refusal
+chained (Err y) second third dn en ln = Err y
+chained (Ok d) (Err y) third dn en ln = Err y
+chained (Ok d) (Ok e) (Err y) dn en ln = Err y
+chained (Ok d) (Ok e) (Ok l) dn en ln = pick_room (all_room dn en ln) (record { device = d; event = e; lpi = l })
 
 -- the row of a need from a number on
 abbrev pub row_from : Need → ℕ → RangeRow

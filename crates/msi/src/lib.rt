@@ -2,15 +2,15 @@
 #![tactic(auto)]
 
 ghost use Rattle.std.specs.Prelude.{◌≡◌, ◌≤◌, ◌<◌, IfOk};
-ghost use Rattle.msi.specs.Msi.{device_need, event_need, lpi_need, narrowed, row_from, rows_of};
+ghost use Rattle.msi.specs.Msi.{device_need, event_need, lpi_need, narrowed, chained, row_from, rows_of};
 ghost use Rattle.tables.specs.Sized.{SizedRanges};
-ghost use Rattle.msi.specs.Finds.{Ready, Found, RoomIs};
+ghost use Rattle.msi.specs.Finds.{Ready, EventsStand, LpisAre, Found, RoomIs};
 ghost use Rattle.definition.specs.Tables.{device as devices_kind, event as events_kind, lpi as lpis_kind};
 
 use choose::range::place;
 use choose::{Choice, Lent, Refusal, Run};
 use search::Need;
-use tables::{DeviceId, EventId, Id, Kind, Lpi, RangeRow, Ranges};
+use tables::{DeviceId, EventId, Id, Kind, Lpi, ROWS, RangeRow, Ranges};
 
 const TOP_32: u64 = 4294967295;
 
@@ -129,6 +129,51 @@ pub fn with_room(
     }
 }
 
+// The refusal of the device, then of its events, then of the LPIs, then Full: of three answers that are there already, whatever tables they are of.
+pub fn chain(
+    first: Result<DeviceId, Refusal>,
+    second: Result<EventId, Refusal>,
+    third: Result<Lpi, Refusal>,
+    devices: usize,
+    events: usize,
+    lpis: usize,
+) -> Result<MsiIds, Refusal>
+    ensures { result ≡ chained first second third devices events lpis }
+{
+    match first {
+        Err(y) => Err(y),
+        Ok(device) => match second {
+            Err(y) => Err(y),
+            Ok(event) => match third {
+                Err(y) => Err(y),
+                Ok(lpi) => {
+                    if devices < ROWS && events < ROWS && lpis < ROWS {
+                        Ok(MsiIds { device, event, lpi })
+                    } else {
+                        Err(Refusal::Full)
+                    }
+                }
+            },
+        },
+    }
+}
+
+// The third turn, which comes only where the device's run of events stands: till then no LPI is looked for.
+fn lpis_behind(
+    events: Lent<'_, Ranges>,
+    run: Run,
+    lpis: Lent<'_, Ranges>,
+    m: Msi,
+    device: DeviceId,
+) -> Result<Run, Refusal>
+    requires lpis { Ready lpis_kind lpis.auto.now lpis.fixed.now lpis.owners.now }
+    requires some { 0 < m.count }
+    requires stands { EventsStand events.auto.now events.fixed.now events.owners.now m device run }
+    ensures { LpisAre lpis.entry.auto.now lpis.entry.fixed.now lpis.entry.owners.now m result }
+{
+    place(lpis, lpi_need(m), m.lpi.plain())
+}
+
 // The refusal of the device, then of its events, then of the LPIs, then Full. Behind a refusal nothing is looked at.
 pub fn find(
     devices: Lent<'_, Ranges>,
@@ -144,8 +189,9 @@ pub fn find(
     ensures sized { IfOk result (λ _. SizedRanges devices.entry.owners.now × (SizedRanges events.entry.owners.now × SizedRanges lpis.entry.owners.now)) }
 {
     let device: DeviceId = first_of(place(devices, device_need(m), m.device.plain())?);
-    let event: EventId = first_of(place(events, event_need(m, device), m.event.plain())?);
-    let lpi: Lpi = first_of(place(lpis, lpi_need(m), m.lpi.plain())?);
+    let run = place(events, event_need(m, device), m.event.plain())?;
+    let event: EventId = first_of(run);
+    let lpi: Lpi = first_of(lpis_behind(events, run, lpis, m, device)?);
     let ids = MsiIds { device, event, lpi };
     with_room(ids, devices.owners, events.owners, lpis.owners)
 }

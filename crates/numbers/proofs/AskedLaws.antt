@@ -12,6 +12,12 @@ abbrev pub chain : (on c : Bool) (kind : ℕ) → (ℕ → List ℕ) → Option 
 chain on c kind row before zero = before
 chain on c kind row before (suc q) = pick (on && (c && eqb kind (suc q))) (row (suc q)) (chain on c kind row before q)
 
+-- .. one table after another
+pub seven : (on c : Bool) (kind : ℕ) (row : ℕ → List ℕ) (x₀ x₁ x₂ x₃ x₄ x₅ x₆ x₇ : Option (List ℕ))
+    → x₁ ≡ pick (on && (c && eqb kind 1)) (row 1) x₀ → x₂ ≡ pick (on && (c && eqb kind 2)) (row 2) x₁ → x₃ ≡ pick (on && (c && eqb kind 3)) (row 3) x₂ → x₄ ≡ pick (on && (c && eqb kind 4)) (row 4) x₃
+    → x₅ ≡ pick (on && (c && eqb kind 5)) (row 5) x₄ → x₆ ≡ pick (on && (c && eqb kind 6)) (row 6) x₅ → x₇ ≡ pick (on && (c && eqb kind 7)) (row 7) x₆ → x₇ ≡ chain on c kind row x₀ 7
+seven on c kind row x₀ x₁ x₂ x₃ x₄ x₅ x₆ x₇ e₁ e₂ e₃ e₄ e₅ e₆ e₇ = rw (e₇, e₆, e₅, e₄, e₃, e₂, e₁)
+
 chained : (on c : Bool) (kind : ℕ) (row : ℕ → List ℕ) (before : Option (List ℕ)) → chain on c kind row before 7 ≡ pick (on && (c && (ltb 0 kind && leb kind 7))) (row kind) before
 chained false c kind row before = refl
 chained true false kind row before = refl

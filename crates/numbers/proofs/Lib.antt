@@ -1,3 +1,5 @@
+pub mod SizeLaws
+pub mod NarrowLaws
 pub mod ReadLaws
 pub mod AskedLaws
 pub mod LentLaws

@@ -1,6 +1,6 @@
 -- A row as numbers: what the columns hold is what the view holds. Assumes nothing.
 use Rattle.std.proofs.Common.{◌≡◌, ℕ, ◌<◌, Bool, true, false, ltb, List, ◌∷◌, get_or, Some, None, sym, ap, ◌∙◌}
-use Rattle.std.proofs.Math.Option.{some, none}
+use Rattle.std.proofs.Math.Option.{Option, some, none}
 use borrow.Author.Tests.{ltb-true}
 use Rattle.definition.specs.Tables.{pool_limit, row_limit, Kind, nature, input, Span, Row, blank_span, blank_row}
 use Rattle.tables.specs.Views.{span_of, range_of, input_of, pool_at, range_at, input_at, pool_view, ranges_view, inputs_view}
@@ -34,25 +34,29 @@ input_row_is t i l r e = ap (λ (r : Row). t.n ∷ row_numbers true r) (ap input
 below : (i n : ℕ) → ltb i n ≡ true → i < n
 below i n e = ltb-true i n e
 
-told : (b : Bool) → b ≡ true → (xs ys : List ℕ) → xs ≡ ys → some xs ≡ pick b ys none
-told true e xs ys p = ap some p
-told false e xs ys p = cc
+-- the row that was asked for, or what was found before
+pub picked : (b : Bool) → b ≡ true → (xs ys : List ℕ) (before : Option (List ℕ)) → xs ≡ ys → some xs ≡ pick b ys before
+picked true e xs ys before p = ap some p
+picked false e xs ys before p = cc
+
+pub passed : (b : Bool) → b ≡ false → (ys : List ℕ) (before : Option (List ℕ)) → before ≡ pick b ys before
+passed b e ys before = sym (ap (λ (c : Bool). pick c ys before) e)
 
 -- past its end
 pub not_told : (b : Bool) (i : ℕ) (xs : List ℕ) → None ≡ if_read b i → none ≡ pick b xs none
-not_told b i xs e = sym (ap (λ (c : Bool). pick c xs none) (none_read b i e))
+not_told b i xs e = passed b (none_read b i e) xs none
 
 pub pool_told : (t : Pool) (i k : ℕ) (r : PoolRow) → Some k ≡ if_read (ltb i pool_limit) i → r ≡ pool_at t k → some (t.n ∷ span_numbers (span_of r)) ≡ pick (ltb i pool_limit) (pool_row (pool_view t) i) none
 pool_told t i k r e f =
     let (b, z) = some_read _ _ _ e in
-    told _ b _ _ (pool_row_is t i (below i _ b) r (f ∙ ap (pool_at t) z))
+    picked _ b _ _ none (pool_row_is t i (below i _ b) r (f ∙ ap (pool_at t) z))
 
 pub range_told : (t : Ranges) (i k : ℕ) (r : RangeRow) → Some k ≡ if_read (ltb i row_limit) i → r ≡ range_at t k → FoundRange (ltb i row_limit) (ranges_view t) i (some (t.n ∷ row_numbers false (range_of r)))
 range_told t i k r e f q w =
     let (b, z) = some_read _ _ _ e in
-    told _ b _ _ (range_row_is t i (below i _ b) r (f ∙ ap (range_at t) z) q w)
+    picked _ b _ _ none (range_row_is t i (below i _ b) r (f ∙ ap (range_at t) z) q w)
 
 pub input_told : (t : Inputs) (i k : ℕ) (r : InputRow) → Some k ≡ if_read (ltb i row_limit) i → r ≡ input_at t k → some (t.n ∷ row_numbers true (input_of r)) ≡ pick (ltb i row_limit) (input_row (inputs_view t) i) none
 input_told t i k r e f =
     let (b, z) = some_read _ _ _ e in
-    told _ b _ _ (input_row_is t i (below i _ b) r (f ∙ ap (input_at t) z))
+    picked _ b _ _ none (input_row_is t i (below i _ b) r (f ∙ ap (input_at t) z))

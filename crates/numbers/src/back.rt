@@ -1,5 +1,5 @@
 // What is read back of a state: which part of it a list of numbers asks for, and what was found, told into a lent list; and what an exported plan answers with.
-ghost use Rattle.std.specs.Prelude.{◌≡◌, Ok};
+ghost use Rattle.std.specs.Prelude.{◌≡◌};
 ghost use Rattle.tables.specs.Views.{state_view};
 ghost use Rattle.numbers.specs.Rows.{told};
 ghost use Rattle.numbers.specs.Lent.{filled_by, read_told};
@@ -35,10 +35,11 @@ fn tell_row(found: Option<Numbers>, out: &mut [u64]) -> Reply
     put(&found.ok_or(Refused::BadInput)?, out)
 }
 
-// What was read, told: the last answer, or the row.
-pub fn tell_read(k: Which, m: Marks, x: Option<Numbers>, out: &mut [u64]) -> Reply
-    ensures { told (code_of result) out.new ≡ read_by (Ok k) m (found_of x) out.old }
+// What was read, told: the last answer, or the row; of a list too short to ask, why.
+pub fn tell_read(k: Result<Which, Refused>, m: Marks, x: Option<Numbers>, out: &mut [u64]) -> Reply
+    ensures { told (code_of result) out.new ≡ read_by k m (found_of x) out.old }
 {
+    let k = k?;
     if k.part == 0 {
         tell(m, out)
     } else {
@@ -51,8 +52,12 @@ pub fn tell_read(k: Which, m: Marks, x: Option<Numbers>, out: &mut [u64]) -> Rep
 pub fn read(s: &State, what: &[u64], out: &mut [u64]) -> Reply
     ensures { told (code_of result) out.new ≡ read_told what.now (state_view s.now) out.old }
 {
-    let k = which(what)?;
-    tell_read(k, peek(s), row(s, k), out)
+    let k = which(what);
+    let found = match k {
+        Ok(k) => row(s, k),
+        Err(_) => None,
+    };
+    tell_read(k, peek(s), found, out)
 }
 
 // How many numbers of its results a plan has filled: nine a request, of all its requests or of those before the refused one.

@@ -1,13 +1,13 @@
 -- The size that a mask says, by the code's test of it. Assumes nothing.
-use Rattle.std.proofs.Common.{◌≡◌, ℕ, zero, suc, ◌+◌, ◌-◌, ◌*◌, ◌/◌, ◌%◌, ◌^◌, ◌<◌, ◌≤◌, Bool, eqb, refl, sym, ap, ◌∙◌, arith, eq-eqb, ne_eqb, eqb→eq, mod-eq_of_lt}
+use Rattle.std.proofs.Common.{◌≡◌, ℕ, zero, suc, ◌+◌, ◌-◌, ◌*◌, ◌/◌, ◌%◌, ◌^◌, ◌<◌, ◌≤◌, Bool, true, false, T, ltb, eqb, refl, sym, ap, subst, ◌∙◌, ltb→lt, arith, eq-eqb, ne_eqb, eqb→eq, mod-eq_of_lt}
 use Rattle.std.specs.Int.Count.{count_leading_zeros, count_trailing_zeros, under, leading_unique}
 use Rattle.std.proofs.lemmas.Nat.{pow_pos, div-mul-add, leading_length}
 use Rattle.std.proofs.Math.Nat.{suc-mul}
 use Rattle.std.proofs.Math.Pow.{pow_mono}
 use lib.Pow.{pow-add}
 use Rattle.definition.specs.Base.{bad_mask, Answer, accepted, refused, require}
-use Rattle.definition.proofs.BaseLaws.{t_ext, eq→eqb}
-use Rattle.definition.specs.Registers.{good_mask, size_of}
+use Rattle.definition.proofs.BaseLaws.{and_l, t_ext, eq→eqb}
+use Rattle.definition.specs.Registers.{topped, good_mask, size_of}
 use Rattle.definition.proofs.MaskLaws.{mask_zeros}
 
 -- ---- the machine's counts are of 64 bits: a narrower number has so many leading zeros more, and as many trailing ones
@@ -41,6 +41,22 @@ ones_of width l =
     parts zero b n h k e = absurd (omega arith)
     parts (suc a) b n h k e = let z : suc a - 1 ≡ a = omega arith in omega (arith, suc-mul a b, ap (λ x. x * b) z)
 
+pub lacking_is : (width m : ℕ) → width ≤ 64 → 0 < m → m < 2 ^ width → (18446744073709551615 / 2 ^ (64 - width) - m + 1) % 2 ^ 64 ≡ 2 ^ width - m
+lacking_is width m l p h =
+    let e : 18446744073709551615 / 2 ^ (64 - width) - m + 1 ≡ 2 ^ width - m = omega (arith, ones_of width l) in
+    let low : 18446744073709551615 / 2 ^ (64 - width) - m + 1 < 2 ^ 64 = omega (arith, e, pow_mono {i = width} {j = 64} l) in
+    mod-eq_of_lt low ∙ e
+
+-- ---- a mask that is one
+
+pub mask_zero : (width m : ℕ) → m ≡ 0 → good_mask width m ≡ false
+unfolding good_mask
+mask_zero width m e = ap (good_mask width) e
+
+pub mask_pos : (width m : ℕ) → good_mask width m ≡ true → 0 < m
+unfolding good_mask
+mask_pos width m e = ltb→lt 0 m (and_l (ltb 0 m) (topped (width - 1) m) (subst T (sym e) tt))
+
 module _ (width m : ℕ) where
   abbrev tested : Bool → Answer ℕ
   tested b = require b bad_mask (accepted (2 ^ width - m))
@@ -49,29 +65,23 @@ module _ (width m : ℕ) where
   unfolding size_of require good_mask
   size_none e = rw e refl
 
-  module _ (l : width ≤ 64) (n : m ≡ 0 → ⊥) (h : m < 2 ^ width) where
-    abbrev inverted : ℕ
-    inverted = 18446744073709551615 / 2 ^ (64 - width) - m
-
+  module _ (l : width ≤ 64) (n : m ≡ 0 → ⊥) (h : m < 2 ^ width) (size : ℕ) (is : size ≡ 2 ^ width - m) where
     abbrev zeros : ℕ
-    zeros = count_leading_zeros 64 inverted + count_trailing_zeros 64 m
+    zeros = count_leading_zeros 64 (size - 1) + count_trailing_zeros 64 m
 
-    inverted_is : inverted ≡ (2 ^ width - 1) - m
-    inverted_is = omega (arith, ones_of width l)
+    inverted_is : size - 1 ≡ (2 ^ width - 1) - m
+    inverted_is = omega (arith, is)
 
     good_is : good_mask width m ≡ eqb zeros 64
     good_is =
         let x : ℕ = (2 ^ width - 1) - m in
-        let lead : count_leading_zeros 64 inverted ≡ (64 - width) + count_leading_zeros width x = ap (count_leading_zeros 64) inverted_is ∙ leading_wide width x l (omega arith) in
+        let lead : count_leading_zeros 64 (size - 1) ≡ (64 - width) + count_leading_zeros width x = ap (count_leading_zeros 64) inverted_is ∙ leading_wide width x l (omega arith) in
         mask_zeros width m h (omega arith) ∙ eqb_more (count_leading_zeros width x + count_trailing_zeros width m) zeros (64 - width) width (omega (arith, lead, trailing_wide width 64 m l (omega arith) h)) (omega arith)
 
     pub size_bad : (zeros ≡ 64 → ⊥) → refused bad_mask ≡ size_of width m
     unfolding size_of require
     size_bad e = sym (ap tested (good_is ∙ ne_eqb zeros 64 e))
 
-    pub size_good : zeros ≡ 64 → accepted ((inverted + 1) % 2 ^ 64) ≡ size_of width m
+    pub size_good : zeros ≡ 64 → accepted size ≡ size_of width m
     unfolding size_of require
-    size_good e =
-        let size : inverted + 1 ≡ 2 ^ width - m = omega (arith, inverted_is) in
-        let low : inverted + 1 < 2 ^ 64 = omega (arith, size, pow_mono {i = width} {j = 64} l) in
-        ap accepted (mod-eq_of_lt low ∙ size) ∙ sym (ap tested (good_is ∙ eq-eqb zeros 64 e))
+    size_good e = ap accepted is ∙ sym (ap tested (good_is ∙ eq-eqb zeros 64 e))

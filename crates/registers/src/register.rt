@@ -5,7 +5,7 @@ ghost use Rattle.definition.specs.Registers.{register_of, takes_next, memory_mas
 ghost use Rattle.flat.specs.Flat.{numbers_of_want};
 ghost use Rattle.registers.specs.Told.{register_said, want_of, asked_said, next_said};
 
-use crate::fault::Fault;
+pub use crate::fault::Fault;
 use crate::mask::size_of;
 use flat::REQUEST;
 

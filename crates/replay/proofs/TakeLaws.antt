@@ -1,5 +1,5 @@
 -- Lines taken out of a list, one behind the other, as far as there is room. Assumes nothing.
-use Rattle.std.proofs.Common.{◌≡◌, ℕ, zero, suc, ◌+◌, ◌-◌, ◌*◌, ◌<◌, min, List, [], ◌∷◌, ◌++◌, length, get_or, take, drop, sym, ap, ◌∙◌, arith, append_assoc, length-append}
+use Rattle.std.proofs.Common.{◌≡◌, ℕ, zero, suc, ◌+◌, ◌-◌, ◌*◌, ◌<◌, min, List, [], ◌∷◌, ◌++◌, length, get_or, take, drop, sym, ap, ◌∙◌, arith, append_assoc, length-append, length-drop}
 use Rattle.std.proofs.lemmas.List.{append-nil, length-take, take_at, drop_at, take_rest, drop_min, drop-drop, take_more}
 use borrow.Rule.Slice.PartMut.{put_mid}
 use lib.Seq.{take-nil}
@@ -42,6 +42,18 @@ one_more lines selection room i l =
     let e : room - length b ≡ room - length (take room b) = omega (arith, length-take room b) in
     ap (λ v. take room (blocks request_size lines v)) (take_more selection i 0 l) ∙ ap (take room) (blocks_push request_size lines (take i selection) (get_or selection i 0)) ∙ take_both room b c
     ∙ ap (λ (k : ℕ). take room b ++ take k c) e
+
+-- the numbers that are copied of a line, so many as there are and there is room for
+abbrev part_of : List ℕ → ℕ → ℕ → List ℕ
+part_of xs i n = take n (drop (min (request_size * i) (length xs)) xs)
+
+abbrev part_length : List ℕ → ℕ → ℕ → ℕ
+part_length xs i r = min (min request_size (length xs - min (request_size * i) (length xs))) r
+
+part_length_is : (xs : List ℕ) (i r : ℕ) → length (part_of xs i (part_length xs i r)) ≡ part_length xs i r
+part_length_is xs i r =
+    let f : ℕ = min (request_size * i) (length xs) in
+    omega (arith, length-take (part_length xs i r) (drop f xs), length-drop f xs)
 
 -- what is copied of a line that begins here, where there is so much room
 copied : (lines : List ℕ) (i r from n : ℕ) → from ≡ min (request_size * i) (length lines) → n ≡ min (min request_size (length (take (length lines - from) (drop from lines)))) r

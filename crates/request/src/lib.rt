@@ -15,8 +15,6 @@ pub mod call;
 
 const TOP_16: u64 = 65535;
 
-const TOP_32: u64 = 4294967295;
-
 // What is wanted. PIO numbers have 16 bits: one that is too large is bad input. All numbers of MSI have 32 by their types.
 #[derive(Clone, Copy, Debug, PartialEq, Eq)]
 pub enum Want {
@@ -97,7 +95,6 @@ pub fn good_input(controller: u32, trigger: u32, sharing: u32, choice: Choice<u6
 }
 
 // An MSI request wants some events.
-#[tactic(auto, unfolding(definition::specs::Request::good_want))]
 pub fn good_msi(
     controller: u32,
     its: u32,
@@ -109,9 +106,6 @@ pub fn good_msi(
     ensures { result ≡ good_want (msi_want controller its count (device_choice device) (event_choice event) (lpi_choice lpi)) }
 {
     count != 0
-        && good_choice(TOP_32, device.plain())
-        && good_choice(TOP_32, event.plain())
-        && good_choice(TOP_32, lpi.plain())
 }
 
 #[tactic(auto, using(crate::proofs::GoodLaws::mmio_good, crate::proofs::GoodLaws::pio_good), unfolding(definition::specs::Request::good_want))]

@@ -16,9 +16,9 @@ range_rows t k = range_of (range_at t k)
 abbrev pub input_rows : Inputs → ℕ → Row
 input_rows t k = input_of (input_at t k)
 
--- a range of some numbers, at some alignment
-abbrev pub SomeRange : Need → Type 0
-SomeRange n = (0 < n.size) × (0 < n.alignment)
+-- a range at some alignment, of any size
+abbrev pub AlignedRange : Need → Type 0
+AlignedRange n = 0 < n.alignment
 
 -- one input, whoever asks
 abbrev pub OneInput : Need → Type 0
@@ -32,5 +32,5 @@ ranges_listed t l = used_is row_limit (range_rows t) t.n l
 pub inputs_listed : (t : Inputs) → t.n ≤ row_limit → used (inputs_view t) ≡ listed (input_rows t) t.n
 inputs_listed t l = used_is row_limit (input_rows t) t.n l
 
-pub one_some : (n : Need) → OneInput n → (0 < n.size) × (0 < n.alignment)
-one_some n e = rw e (omega arith, omega arith)
+pub one_some : (n : Need) → OneInput n → 0 < n.alignment
+one_some n e = rw e (omega arith)

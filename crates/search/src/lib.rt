@@ -51,7 +51,7 @@ pub trait Owners {
 
     ghost rows: { (t : Self) → (view t).count ≤ row_limit → used (view t) ≡ listed (row_at t) (view t).count };
 
-    ghost some: { (n : Asked) → Serves n → (0 < n.size) × (0 < n.alignment) };
+    ghost some: { (n : Asked) → Serves n → 0 < n.alignment };
 }
 
 // Whether exactly one bit is set: what an alignment must be.
@@ -95,6 +95,7 @@ pub fn find<T: Owners>(pools: &Pool, owners: &T, need: Need) -> Option<u64>
     requires pools { InOrder pools.now }
     requires rows { (T.view owners.now).count ≤ row_limit }
     requires served { T.Serves need }
+    requires some { 0 < need.size }
     ensures { Finds pools.now (T.view owners.now) need result }
 {
     'found: {

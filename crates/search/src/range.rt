@@ -4,7 +4,8 @@ ghost use Rattle.definition.specs.Tables.{row_limit, range_row, meets};
 ghost use Rattle.tables.specs.Below.{first};
 ghost use Rattle.tables.specs.Views.{range_of, range_at, ranges_view};
 ghost use Rattle.search.specs.Asks.{need_of};
-ghost use Rattle.search.specs.Rows.{range_rows, SomeRange, ranges_listed};
+ghost use Rattle.search.specs.Rows.{range_rows, AlignedRange, ranges_listed};
+ghost use Rattle.search.specs.Steps.{Passes};
 
 use super::{Need, Owners};
 use bases::align_up;
@@ -31,12 +32,24 @@ pub fn first_overlap(owners: &Ranges, need: Need, lo: u64, hi: u64) -> Option<us
     (0..owners.n).find(|&k| is_in_way(owners, k, need, lo, hi))
 }
 
+// The base past owner row `k`, at most `stop`, where the row is in the way of the range at `b`; else `b`. It asks nothing of `stop`, and a need of no numbers is passed too.
+pub fn past_row(owners: &Ranges, k: usize, need: Need, b: u64, stop: u64) -> u64
+    requires { (k < row_limit) × (0 < need.alignment) × (b + need.size < 2 ^ 64) }
+    ensures { Passes (range_of (range_at owners.now k)) (need_of need) b stop result }
+{
+    if is_in_way(owners, k, need, b, b + need.size) {
+        align_up(owners.end[k], need.alignment, stop)
+    } else {
+        b
+    }
+}
+
 impl Owners for Ranges {
     ghost view = { ranges_view };
 
     ghost row_at = { range_rows };
 
-    ghost Serves = { SomeRange };
+    ghost Serves = { AlignedRange };
 
     ghost rows = { ranges_listed };
 
@@ -47,10 +60,6 @@ impl Owners for Ranges {
     }
 
     fn past(&self, k: usize, need: Need, b: u64, stop: u64) -> u64 {
-        if is_in_way(self, k, need, b, b + need.size) {
-            align_up(self.end[k], need.alignment, stop)
-        } else {
-            b
-        }
+        past_row(self, k, need, b, stop)
     }
 }

@@ -2,12 +2,15 @@
 use mathlib.Core.Path.{◌≡◌, refl, ap}
 use mathlib.Core.List.{List, [], ◌∷◌}
 use mathlib.Core.Option.{Option, none, some}
-use Prim.Native.Nat.{ℕ, zero, suc, ◌<◌}
-use lib.ListN.{length, replicate}
-use borrow.Author.Tests.{lt-leb}
-use Rattle.lines.specs.Base.{when, ◌and_then◌}
+use Prim.Native.Nat.{ℕ, zero, suc, ◌-◌, ◌<◌, ◌≤◌}
+use native.Mathlib.Omega.{arith}
+use lib.Dec.{leb}
+use lib.ListN.{length, take, get_or, replicate}
+use borrow.Author.Tests.{eq-eqb, ne_eqb, le-leb, lt-leb}
+use Rattle.definition.proofs.BaseLaws.{and_false}
+use Rattle.lines.specs.Base.{tab, newline, split, when, ◌and_then◌}
 use Rattle.lines.specs.Code.{numbers_by}
-use Rattle.sizer.specs.Words.{size_text_limit, fields, line_by}
+use Rattle.sizer.specs.Words.{size_text_limit, fields, field_count, line_by}
 
 -- the fields, as many as the code has places, each read alike
 pub fields_as : (read : List ℕ → Option ℕ) (n : ℕ) (fs : List (List ℕ)) → fields read n fs ≡ numbers_by (λ (x : Unit {0}). read) (replicate n tt) fs
@@ -24,3 +27,15 @@ module _ (read : List ℕ → Option ℕ) where
     pub line_long : size_text_limit < length text → line_by read text ≡ none
     unfolding line_by when
     line_long l = rw (lt-leb (length text) size_text_limit l)
+
+    pub line_open : (get_or text (length text - 1) 0 ≡ newline → ⊥) → line_by read text ≡ none
+    unfolding line_by when
+    line_open n = rw (ne_eqb (get_or text (length text - 1) 0) newline n, and_false (leb (length text) size_text_limit))
+
+    pub line_closed : length text ≤ size_text_limit → get_or text (length text - 1) 0 ≡ newline → line_by read text ≡ fields read field_count (split tab (take (length text - 1) text))
+    unfolding line_by when
+    line_closed l e = rw (le-leb (length text) size_text_limit l, eq-eqb (get_or text (length text - 1) 0) newline e)
+
+  pub line_empty : (text : List ℕ) → length text ≡ 0 → line_by read text ≡ none
+  line_empty [] e = line_open [] (λ z. omega (arith, z))
+  line_empty (x ∷ xs) e = absurd (omega arith)

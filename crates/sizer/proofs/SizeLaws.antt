@@ -147,14 +147,15 @@ some_by : (o : Option (List ℕ)) (n : List ℕ) → Some n ≡ row_of o → o �
 some_by none n e = cc
 some_by (some ns) n e = cc
 
--- ---- what was answered: the requests in front of the list are the answer's ..
+-- ---- what was answered: the requests in front of the list are the answer's, and are put as they stand there ..
 
 abbrev pub written_lines : ℕ → List ℕ → List ℕ
 written_lines count list = let xs : List ℕ = take (request_size * count) list in ask_lines (length xs / request_size) xs
 
 record Outcome (a : Answer (List Request)) (count : ℕ) (list : List ℕ) : Type 0 where
   few : count ≤ register_count
-  lines : answer_lines a ≡ written_lines count list
+  lines : answer_lines a ≡ ask_lines count list
+  put : answer_lines a ≡ written_lines count list
 
 outcome : (a : Answer (List Request)) (out list : List ℕ) (count : ℕ) → Fair a → Few a → sized 0 count list ≡ sizing a out → Outcome a count list
 outcome (accepted rs) out list count fair few e =
@@ -163,7 +164,11 @@ outcome (accepted rs) out list count fair few e =
     let long : length (numbers_of_all rs) ≡ request_size * count = omega (arith, length_numbers rs, c) in
     let xs : take (request_size * count) list ≡ numbers_of_all rs = ap (take (request_size * count)) l ∙ take_at (numbers_of_all rs) (drop (length (numbers_of_all rs)) out) (request_size * count) long in
     let n : length (numbers_of_all rs) / request_size ≡ length rs = omega (arith, length_numbers rs) in
-    record { few = omega (arith, few rs refl, c); lines = sym (rw (xs, n) (ap (ask_lines (length rs)) (sym (append-nil (numbers_of_all rs))) ∙ wants_are rs [] fair)) }
+    record {
+      few = omega (arith, few rs refl, c);
+      lines = rw (c, l) (sym (wants_are rs (drop (length (numbers_of_all rs)) out) fair));
+      put = sym (rw (xs, n) (ap (ask_lines (length rs)) (sym (append-nil (numbers_of_all rs))) ∙ wants_are rs [] fair));
+    }
 outcome (refused x) out list count fair few e = absurd (tell_number 0 x (sym (ap (λ (s : Sized). s.number) e)))
 
 -- .. or the number is its refusal's
@@ -201,8 +206,14 @@ module _ (text : List ℕ) where
       pub few_wants : count ≤ register_count
       few_wants = answered.few
 
-      pub want_lines_is : sizes_output text ≡ written_lines count list
-      want_lines_is = output_is ∙ answered.lines
+      pub put_lines_is : sizes_output text ≡ written_lines count list
+      put_lines_is = output_is ∙ answered.put
+
+      pub written_is : written_lines count list ≡ ask_lines count list
+      written_is = sym answered.put ∙ answered.lines
+
+    pub want_lines_is : (number count : ℕ) (list : List ℕ) → sized number count list ≡ registers_into n (get_or n register_count 0) fresh → number ≡ 0 → sizes_output text ≡ ask_lines count list
+    want_lines_is number count list s e = output_is ∙ (answered count list (ap (λ (k : ℕ). sized k count list) (sym e) ∙ s)).lines
 
     pub refusal_line : (y : Refusal) (list : List ℕ) → sized (tell 0 y).number 0 list ≡ registers_into n (get_or n register_count 0) fresh → sizes_output text ≡ no_line 0 (says 0 (tell 0 y).number 0 0 0)
     refusal_line y list s = output_is ∙ no_outcome answer fresh list y (sizes_fair (line_by capped_word text)) (s ∙ answer_is)

@@ -1,5 +1,5 @@
 // What the test asks of rows of wired inputs.
-ghost use Rattle.std.specs.Prelude.{◌≡◌, ltb};
+ghost use Rattle.std.specs.Prelude.{◌≡◌, eqb, ltb};
 ghost use Rattle.definition.specs.Tables.{input as wired, good_row};
 ghost use Rattle.tables.specs.Views.{input_of};
 ghost use Rattle.sound.specs.Tests.{input_fit, sound_inputs};
@@ -28,6 +28,8 @@ impl Rule<Inputs> for Wired {
 
     ghost beyond = { λ h r. ltb h r.input };
 
+    ghost kin = { λ a b. eqb a.controller b.controller };
+
     ghost sound = { λ w t. sound_inputs w.single t };
 
     ghost clear = { λ w. input_clear w.single };
@@ -41,6 +43,14 @@ impl Rule<Inputs> for Wired {
 
     fn fits(&self, a: InputRow, b: InputRow) -> bool {
         inputs_fit(self.single, a, b)
+    }
+
+    fn fits_by_domain(&self, a: InputRow, b: InputRow) -> bool {
+        inputs_fit(self.single, a, b)
+    }
+
+    fn kin(a: InputRow, b: InputRow) -> bool {
+        a.controller == b.controller
     }
 
     fn reach(r: InputRow) -> u64 {
@@ -57,8 +67,15 @@ impl Rule<Inputs> for Wired {
 pub fn inputs_fit(single: bool, a: InputRow, b: InputRow) -> bool
     ensures { result ≡ input_fit single (input_of a) (input_of b) }
 {
-    if a.input != b.input || a.controller != b.controller {
+    // one by one: as one test, or with `single` in the last line, the compiler begins with controllers, by which fewer differ
+    if a.input != b.input {
         return true;
     }
-    !single && a.sharing == SHARED && b.sharing == SHARED && a.trigger == b.trigger
+    if a.controller != b.controller {
+        return true;
+    }
+    if single {
+        return false;
+    }
+    a.sharing == SHARED && b.sharing == SHARED && a.trigger == b.trigger
 }

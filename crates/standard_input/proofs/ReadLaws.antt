@@ -1,11 +1,15 @@
 -- Why reading stops; and the bytes read decide what is printed, though no more of an input is read than one byte past the longest that is answered. Assumes nothing.
-use mathlib.Core.Path.{◌≡◌, refl, subst, ap, ◌∙◌}
+use mathlib.Core.Path.{◌≡◌, refl, sym, subst, ap, ◌∙◌}
 use mathlib.Core.Bool.{Bool, true, false}
 use Rattle.std.proofs.Common.{List, ◌++◌, append_assoc, Option, None, Some, Ok, Err, ◌+◌}
 use Prim.Native.Nat.{ℕ, zero, suc, ◌≤◌, ◌<◌}
 use native.Mathlib.Omega.{arith}
 use lib.IntN.{ℤ, pos, negsuc}
-use lib.Dec.{leb, ltb}
+use lib.Signed.{lt_z}
+use lib.Dec.{T, leb, ltb}
+use mir.Syntax.{w64}
+use mir.Val.{SFits, to_z, of_z}
+use mir.ValLaws.{to_z-of_z}
 use lib.ListN.{length, take}
 use lib.Seq.{take_all, length-take-le}
 use borrow.Author.Tests.{leb-true, leb-false}
@@ -42,13 +46,17 @@ within long n (pos zero) s = s
 within long n (pos (suc k)) s = omega (arith, s)
 within long n (negsuc k) s = s
 
+-- a signed number as the machine reads it back from its bits
+pub read_back : (z : ℤ) → SFits w64 z → (b : Bool) → lt_z (to_z w64 (of_z w64 z)) (pos 0) ≡ b → lt_z z (pos 0) ≡ b
+read_back z f b e = ap (λ (y : ℤ). lt_z y (pos 0)) (sym (to_z-of_z w64 z f)) ∙ e
+
 -- one that did not fail is no negative number
-last_read : (long n : ℕ) → (k : ℕ) × (last_of long (Ok n) ≡ pos k)
+pub last_read : (long n : ℕ) → lt_z (last_of long (Ok n)) (pos 0) ≡ false
 last_read long n = go (ltb n long)
   where
-    go : (b : Bool) → (k : ℕ) × (elim b [ true ↦ pos 0 | false ↦ pos 1 ] ≡ pos k)
-    go true = (0, refl)
-    go false = (1, refl)
+    go : (b : Bool) → lt_z (elim b [ true ↦ pos 0 | false ↦ pos 1 ]) (pos 0) ≡ false
+    go true = refl
+    go false = refl
 
 -- ---- what is printed: f answers all inputs alike that are longer than its limit, so of such a one no more is needed than one byte past the limit
 
@@ -67,12 +75,10 @@ module _ {limit : ℕ} (f : List ℕ → List ℕ) (alike : (a b : List ℕ) →
   read_decides buf input n (suc k) l s r = ap f r.front ∙ cut (length (take n buf)) input (omega (arith, s, length-take-le n buf (omega (arith, s))))
 
   -- no read failed
-  pub prints_front : (buf out : List ℕ) (n e : ℕ) → limit < length buf → Stopped (length buf) n (last_of (length buf) (Ok n)) → e ≤ length out → take e out ≡ f (take n buf)
-      → Prints f (take n buf) (last_of (length buf) (Ok n)) e out
-  prints_front buf out n e l s inside is = go (last_of (length buf) (Ok n)) (last_read (length buf) n) s
-    where
-      go : (z : ℤ) → ((k : ℕ) × (z ≡ pos k)) → Stopped (length buf) n z → Prints f (take n buf) z e out
-      go z (k, q) t = rw q record { inside = inside; prints = λ input r. is ∙ read_decides buf input n k l (subst (Stopped (length buf) n) q t) r }
+  pub prints_front : (buf out : List ℕ) (n e : ℕ) (last : ℤ) → lt_z last (pos 0) ≡ false → limit < length buf → Stopped (length buf) n last → e ≤ length out
+      → take e out ≡ f (take n buf) → Prints f (take n buf) last e out
+  prints_front buf out n e (pos k) z l s inside is = record { inside = inside; prints = λ input r. is ∙ read_decides buf input n k l s r }
+  prints_front buf out n e (negsuc k) z l s inside is = absurd (subst T z tt)
 
 -- a read failed
 pub prints_nothing : (f : List ℕ → List ℕ) (bytes : List ℕ) (long : ℕ) (x : Failed) (out : List ℕ) → Prints f bytes (last_of long (Err x)) 0 out

@@ -1,3 +1,4 @@
 pub mod HighLaws
 pub mod KindLaws
 pub mod BeginLaws
+pub mod PairLaws

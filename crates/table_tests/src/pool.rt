@@ -1,6 +1,6 @@
 // Pool tables, of every kind.
 ghost use Rattle.std.specs.Prelude.{◌≡◌, ltb};
-ghost use Rattle.definition.specs.Tables.{pool_limit, same_span, blank_span, in_order};
+ghost use Rattle.definition.specs.Tables.{pool_limit, same_dom, same_span, blank_span, in_order};
 ghost use Rattle.tables.specs.Views.{span_of, pool_at};
 ghost use Rattle.table_tests.specs.Tests.{good_pool, tidy_pool, sound_pool_in};
 ghost use Rattle.table_tests.specs.PoolRule.{pool_tidy, pool_is, pool_clear};
@@ -58,6 +58,8 @@ impl Rule<Pool> for Limits {
 
     ghost beyond = { λ h r. ltb h r.start };
 
+    ghost kin = { λ a b. same_dom (span_of a).dom (span_of b).dom };
+
     ghost sound = { sound_pool_in };
 
     ghost clear = { pool_clear };
@@ -77,6 +79,15 @@ impl Rule<Pool> for Limits {
         in_order(a, b)
     }
 
+    fn fits_by_domain(&self, a: PoolRow, b: PoolRow) -> bool {
+        in_order(a, b)
+    }
+
+    #[tactic(auto, unfolding(definition::specs::Tables::same_dom))]
+    fn kin(a: PoolRow, b: PoolRow) -> bool {
+        a.controller == b.controller && a.its == b.its
+    }
+
     fn reach(r: PoolRow) -> u64 {
         r.start
     }
@@ -91,8 +102,15 @@ impl Rule<Pool> for Limits {
 pub fn in_order(a: PoolRow, b: PoolRow) -> bool
     ensures { result ≡ in_order (span_of a) (span_of b) }
 {
-    a.start < b.start
-        || a.controller != b.controller
-        || a.its != b.its
-        || (a.start == b.start && a.end != b.end)
+    // one by one: as one expression the compiler asks for both numbers of each row first
+    if a.start < b.start {
+        return true;
+    }
+    if a.controller != b.controller {
+        return true;
+    }
+    if a.its != b.its {
+        return true;
+    }
+    a.start == b.start && a.end != b.end
 }

@@ -1,6 +1,6 @@
 // Reservation and owner tables whose rows hold ranges: every kind but inputs.
 ghost use Rattle.std.specs.Prelude.{◌≡◌, ◌≤◌, leb};
-ghost use Rattle.definition.specs.Tables.{row_limit, overlap, same_row, meets};
+ghost use Rattle.definition.specs.Tables.{row_limit, overlap, same_dom, same_row, meets};
 ghost use Rattle.tables.specs.Below.{first};
 ghost use Rattle.tables.specs.Views.{range_of, range_at};
 ghost use Rattle.table_tests.specs.Tests.{blank_range, good_range, apart, tidy_ranges, sound_ranges_in, holders_in};
@@ -62,6 +62,8 @@ impl Rule<Ranges> for Limits {
 
     ghost beyond = { λ h r. leb h r.start };
 
+    ghost kin = { λ a b. same_dom (range_of a).dom (range_of b).dom };
+
     ghost sound = { sound_ranges_in };
 
     ghost clear = { range_clear };
@@ -83,6 +85,25 @@ impl Rule<Ranges> for Limits {
         !rows_meet(a, b)
     }
 
+    #[tactic(auto, unfolding(definition::specs::Tables::meets, definition::specs::Tables::same_dom))]
+    fn fits_by_domain(&self, a: RangeRow, b: RangeRow) -> bool {
+        // one by one, and devices first, by which most events differ: as one expression the compiler begins with another number
+        if a.device != b.device {
+            return true;
+        }
+        if a.its != b.its {
+            return true;
+        }
+        if a.controller != b.controller {
+            return true;
+        }
+        !ranges_overlap(a.start, a.end, b.start, b.end)
+    }
+
+    fn kin(a: RangeRow, b: RangeRow) -> bool {
+        same_domain(a, b)
+    }
+
     fn reach(r: RangeRow) -> u64 {
         r.end
     }
@@ -100,15 +121,23 @@ pub fn ranges_overlap(start: u64, end: u64, other_start: u64, other_end: u64) ->
     start < other_end && other_start < end
 }
 
+// Whether two rows have their domain in common.
+#[tactic(auto, unfolding(definition::specs::Tables::same_dom))]
+pub fn same_domain(a: RangeRow, b: RangeRow) -> bool
+    ensures { result ≡ same_dom (range_of a).dom (range_of b).dom }
+{
+    a.controller == b.controller && a.its == b.its && a.device == b.device
+}
+
 // Whether two rows have a number and their domain in common. The numbers are the quicker test.
-#[tactic(auto, unfolding(definition::specs::Tables::meets, definition::specs::Tables::same_dom))]
+#[tactic(auto, unfolding(definition::specs::Tables::meets))]
 pub fn rows_meet(a: RangeRow, b: RangeRow) -> bool
     ensures { result ≡ meets (range_of a) (range_of b) }
 {
     if !ranges_overlap(a.start, a.end, b.start, b.end) {
         return false;
     }
-    a.controller == b.controller && a.its == b.its && a.device == b.device
+    same_domain(a, b)
 }
 
 // The first used row, in table order, that meets `r`.

@@ -49,6 +49,8 @@ pub trait Rule<T: Table> {
 
     ghost beyond: { ℕ → T.Row → Bool };
 
+    ghost kin: { T.Row → T.Row → Bool };
+
     // what the definition calls sound
     ghost sound: { Self → T → Bool };
 
@@ -59,6 +61,14 @@ pub trait Rule<T: Table> {
     // .. of each two, `a` before `b`
     fn fits(&self, a: T::Row, b: T::Row) -> bool
         ensures { result ≡ fits self.now a b };
+
+    // The same, with their domains compared before their numbers.
+    fn fits_by_domain(&self, a: T::Row, b: T::Row) -> bool
+        ensures { result ≡ fits self.now a b };
+
+    // Whether two rows are of one domain.
+    fn kin(a: T::Row, b: T::Row) -> bool
+        ensures { result ≡ kin a b };
 
     // How far up a row reaches.
     fn reach(r: T::Row) -> u64
@@ -95,6 +105,17 @@ pub fn tidy<T: Table>(t: &T) -> bool
     n <= T::SIZE && unused_zero(t, n)
 }
 
+// Whether `r` fits behind each of the first `k` rows. Where the first of them is of another domain, most are: then domains tell rows apart sooner than numbers.
+pub fn fits_behind<T: Table, R: Rule<T>>(rule: &R, t: &T, k: usize, r: T::Row) -> bool
+    requires { k ≤ T.SIZE }
+    ensures { result ≡ all_below (λ j. R.fits rule.now (T.at t.now j) r) k }
+{
+    if 0 < k && !R::kin(t.at(0), r) {
+        return (0..k).all(|j| rule.fits_by_domain(t.at(j), r));
+    }
+    (0..k).all(|j| rule.fits(t.at(j), r))
+}
+
 // Whether row `k` is good and fits behind each row before it. None of those reaches above `high`.
 pub fn row_ok<T: Table, R: Rule<T>>(rule: &R, t: &T, k: usize, high: u64) -> bool
     requires k_lt_size { k < T.SIZE }
@@ -102,7 +123,7 @@ pub fn row_ok<T: Table, R: Rule<T>>(rule: &R, t: &T, k: usize, high: u64) -> boo
     ensures { result ≡ row_ok (R.good rule.now) (R.fits rule.now) (T.at t.now) k }
 {
     let r = t.at(k);
-    rule.good(r) && (R::beyond(high, r) || (0..k).all(|j| rule.fits(t.at(j), r)))
+    rule.good(r) && (R::beyond(high, r) || fits_behind(rule, t, k, r))
 }
 
 // Whether each of the first `n` rows is good and fits behind those before it.

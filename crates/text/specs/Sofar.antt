@@ -37,6 +37,14 @@ is_none (Some r) = false
 abbrev pub Named : Sofar → Type 0
 Named t = accepts (said_in t) ≡ is_none t.refusal
 
+-- any five numbers, which are no refusal's where its own is 0
+abbrev pub refused_by : Reason → P.Option Reason
+refused_by r = elim (eqb r.number 0) [ true ↦ None | false ↦ Some r ]
+
+-- .. behind the numbers of how far a text has come
+abbrev pub come_to : ℕ → ℕ → ℕ → Reason → Sofar
+come_to e l n r = record { at = e; lines = l; wants = n; refusal = refused_by r }
+
 -- whether one more line of a text of n bytes is taken
 abbrev pub goes_of : Sofar → ℕ → Bool
 goes_of t n = is_none t.refusal && ltb t.at n

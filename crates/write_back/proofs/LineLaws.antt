@@ -18,6 +18,18 @@ use Rattle.lines.proofs.DigitLaws.{digits_length}
 use Rattle.writers.proofs.PutLaws.{tabbed}
 use Rattle.write_back.specs.Bytes.{is_want, ends_in_auto, auto_size, granted_in, pinned_bytes, used_by}
 
+-- ---- the two tests, on a line that is empty
+
+pub empty_no_want : (l : List ℕ) → length l ≡ 0 → is_want l ≡ false
+unfolding is_want
+empty_no_want [] e = refl
+empty_no_want (x ∷ l) e = absurd (omega arith)
+
+pub empty_no_auto : (l : List ℕ) → length l ≡ 0 → ends_in_auto l ≡ false
+unfolding ends_in_auto
+empty_no_auto [] e = refl
+empty_no_auto (x ∷ l) e = absurd (omega arith)
+
 -- ---- numbers, each after a tab
 
 -- the first of those from i on, and the others

@@ -8,7 +8,7 @@ use native.Mathlib.Omega.{arith}
 use lib.Dec.{leb}
 use lib.ListN.{length, drop, take-append-drop}
 use lib.Seq.{sets, sets-eq}
-use borrow.Author.Tests.{le-leb, lt-leb, eqb-false}
+use borrow.Author.Tests.{le-leb, lt-leb, eq-eqb, ne_eqb, eqb-false}
 use Rattle.definition.proofs.BaseLaws.{and_false}
 use Rattle.definition.specs.Tables.{record_size}
 use Rattle.definition.specs.Base.{silence, short, tell}
@@ -30,7 +30,7 @@ use Rattle.std.specs.Prelude as P
 use Rattle.std.specs.Prelude.{None, Some}
 use Rattle.writers.specs.declared.put.Page.{Page}
 use Rattle.writers.specs.declared.output.Refused.{Refused}
-use Rattle.writers.specs.Put.{Puts}
+use Rattle.writers.specs.Put.{Put, Puts}
 use Rattle.text.specs.Sofar.{said_of, said_in, is_none, Named, no_of, refused_of, sofar_of}
 use Rattle.text.specs.declared.feed.sofar.Reason.{Reason}
 use Rattle.text.specs.Step.{results_size, Fed}
@@ -60,10 +60,10 @@ refused_numbered t x = go t.refusal
     go None e n z = none-some x e
     go (Some r) e n z = eqb-false r.number 0 n (ap (λ (y : Refused). y.number) (same_Some _ _ e) ∙ z)
 
-accepted_said : (t : Sofar) → refused_of t ≡ None → accepts (said_in t) ≡ true
-accepted_said t = go t.refusal
+pub no_number : (t : Sofar) → refused_of t ≡ None → (said_in t).number ≡ 0
+no_number t = go t.refusal
   where
-    go : (o : P.Option Reason) → no_of o t.lines ≡ None → accepts (said_of o) ≡ true
+    go : (o : P.Option Reason) → no_of o t.lines ≡ None → (said_of o).number ≡ 0
     go None e = refl
     go (Some r) e = absurd (none-some _ (sym e))
 
@@ -71,16 +71,22 @@ module _ (text zs₀ : List ℕ) (t : Sofar) (s : State) (zs : List ℕ) (fed : 
   came : ended text ≡ sofar_of t s zs
   came = ended_within text fits ∙ sym fed.comes
 
-  pub pins_refused : (out : List ℕ) (x : Refused) → refused_of t ≡ Some x → pinning (numbers_of x) 0 out ≡ pins_to text out
+  pub pins_refused : (out : List ℕ) → ((said_in t).number ≡ 0 → ⊥)
+      → pinning (t.lines ∷ (said_in t).number ∷ (said_in t).namespace ∷ (said_in t).owner ∷ (said_in t).detail ∷ []) 0 out ≡ pins_to text out
   unfolding pins_to
-  pins_refused out x f =
+  pins_refused out f = sym (ap (λ (u : Text.Sofar). pinned_by u (back text) out) came ∙ rw (pinned_by, ne_eqb (said_in t).number 0 f) refl)
+
+  -- .. as the code has its numbers
+  pub pins_no : (out : List ℕ) (x : Refused) → refused_of t ≡ Some x → pinning (numbers_of x) 0 out ≡ pins_to text out
+  unfolding pins_to
+  pins_no out x f =
       let (a, b) = refused_said t x f fed.named in
       sym (ap (λ (u : Text.Sofar). pinned_by u (back text) out) came ∙ rw (pinned_by, a) (ap (λ l. pinning l 0 out) b))
 
   -- accepted
-  module _ (e : refused_of t ≡ None) where
+  module _ (e : (said_in t).number ≡ 0) where
     accepted_text : accepts (ended text).said ≡ true
-    accepted_text = rw came (accepted_said t e)
+    accepted_text = rw (came, eq-eqb (said_in t).number 0 e) refl
 
     abbrev gs : List Grant
     gs = grants text
@@ -127,15 +133,20 @@ module _ (text zs₀ : List ℕ) (t : Sofar) (s : State) (zs : List ℕ) (fed : 
       pub pins_over : text_limit < n → pinning (0 ∷ 11 ∷ 0 ∷ 0 ∷ 0 ∷ []) 0 out ≡ pins_to text out
       pins_over l = sym (accepted_pins out ∙ rw (length_is, lt-leb n text_limit l, and_false (leb n (length out))) refl)
 
-      pub pins_written : (p q : Page) → p.out.now ≡ out → p.at ≡ 0 → n ≤ length out → n ≤ text_limit → Puts p (back_bytes (split newline text) zs) q → (out' : List ℕ) → out' ≡ q.out.now
-          → pinning (0 ∷ 0 ∷ 0 ∷ 0 ∷ 0 ∷ []) q.at out' ≡ pins_to text out
-      pins_written p q e₁ e₂ l m w out' same =
-          let k : q.at ≡ length (back text) = omega (arith, w.put.0, e₂, is, length_is) in
+      pub pins_written : (r : ℕ) (out' : List ℕ) → n ≤ length out → n ≤ text_limit → Put out 0 (back_bytes (split newline text) zs) r out'
+          → pinning (0 ∷ 0 ∷ 0 ∷ 0 ∷ 0 ∷ []) r out' ≡ pins_to text out
+      pins_written r out' l m p =
+          let k : r ≡ length (back text) = omega (arith, p.0, is, length_is) in
           let z : 0 + length (back text) ≡ length (back text) = omega arith in
           let b : out' ≡ written (back text) out =
-          same
-          ∙ w.put.1
-          ∙ (λ i. sets (e₁ i) (e₂ i) (bytes_are i))
+          p.1
+          ∙ ap (λ bs. sets out 0 bs) bytes_are
           ∙ sets-eq (back text) out 0 (omega (arith, length_is))
           ∙ ap (λ (j : ℕ). back text ++ drop j out) z in
           sym (accepted_pins out ∙ rw (le-leb (length (back text)) (length out) (omega (arith, length_is)), le-leb (length (back text)) text_limit (omega (arith, length_is))) (λ i. pinning (0 ∷ 0 ∷ 0 ∷ 0 ∷ 0 ∷ []) (sym k i) (sym b i)))
+
+      -- .. on a page
+      pub pins_page : (p q : Page) → p.out.now ≡ out → p.at ≡ 0 → n ≤ length out → n ≤ text_limit → Puts p (back_bytes (split newline text) zs) q → (out' : List ℕ) → out' ≡ q.out.now
+          → pinning (0 ∷ 0 ∷ 0 ∷ 0 ∷ 0 ∷ []) q.at out' ≡ pins_to text out
+      pins_page p q e₁ e₂ l m w out' same =
+          pins_written q.at out' l m (w.put.0 ∙ ap (λ (k : ℕ). k + length (back_bytes (split newline text) zs)) e₂, same ∙ w.put.1 ∙ (λ i. sets (e₁ i) (e₂ i) (back_bytes (split newline text) zs)))

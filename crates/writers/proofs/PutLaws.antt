@@ -7,7 +7,7 @@ use native.Mathlib.Omega.{arith}
 use native.Mathlib.Numerals.{add-one}
 use lib.Dec.{eqb, leb}
 use lib.ListN.{length, take-append-drop, take, drop, get_or, set, length-append}
-use lib.Seq.{sets, sets-eq, length-sets, take-suc, drop-drop}
+use lib.Seq.{sets, sets-eq, length-sets, take-suc, length-take-le, drop-drop}
 use borrow.Author.Tests.{leb-true, leb-false, le-leb, lt-leb}
 use borrow.Rule.Slice.PartMut.{put_mid}
 use Rattle.std.proofs.Math.Nat.{mod-eq_of_lt}
@@ -28,6 +28,13 @@ sets_append l i [] b = let e : i + 0 ≡ i = omega arith in rw e
 sets_append l i (x ∷ a) b =
     let e : i + suc (length a) ≡ suc i + length a = omega arith in
     rw e (sets_append (set l i x) (suc i) a b)
+
+-- one byte more of a row
+pub sets_more : (l : List ℕ) (at : ℕ) (w : List ℕ) (i : ℕ) → i < length w → set (sets l at (take i w)) (at + i) (get_or w i 0) ≡ sets l at (take (i + 1) w)
+sets_more l at w i h =
+    let e : length (take i w) ≡ i = length-take-le i w (omega arith) in
+    let f : at + i ≡ at + length (take i w) = omega (arith, e) in
+    rw (add-one, take-suc w i 0 h, f) (sets_append l at (take i w) (get_or w i 0 ∷ []))
 
 -- ---- bytes that were put
 
@@ -215,6 +222,16 @@ got_is [] l = absurd (omega arith)
 got_is (a ∷ []) l = absurd (omega arith)
 got_is (a ∷ b ∷ []) l = absurd (omega arith)
 got_is (a ∷ b ∷ c ∷ r) l = simp (append_assoc, append-nil)
+
+pub got_length : (r : List ℕ) → 3 ≤ length r → length (got_line r) ≡ 3 + (length (tabbed (take 2 (drop 1 r))) + (suc (length (carried_by (kind r)).word) + (length (tabbed (own r)) + 1)))
+got_length r l =
+    ap length (got_is r l)
+    ∙ omega (
+      arith,
+      length-append (tabbed (take 2 (drop 1 r))) ((tab ∷ (carried_by (kind r)).word) ++ (tabbed (own r) ++ (newline ∷ []))),
+      length-append (carried_by (kind r)).word (tabbed (own r) ++ (newline ∷ [])),
+      length-append (tabbed (own r)) (newline ∷ []),
+    )
 
 module _ (r : List ℕ) (l : 3 ≤ length r) (p : Page) where
   abbrev places : List ℕ

@@ -35,8 +35,12 @@ impl<'a> Page<'a> {
         requires { Room self.old w.now }
         ensures { Puts self.old w.now self.new }
     {
-        let past = self.at + w.len();
-        self.out[self.at..past].copy_from_slice(w);
+        let at = self.at;
+        let past = at + w.len();
+        // not `copy_from_slice`: it asks a caller in C for `memmove`
+        for k in 0..w.len() {
+            self.out[at + k] = w[k];
+        }
         self.at = past;
     }
 

@@ -18,8 +18,8 @@ returns-in_err-place-clause-found c =
     let l : Part = part a.lpis.auto.now a.lpis.fixed.now a.lpis.owners.now in
     told_msi_err a.m _ _ c.from_residual.ensures.1 ∙ no_device d e l a.m _ (rw (c.device_need.ensures, c.plain.ensures) at c.in_err-place.ensures)
 
-pub returns-in_err-place-2-clause-found : goal.returns-in_err-place-2-clause-found
-returns-in_err-place-2-clause-found c =
+pub returns-in_err-run-clause-found : goal.returns-in_err-run-clause-found
+returns-in_err-run-clause-found c =
     let a = c.args in
     let d : Part = part a.devices.auto.now a.devices.fixed.now a.devices.owners.now in
     let e : Part = part a.events.auto.now a.events.fixed.now a.events.owners.now in
@@ -27,10 +27,14 @@ returns-in_err-place-2-clause-found c =
     let x = c.first_of-device.result in
     let h : accepted (row_at (need_of (device_need a.m)) x.0) ≡ place_part d (need_of (device_need a.m)) (device_choice a.m.device) =
     rw c.first_of-device.ensures (stood d (need_of (device_need a.m)) _ _ c.requires.devices.goods (omega arith) (omega arith) (rw (c.device_need.ensures, c.plain.ensures) at c.in_ok-place.ensures)) in
-    told_msi_err a.m _ _ c.from_residual-in_err-place-2.ensures.1 ∙ no_event d e l a.m x h _ (rw (c.event_need.ensures, c.plain-2.ensures) at c.in_err-place-2.ensures)
+    told_msi_err a.m _ _ c.from_residual-in_err-run.ensures.1 ∙ no_event d e l a.m x h _ (rw (c.event_need.ensures, c.plain-2.ensures) at c.in_err-run.ensures)
 
-pub returns-in_err-place-3-clause-found : goal.returns-in_err-place-3-clause-found
-returns-in_err-place-3-clause-found c =
+-- LPIs are looked for where the events stand
+pub lpis_behind-requires-clause-stands : goal.lpis_behind-requires-clause-stands
+lpis_behind-requires-clause-stands c = rw (c.event_need.ensures, c.plain-2.ensures) at c.in_ok-run.ensures
+
+pub returns-in_err-lpis_behind-clause-found : goal.returns-in_err-lpis_behind-clause-found
+returns-in_err-lpis_behind-clause-found c =
     let a = c.args in
     let d : Part = part a.devices.auto.now a.devices.fixed.now a.devices.owners.now in
     let e : Part = part a.events.auto.now a.events.fixed.now a.events.owners.now in
@@ -40,8 +44,8 @@ returns-in_err-place-3-clause-found c =
     let h : accepted (row_at (need_of (device_need a.m)) x.0) ≡ place_part d (need_of (device_need a.m)) (device_choice a.m.device) =
     rw c.first_of-device.ensures (stood d (need_of (device_need a.m)) _ _ c.requires.devices.goods (omega arith) (omega arith) (rw (c.device_need.ensures, c.plain.ensures) at c.in_ok-place.ensures)) in
     let k : accepted (row_at (need_of (event_need a.m x)) z.0) ≡ place_part e (need_of (event_need a.m x)) (event_choice a.m.event) =
-    rw c.first_of-event.ensures (stood e (need_of (event_need a.m x)) _ _ c.requires.events.goods (omega arith) (omega arith) (rw (c.event_need.ensures, c.plain-2.ensures) at c.in_ok-place-2.ensures)) in
-    told_msi_err a.m _ _ c.from_residual-in_err-place-3.ensures.1 ∙ no_lpi d e l a.m x h z k _ (rw (c.lpi_need.ensures, c.plain-3.ensures) at c.in_err-place-3.ensures)
+    rw c.first_of-event.ensures (stood e (need_of (event_need a.m x)) _ _ c.requires.events.goods (omega arith) (omega arith) (rw (c.event_need.ensures, c.plain-2.ensures) at c.in_ok-run.ensures)) in
+    told_msi_err a.m _ _ c.from_residual-in_err-lpis_behind.ensures.1 ∙ no_lpi d e l a.m x h z k _ c.in_err-lpis_behind.ensures
 
 pub returns-clause-found : goal.returns-clause-found
 returns-clause-found c =
@@ -55,8 +59,8 @@ returns-clause-found c =
     let h : accepted (row_at (need_of (device_need a.m)) x.0) ≡ place_part d (need_of (device_need a.m)) (device_choice a.m.device) =
     rw c.first_of-device.ensures (stood d (need_of (device_need a.m)) _ _ c.requires.devices.goods (omega arith) (omega arith) (rw (c.device_need.ensures, c.plain.ensures) at c.in_ok-place.ensures)) in
     let k : accepted (row_at (need_of (event_need a.m x)) z.0) ≡ place_part e (need_of (event_need a.m x)) (event_choice a.m.event) =
-    rw c.first_of-event.ensures (stood e (need_of (event_need a.m x)) _ _ c.requires.events.goods (omega arith) (omega arith) (rw (c.event_need.ensures, c.plain-2.ensures) at c.in_ok-place-2.ensures)) in
+    rw c.first_of-event.ensures (stood e (need_of (event_need a.m x)) _ _ c.requires.events.goods (omega arith) (omega arith) (rw (c.event_need.ensures, c.plain-2.ensures) at c.in_ok-run.ensures)) in
     let g : accepted (row_at (need_of (lpi_need a.m)) v.0) ≡ place_part l (need_of (lpi_need a.m)) (lpi_choice a.m.lpi) =
-    rw c.first_of-lpi.ensures (stood l (need_of (lpi_need a.m)) _ _ c.requires.lpis.goods (omega arith) (omega arith) (rw (c.lpi_need.ensures, c.plain-3.ensures) at c.in_ok-place-3.ensures)) in
+    rw c.first_of-lpi.ensures (stood l (need_of (lpi_need a.m)) _ _ c.requires.lpis.goods (omega arith) (omega arith) c.in_ok-lpis_behind.ensures) in
     roomed_three d e l a.m (record { device = x; event = z; lpi = v }) a.devices.owners.now.n a.events.owners.now.n a.lpis.owners.now.n _ c.with_room.ensures.room (λ w q. all_three d e l a.m x h z k v _ _ _ w g
     (ranges_length a.devices.owners.now c.requires.devices.rows) (ranges_length a.events.owners.now c.requires.events.rows) (ranges_length a.lpis.owners.now c.requires.lpis.rows) q)

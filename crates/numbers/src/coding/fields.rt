@@ -7,6 +7,12 @@ ghost use Rattle.numbers.specs.Coding.{below};
 use request::call::Ids;
 use tables::Id;
 
+// The largest number of 32 bits.
+pub const TOP_32: u64 = 4294967295;
+
+// The largest number of 16 bits.
+pub const TOP_16: u64 = 65535;
+
 // A number that a field of 16 bits holds.
 pub(crate) fn port(n: u64) -> Option<u16>
     ensures { result ≡ if_read (below 16 n) n }

@@ -1,6 +1,6 @@
 -- What is printed: the definition's output of the bytes that were read. Assumes nothing.
 use Rattle.lines.specs.Text.{output}
-use Rattle.standard_input.proofs.ReadLaws.{prints_front}
+use Rattle.standard_input.proofs.ReadLaws.{last_read, prints_front}
 use Rattle.planner.proofs.PrintLaws.{alike_output, front_inside, front_is}
 use Rattle.planner.proofs.printed.Goals as goal
 
@@ -18,6 +18,8 @@ returns-in-Ok c =
     r.new.out
     c.in-Ok.n
     _
+    _
+    (last_read _ c.in-Ok.n)
     c.requires.text_limit_in_bounds
     stopped
     (front_inside _ a.out.now _ _ room r.ensures)

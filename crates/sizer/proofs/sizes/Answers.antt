@@ -5,7 +5,7 @@ use Rattle.lines.specs.Output.{no_line}
 use Rattle.writers.specs.Refuses.{refused_line}
 use Rattle.registers.specs.Told.{fault_of}
 use Rattle.writers.specs.declared.output.Refused.{Refused}
-use Rattle.sizer.proofs.SizeLaws.{no_line_said, few_wants, want_lines_is, refusal_line, fits_in, puts_it}
+use Rattle.sizer.proofs.SizeLaws.{no_line_said, few_wants, put_lines_is, refusal_line, fits_in, puts_it}
 use Rattle.sizer.proofs.sizes.Goals as goal
 
 pub put_no-requires : goal.put_no-requires
@@ -30,10 +30,10 @@ slice_bounds-put_wants-end c =
     )
 
 pub put_wants-requires : goal.put_wants-requires
-put_wants-requires c = fits_in c.args.text.now _ (want_lines_is c.args.text.now c.in-Some.row c.in-Some.ensures c.in-Ok.count _ c.in-Ok.ensures) c.args.page.now c.requires
+put_wants-requires c = fits_in c.args.text.now _ (put_lines_is c.args.text.now c.in-Some.row c.in-Some.ensures c.in-Ok.count _ c.in-Ok.ensures) c.args.page.now c.requires
 
 pub returns-in-Ok : goal.returns-in-Ok
-returns-in-Ok c = puts_it c.args.text.now _ (want_lines_is c.args.text.now c.in-Some.row c.in-Some.ensures c.in-Ok.count _ c.in-Ok.ensures) c.args.page.now _ c.put_wants.ensures
+returns-in-Ok c = puts_it c.args.text.now _ (put_lines_is c.args.text.now c.in-Some.row c.in-Some.ensures c.in-Ok.count _ c.in-Ok.ensures) c.args.page.now _ c.put_wants.ensures
 
 -- the line of a fault's number
 refuses : {n m : ℕ} {r : Refused} {b : List ℕ} → m ≡ n → r ≡ record { line = 0; number = m; namespace = 0; owner = 0; detail = 0 } → b ≡ no_line 0 (says 0 n 0 0 0) → b ≡ refused_line r

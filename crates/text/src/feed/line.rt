@@ -4,7 +4,7 @@ ghost use Rattle.lines.specs.Place.{call_at, next_at};
 ghost use Rattle.reader.specs.Kinds.{says};
 
 use lines::parts::find;
-use reader::read::read_call;
+use reader::read::read_line;
 use request::call::Call;
 
 // The call that it says, if it says one, and where the next line starts.
@@ -27,8 +27,9 @@ pub fn line_at(text: &[u8], at: usize) -> Line
             next: n,
         };
     }
-    Line {
-        call: read_call(&text[at..e]),
-        next: e + 1,
-    }
+    let call = match read_line(&text[at..e]) {
+        Call::Bad => None,
+        call => Some(call),
+    };
+    Line { call, next: e + 1 }
 }

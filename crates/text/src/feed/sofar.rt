@@ -1,7 +1,7 @@
 // How far a text has come, and what its next line does: decided over plain values.
 ghost use Rattle.std.specs.Prelude.{◌≡◌, ◌<◌};
 ghost use Rattle.reader.specs.Kinds.{says};
-ghost use Rattle.text.specs.Sofar.{bare, left_by, started, goes_of, failed, told, head_of, asked_of, asked_as, advanced_to, refused_of};
+ghost use Rattle.text.specs.Sofar.{bare, refused_by, left_by, come_to, started, goes_of, failed, told, head_of, asked_of, asked_as, advanced_to, refused_of};
 
 use crate::feed::line::Line;
 use inplace::marks::Marks;
@@ -34,20 +34,28 @@ impl Reason {
         }
     }
 
+    // Any five numbers, which are no refusal's where its own is 0.
+    fn refused(self) -> Option<Reason>
+        ensures { result ≡ refused_by self }
+    {
+        if self.number == 0 {
+            return None;
+        }
+        Some(self)
+    }
+
     // What a call has left in the state, if it was refused.
     fn left_by(m: Marks) -> Option<Reason>
         ensures { result ≡ left_by m }
     {
-        if m.number == 0 {
-            return None;
-        }
-        Some(Reason {
+        let five = Reason {
             number: m.number,
             index: m.index,
             namespace: m.namespace,
             owner: m.owner,
             detail: m.detail,
-        })
+        };
+        five.refused()
     }
 }
 
@@ -70,6 +78,18 @@ impl Sofar {
             lines: 0,
             wants: 0,
             refusal: None,
+        }
+    }
+
+    // As far as the numbers say, with any five behind them.
+    pub fn of(at: usize, lines: u64, wants: usize, five: Reason) -> Sofar
+        ensures { result ≡ come_to at lines wants five }
+    {
+        Sofar {
+            at,
+            lines,
+            wants,
+            refusal: five.refused(),
         }
     }
 

@@ -6,7 +6,7 @@ use Rattle.text.specs.Respond.{tables_after}
 use Rattle.text.proofs.OutputLaws.{blank}
 use Rattle.writers.specs.declared.output.Refused.{Refused}
 use Rattle.write_back.specs.Answer.{numbers_of}
-use Rattle.write_back.proofs.WriteLaws.{pins_long, pins_refused, refused_numbered, writable, pins_short, pins_over, pins_written}
+use Rattle.write_back.proofs.WriteLaws.{pins_long, pins_no, refused_numbered, no_number, writable, pins_short, pins_over, pins_page}
 use Rattle.write_back.proofs.pin_text.Goals as goal
 use Rattle.write_back.proofs.pin_text.Goals.{then-out-n-via-then-out-n, then-out-n-via-else-out-n+then-n-gt-TEXT}
 
@@ -27,7 +27,7 @@ returns-in-Some c =
     let long : length r.new.results ≡ results_size = search rules in
     let e = sym c.refused.ensures ∙ c.in-Some.is in
     record {
-      answer = pins_refused a.text.now blank r.result (tables_after a.text.now) r.new.results r.ensures long (omega arith) a.out.now c.in-Some.no e;
+      answer = pins_no a.text.now blank r.result (tables_after a.text.now) r.new.results r.ensures long (omega arith) a.out.now c.in-Some.no e;
       numbered = refused_numbered r.result c.in-Some.no e r.ensures.named;
     }
 
@@ -36,7 +36,7 @@ back_length-n-requires c =
     let a = c.args in
     let r = c.read-t in
     let long : length r.new.results ≡ results_size = search rules in
-    writable a.text.now blank r.result (tables_after a.text.now) r.new.results r.ensures long (omega arith) (sym c.refused.ensures ∙ c.in_default.is)
+    writable a.text.now blank r.result (tables_after a.text.now) r.new.results r.ensures long (omega arith) (no_number r.result (sym c.refused.ensures ∙ c.in_default.is))
 
 pub returns-then-out-n : goal.returns-then-out-n
 returns-then-out-n c =
@@ -44,7 +44,7 @@ returns-then-out-n c =
     let r = c.read-t in
     let n = c.back_length-n in
     let long : length r.new.results ≡ results_size = search rules in
-    let e = sym c.refused.ensures ∙ c.in_default.is in
+    let e = no_number r.result (sym c.refused.ensures ∙ c.in_default.is) in
     record {
       answer = refuses _ _ a.out.now c.bare-then-out-n.ensures
           ∙ elim c.then-out-n.branch [
@@ -59,7 +59,7 @@ put_back-requires-clause-writable c =
     let a = c.args in
     let r = c.read-t in
     let long : length r.new.results ≡ results_size = search rules in
-    writable a.text.now blank r.result (tables_after a.text.now) r.new.results r.ensures long (omega arith) (sym c.refused.ensures ∙ c.in_default.is)
+    writable a.text.now blank r.result (tables_after a.text.now) r.new.results r.ensures long (omega arith) (no_number r.result (sym c.refused.ensures ∙ c.in_default.is))
 
 pub returns : goal.returns
 returns c =
@@ -70,7 +70,7 @@ returns c =
     let long : length r.new.results ≡ results_size = search rules in
     record {
       answer =
-          pins_written
+          pins_page
           a.text.now
           blank
           r.result
@@ -79,7 +79,7 @@ returns c =
           r.ensures
           long
           (omega arith)
-          (sym c.refused.ensures ∙ c.in_default.is)
+          (no_number r.result (sym c.refused.ensures ∙ c.in_default.is))
           a.out.now
           n.result
           n.ensures

@@ -1,6 +1,5 @@
 -- A row beyond all before it fits behind each; else each is asked. Assumes nothing.
-use Rattle.std.proofs.Common.{rules, sym, ◌∙◌}
-use Rattle.tables.proofs.ChainLaws.{all_rows}
+use Rattle.std.proofs.Common.{sym, ◌∙◌}
 use Rattle.table_tests.proofs.HighLaws.{row_beyond, row_rest}
 use Rattle.table_tests.proofs.table.row_ok.Goals as goal
 
@@ -16,5 +15,5 @@ pub returns-else-beyond : goal.returns-else-beyond
 returns-else-beyond g c =
     let rule = c.args.rule.now in
     let at = g.T.Table.at c.args.t.now in
-    all_rows (λ j. g.R.Rule.fits rule (at j) (at c.args.k)) c.args.k _ _ _ c.all.ensures.ran (λ x b p h. search rules)
+    rw c.at-r.ensures at c.fits_behind.ensures
     ∙ sym (row_rest (g.R.Rule.good rule) (g.R.Rule.fits rule) at c.args.k (cc))

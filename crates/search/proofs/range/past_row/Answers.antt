@@ -2,7 +2,7 @@
 use Rattle.std.proofs.Common.{inl, inr, refl, sym, ◌∙◌}
 use Rattle.definition.specs.Tables.{meets}
 use Rattle.definition.specs.Request.{row_at}
-use Rattle.search.proofs.range.RangesOwners.past.Goals as goal
+use Rattle.search.proofs.range.past_row.Goals as goal
 
 pub returns-then-is_in_way : goal.returns-then-is_in_way
 unfolding row_at meets
