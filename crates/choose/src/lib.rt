@@ -94,7 +94,6 @@ pub fn automatic<T: Owners>(pools: &Pool, owners: &T, need: Need) -> Result<Run,
     requires pools { InOrder pools.now }
     requires rows { (T.view owners.now).count ≤ row_limit }
     requires served { T.Serves need }
-    requires some { 0 < need.size }
     ensures { AutomaticIs pools.now (T.view owners.now) need result }
 {
     let Some(start) = search::find(pools, owners, need) else {

@@ -65,23 +65,44 @@ module _ (width m : ℕ) where
   unfolding size_of require good_mask
   size_none e = rw e refl
 
+  -- .. of a number that is what the mask lacks
   module _ (l : width ≤ 64) (n : m ≡ 0 → ⊥) (h : m < 2 ^ width) (size : ℕ) (is : size ≡ 2 ^ width - m) where
-    abbrev zeros : ℕ
-    zeros = count_leading_zeros 64 (size - 1) + count_trailing_zeros 64 m
+    abbrev lacked : ℕ
+    lacked = count_leading_zeros 64 (size - 1) + count_trailing_zeros 64 m
 
     inverted_is : size - 1 ≡ (2 ^ width - 1) - m
     inverted_is = omega (arith, is)
 
-    good_is : good_mask width m ≡ eqb zeros 64
+    good_is : good_mask width m ≡ eqb lacked 64
     good_is =
         let x : ℕ = (2 ^ width - 1) - m in
         let lead : count_leading_zeros 64 (size - 1) ≡ (64 - width) + count_leading_zeros width x = ap (count_leading_zeros 64) inverted_is ∙ leading_wide width x l (omega arith) in
-        mask_zeros width m h (omega arith) ∙ eqb_more (count_leading_zeros width x + count_trailing_zeros width m) zeros (64 - width) width (omega (arith, lead, trailing_wide width 64 m l (omega arith) h)) (omega arith)
+        mask_zeros width m h (omega arith) ∙ eqb_more (count_leading_zeros width x + count_trailing_zeros width m) lacked (64 - width) width (omega (arith, lead, trailing_wide width 64 m l (omega arith) h)) (omega arith)
+
+    pub lacking_bad : (lacked ≡ 64 → ⊥) → refused bad_mask ≡ size_of width m
+    unfolding size_of require
+    lacking_bad e = sym (ap tested (good_is ∙ ne_eqb lacked 64 e))
+
+    pub lacking_good : lacked ≡ 64 → accepted size ≡ size_of width m
+    unfolding size_of require
+    lacking_good e = ap accepted is ∙ sym (ap tested (good_is ∙ eq-eqb lacked 64 e))
+
+  -- .. of the mask inverted and one added
+  module _ (l : width ≤ 64) (n : m ≡ 0 → ⊥) (h : m < 2 ^ width) where
+    abbrev inverted : ℕ
+    inverted = 18446744073709551615 / 2 ^ (64 - width) - m
+
+    abbrev zeros : ℕ
+    zeros = count_leading_zeros 64 inverted + count_trailing_zeros 64 m
+
+    size_is : (inverted + 1) % 2 ^ 64 ≡ 2 ^ width - m
+    size_is = lacking_is width m l (omega arith) h
+
+    zeros_are : lacked l n h ((inverted + 1) % 2 ^ 64) size_is ≡ zeros
+    zeros_are = ap (λ (k : ℕ). count_leading_zeros 64 k + count_trailing_zeros 64 m) (omega (arith, size_is, ones_of width l))
 
     pub size_bad : (zeros ≡ 64 → ⊥) → refused bad_mask ≡ size_of width m
-    unfolding size_of require
-    size_bad e = sym (ap tested (good_is ∙ ne_eqb zeros 64 e))
+    size_bad e = lacking_bad l n h _ size_is (λ k. e (sym zeros_are ∙ k))
 
-    pub size_good : zeros ≡ 64 → accepted size ≡ size_of width m
-    unfolding size_of require
-    size_good e = ap accepted is ∙ sym (ap tested (good_is ∙ eq-eqb zeros 64 e))
+    pub size_good : zeros ≡ 64 → accepted ((inverted + 1) % 2 ^ 64) ≡ size_of width m
+    size_good e = lacking_good l n h _ size_is (zeros_are ∙ e)

@@ -17,7 +17,7 @@ pub fn lacking<const WIDTH: u32>(mask: u64) -> u64
 }
 
 // Of so many bits: not zero, and the ones from the top and the zeros below them are all its bits; then what it lacks is the size.
-#[tactic(auto, using(crate::proofs::SizeLaws::size_none, crate::proofs::SizeLaws::size_bad, crate::proofs::SizeLaws::size_good))]
+#[tactic(auto, using(crate::proofs::SizeLaws::size_none, crate::proofs::SizeLaws::lacking_bad, crate::proofs::SizeLaws::lacking_good))]
 pub fn size_of<const WIDTH: u32>(mask: u64) -> Result<u64, Fault>
     requires width { WIDTH ≤ 64 }
     requires mask { mask < 2 ^ WIDTH }

@@ -1,7 +1,7 @@
 // The searches: over a pool table and a table of owners, which are lent and not changed. One search serves owners that hold ranges and owners that hold inputs.
 #![tactic(auto)]
 
-ghost use Rattle.std.specs.Prelude.{◌≡◌, ℕ, ◌+◌, ◌^◌, ◌%◌, ◌≤◌, ◌<◌};
+ghost use Rattle.std.specs.Prelude.{◌≡◌, Bool, false, ℕ, ◌+◌, ◌^◌, ◌%◌, ◌≤◌, ◌<◌};
 ghost use Rattle.definition.specs.Base.{any_of};
 ghost use Rattle.definition.specs.Tables.{used, pool_limit, row_limit, nature, Row, Table, range_row, meets};
 ghost use Rattle.definition.specs.Request.{one_bit, holds, allowed};
@@ -9,6 +9,7 @@ ghost use Rattle.tables.specs.Below.{listed, first};
 ghost use Rattle.tables.specs.Views.{kind_of, span_of, pool_at, range_of, range_at, pool_view};
 ghost use Rattle.search.specs.declared.Need.{Need as Asked};
 ghost use Rattle.search.specs.Asks.{need_of};
+ghost use Rattle.search.specs.Rows.{Stepped};
 ghost use Rattle.search.specs.Steps.{Bases, Passes, Steps};
 ghost use Rattle.search.specs.Finds.{InOrder, Finds};
 
@@ -32,12 +33,15 @@ pub struct Need {
 
 // A table of owners, as a search sees it: rows that are in the way of a base, and where the search goes on behind one.
 pub trait Owners {
-    // The table as the definition's, its rows by their index, and what may be asked of it.
+    // The table as the definition's, its rows by their index, and what a search may be asked.
     ghost view: { Self → Table Row };
 
     ghost row_at: { Self → ℕ → Row };
 
     ghost Serves: { Asked → Type 0 };
+
+    // The needs for which a row is passed at any alignment, whatever their size: they need not be served.
+    ghost any_size: { Asked → Bool } = { λ _. false };
 
     fn count(&self) -> usize
         ensures { result ≡ (view self.now).count };
@@ -45,13 +49,13 @@ pub trait Owners {
     // The base past row `k`, at most `stop`, where the row is in the way of the range at `b`; else `b`.
     fn past(&self, k: usize, need: Need, b: u64, stop: u64) -> u64
         requires used { k < row_limit }
-        requires served { Serves need }
+        requires served { Stepped Serves any_size need }
         requires below { (b < stop) × (stop + need.size ≤ 2 ^ 64) }
         ensures { Passes (row_at self.now k) (need_of need) b stop result };
 
     ghost rows: { (t : Self) → (view t).count ≤ row_limit → used (view t) ≡ listed (row_at t) (view t).count };
 
-    ghost some: { (n : Asked) → Serves n → 0 < n.alignment };
+    ghost some: { (n : Asked) → Serves n → (0 < n.size) × (0 < n.alignment) };
 }
 
 // Whether exactly one bit is set: what an alignment must be.
@@ -76,7 +80,7 @@ pub fn bases_of(pools: &Pool, k: usize, need: Need) -> u64
 // The next base to try where the range at base `c` is not free, at most `stop`. One pass over the owners: each that is in the way puts the base past its end, and the rows behind it are held to that one.
 pub fn next_base<T: Owners>(owners: &T, need: Need, c: u64, stop: u64) -> Option<u64>
     requires rows { (T.view owners.now).count ≤ row_limit }
-    requires served { T.Serves need }
+    requires served { Stepped T.Serves T.any_size need }
     requires base { (c < stop) × (c % need.alignment ≡ 0) × (stop + need.size ≤ 2 ^ 64) }
     ensures { Steps (T.row_at owners.now) (T.view owners.now).count (need_of need) c stop result }
 {
@@ -95,7 +99,6 @@ pub fn find<T: Owners>(pools: &Pool, owners: &T, need: Need) -> Option<u64>
     requires pools { InOrder pools.now }
     requires rows { (T.view owners.now).count ≤ row_limit }
     requires served { T.Serves need }
-    requires some { 0 < need.size }
     ensures { Finds pools.now (T.view owners.now) need result }
 {
     'found: {

@@ -1,10 +1,10 @@
 // Owners that hold ranges, as the search sees them.
-ghost use Rattle.std.specs.Prelude.{◌≡◌, ◌+◌, ◌^◌, ◌≤◌, ◌<◌};
+ghost use Rattle.std.specs.Prelude.{◌≡◌, true, ◌+◌, ◌^◌, ◌≤◌, ◌<◌};
 ghost use Rattle.definition.specs.Tables.{row_limit, range_row, meets};
 ghost use Rattle.tables.specs.Below.{first};
 ghost use Rattle.tables.specs.Views.{range_of, range_at, ranges_view};
 ghost use Rattle.search.specs.Asks.{need_of};
-ghost use Rattle.search.specs.Rows.{range_rows, AlignedRange, ranges_listed};
+ghost use Rattle.search.specs.Rows.{range_rows, SomeRange, ranges_listed};
 ghost use Rattle.search.specs.Steps.{Passes};
 
 use super::{Need, Owners};
@@ -49,7 +49,9 @@ impl Owners for Ranges {
 
     ghost row_at = { range_rows };
 
-    ghost Serves = { AlignedRange };
+    ghost Serves = { SomeRange };
+
+    ghost any_size = { λ _. true };
 
     ghost rows = { ranges_listed };
 

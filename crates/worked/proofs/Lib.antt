@@ -1,1 +1,2 @@
 pub mod WorkedLaws
+pub mod SearchedLaws

@@ -1,7 +1,10 @@
 // Worked cases of pools, reservations and start. Each expectation is proved, and run.
 #![tactic(auto)]
 
+mod searched; // searched.rt: searches over one pool
+
 fn main() {
+    searched::ranges();
     // a range is reserved, and one that overlaps it is refused and names its owner
     let begun = tables::fresh();
     let pooled = pool::address::add_auto_mmio(begun, 4096, 12288);

@@ -25,7 +25,7 @@ returns-in_default g c =
     let u = c.bases_of-stop.ensures in
     record {
       is = found_rows p (g.T.Owners.view o) (g.T.Owners.row_at o) n _ c.requires.pools r
-          (lowest_here (span_at p) (g.T.Owners.row_at o) (g.T.Owners.view o).count n p.n s c.loop-i.i c.loop-c.c (order_used p c.requires.pools) c.loop-i-test.true c.loop-i.invariant
+          (lowest_here (span_at p) (g.T.Owners.row_at o) (g.T.Owners.view o).count n p.n s.1 c.loop-i.i c.loop-c.c (order_used p c.requires.pools) c.loop-i-test.true c.loop-i.invariant
           v.2 (bases_hold _ _ _ _ u (v.0 t) t) (v.1 t) c.in_default.ensures);
       ends = u.fits c.loop-c.c t;
     }
@@ -39,6 +39,6 @@ returns-after-loop-i g c =
     let s = g.met.T.Owners.some c.args.need c.requires.served in
     record {
       is = found_rows p (g.T.Owners.view o) (g.T.Owners.row_at o) n _ c.requires.pools u
-          (lowest_none (span_at p) (g.T.Owners.row_at o) (g.T.Owners.view o).count n p.n s (λ k l. c.loop-i.invariant k (omega (arith, c.loop-i-test.false))));
+          (lowest_none (span_at p) (g.T.Owners.row_at o) (g.T.Owners.view o).count n p.n s.1 (λ k l. c.loop-i.invariant k (omega (arith, c.loop-i-test.false))));
       ends = tt;
     }
