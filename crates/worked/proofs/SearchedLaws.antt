@@ -1,5 +1,5 @@
 -- A pool of one range, a table of one owner, and what a search finds there, by computation. Assumes nothing.
-use Rattle.std.proofs.Common.{◌≡◌, ℕ, ◌+◌, refl, sym, ap, subst, ◌∙◌, Bool, true, false, not, arith, Option, Some, None, Result, Ok, Err, slice_set}
+use Rattle.std.proofs.Common.{◌≡◌, ℕ, ◌+◌, refl, sym, ap, subst, ◌∙◌, arith, Option, Some, None, Result, Ok, Err, slice_set}
 use Rattle.std.proofs.Math.Option as Maybe
 use Rattle.definition.specs.Base.{any_of, all_of, least_of, lower, pairs_of}
 use Rattle.definition.specs.Tables.{same_dom, overlap, meets, in_order, used}
@@ -37,54 +37,36 @@ owned t =
 abbrev pub wanted : ℕ → Need
 wanted size = record { kind = Mmio; controller = 0; its = 0; device = 0; size = size; alignment = 4096; requester = 9 }
 
-abbrev least : Pool → Ranges → ℕ → Maybe.Option ℕ
+abbrev pub least : Pool → Ranges → ℕ → Maybe.Option ℕ
 least p t size = lowest (used (pool_view (pooled p))) (used (ranges_view (owned t))) (need_of (wanted size))
 
-least_small : least fresh_pool fresh_ranges 4096 ≡ Maybe.some 8192
+-- behind the owner there is room for 4096 numbers, and for no more
+pub leasts : (least fresh_pool fresh_ranges 4096 ≡ Maybe.some 8192) × (least fresh_pool fresh_ranges 4097 ≡ Maybe.none)
 unfolding listed any_of least_of lower same_dom overlap meets aligned holds free align_up candidates lowest row_at
-least_small = refl
-
-least_large : least fresh_pool fresh_ranges 4097 ≡ Maybe.none
-unfolding listed any_of least_of lower same_dom overlap meets aligned holds free align_up candidates lowest row_at
-least_large = refl
+leasts = (refl, refl)
 
 pub ordered : (p : Pool) → p ≡ fresh_pool → InOrder (pooled p)
 unfolding listed all_of pairs_of
 ordered p e = subst (λ (q : Pool). InOrder (pooled q)) (sym e) (record { count = omega arith; order = tt })
 
--- ---- what is found
+-- ---- what the calls answer, as the definition finds it
 
-pub not_some : (b : Bool) → not b ≡ false → b ≡ true
-not_some true e = refl
-not_some false e = sym e
+abbrev pub found_as : Maybe.Option ℕ → Option ℕ
+found_as (Maybe.some b) = Some b
+found_as Maybe.none = None
 
-small_only : (o : Option ℕ) → found_of o ≡ Maybe.some 8192 → o ≡ Some 8192
-small_only (Some b) e = ap Some (Maybe.some-injective _ _ e)
-small_only None e = absurd (Maybe.none-ne-some _ e)
+abbrev pub granted_as : ℕ → Maybe.Option ℕ → Result Run Refusal
+granted_as size (Maybe.some b) = Ok (record { start = b; end = b + size })
+granted_as size Maybe.none = Err (Exhausted 1)
 
-large_only : (o : Option ℕ) → found_of o ≡ Maybe.none → o ≡ None
-large_only (Some b) e = absurd (Maybe.some-ne-none _ e)
-large_only None e = refl
+module _ (p : Pool) (t : Ranges) (e : p ≡ fresh_pool) (f : t ≡ fresh_ranges) (size : ℕ) (m : Maybe.Option ℕ) (is : least fresh_pool fresh_ranges size ≡ m) where
+  least_is : least p t size ≡ m
+  least_is = (λ i. least (e i) (f i) size) ∙ is
 
-module _ (p : Pool) (t : Ranges) (e : p ≡ fresh_pool) (f : t ≡ fresh_ranges) where
-  small : least p t 4096 ≡ Maybe.some 8192
-  small = (λ i. least (e i) (f i) 4096) ∙ least_small
+  pub found : (o : Option ℕ) → Finds (pooled p) (ranges_view (owned t)) (wanted size) o → o ≡ found_as m
+  found (Some b) r = ap found_as (r.is ∙ least_is)
+  found None r = ap found_as (r.is ∙ least_is)
 
-  large : least p t 4097 ≡ Maybe.none
-  large = (λ i. least (e i) (f i) 4097) ∙ least_large
-
-  pub found_small : (o : Option ℕ) → Finds (pooled p) (ranges_view (owned t)) (wanted 4096) o → o ≡ Some 8192
-  found_small o r = small_only o (r.is ∙ small)
-
-  pub found_large : (o : Option ℕ) → Finds (pooled p) (ranges_view (owned t)) (wanted 4097) o → o ≡ None
-  found_large o r = large_only o (r.is ∙ large)
-
-  pub granted_small : (x : Result Run Refusal) → AutomaticIs (pooled p) (ranges_view (owned t)) (wanted 4096) x → x ≡ Ok (record { start = 8192; end = 12288 })
-  granted_small (Ok run) (a, b) =
-      let s : run.start ≡ 8192 = Maybe.some-injective _ _ (a ∙ small) in
-      (λ i. Ok (record { start = s i; end = (b ∙ ap (λ k. k + 4096) s) i }))
-  granted_small (Err y) (a, b) = absurd (Maybe.none-ne-some _ (a ∙ small))
-
-  pub granted_large : (x : Result Run Refusal) → AutomaticIs (pooled p) (ranges_view (owned t)) (wanted 4097) x → x ≡ Err (Exhausted 1)
-  granted_large (Ok run) (a, b) = absurd (Maybe.some-ne-none _ (a ∙ large))
-  granted_large (Err y) (a, b) = ap Err b
+  pub granted : (x : Result Run Refusal) → AutomaticIs (pooled p) (ranges_view (owned t)) (wanted size) x → x ≡ granted_as size m
+  granted (Ok run) (a, b) = (λ i. Ok (record { start = run.start; end = b i })) ∙ ap (granted_as size) (a ∙ least_is)
+  granted (Err y) (a, b) = ap Err b ∙ ap (granted_as size) (a ∙ least_is)

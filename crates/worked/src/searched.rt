@@ -4,7 +4,8 @@ use search::{Need, find};
 use tables::{Kind, fresh_pool, fresh_ranges};
 
 // A range behind an owner, and one that has no room there.
-pub fn ranges() {
+#[tactic(auto, using(crate::proofs::SearchedLaws::ordered))]
+pub(crate) fn ranges() {
     let mut pools = fresh_pool();
     pools.n = 1;
     pools.start[0] = 4096;
